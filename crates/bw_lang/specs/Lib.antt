@@ -2,7 +2,9 @@ pub mod Documents
 pub mod Falls
 pub mod Forest
 pub mod ForestCode
+pub mod Keywords
 pub mod Laws
+pub mod Lexemes
 pub mod Markup
 pub mod Print
 pub mod View

@@ -4,6 +4,7 @@
 
 mod closing;
 pub mod items;
+pub mod keywords;
 pub mod laws;
 pub mod markup;
 pub mod service;
@@ -12,6 +13,7 @@ pub mod token;
 pub mod tree;
 
 pub use items::{Attr, AttrValue, Attrs, Element, GapId, Item, Items};
+pub use keywords::is_keyword;
 pub use markup::is_void;
 pub use service::{
     Block, Expr, Kind, Literal, Service, Session, Sessions, Shared, Shareds, Stmt, Template,

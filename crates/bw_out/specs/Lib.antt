@@ -1,0 +1,9 @@
+pub mod Causes
+pub mod Writes
+pub mod Reads
+pub mod ReadStops
+pub mod Told
+pub mod Doors
+pub mod Memory
+pub mod MemFiles
+pub mod MemLinks

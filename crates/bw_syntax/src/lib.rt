@@ -1,0 +1,5 @@
+//! Reading of services.
+#![tactic(auto)]
+
+mod drafts;
+mod lexemes;
