@@ -3,8 +3,10 @@
 
 mod lengths;
 mod printing;
+mod sheet;
 mod wrapping;
 
 pub use lengths::length;
 pub use printing::print;
+pub use sheet::Sheet;
 pub use wrapping::wrap_exit;

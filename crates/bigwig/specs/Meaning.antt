@@ -1,0 +1,40 @@
+-- What a service answers to a request for a name.
+use Rattle.std.specs.Prelude.{ℕ, List, [], ◌∷◌, bytes_eq, if◌then◌else◌}
+use Rattle.bw_lang.specs.declared.service.Service.{Service}
+use Rattle.bw_lang.specs.declared.service.Template.{Template}
+use Rattle.bw_lang.specs.declared.service.Session.{Session}
+use Rattle.bw_lang.specs.declared.service.Stmt.{Stmt}
+use Rattle.bw_lang.specs.declared.service.Stmt.TheVariants.{Exit}
+use Rattle.bw_lang.specs.declared.service.Expr.{Expr}
+use Rattle.bw_lang.specs.declared.service.Expr.TheVariants.{Name}
+use Rattle.bw_lang.specs.Forest.{Forest, none}
+use Rattle.bw_lang.specs.Print.{print}
+use Rattle.bw_page.specs.Pages.{exit_page}
+use Rattle.bigwig.specs.Replies.{Reply, final, no_such}
+
+-- the document of the template of this name (and an empty one where there is none, which no service has that is read)
+abbrev pub template_of : List Template → List ℕ → Forest
+template_of [] name = none
+template_of (t ∷ templates) name = if bytes_eq t.name name then t.items else template_of templates name
+
+-- an expression's document
+abbrev pub value : List Template → Expr → Forest
+value templates (Name name) = template_of templates name
+
+-- the document that a session exits with
+abbrev pub exits_with : List Template → List Stmt → Forest
+exits_with templates [] = none
+exits_with templates (Exit page ∷ rest) = value templates page
+
+-- the last page of a session with this body
+abbrev pub last_page : Service → List Stmt → List ℕ
+last_page service body = print (exit_page service.name (exits_with service.templates body))
+
+-- the reply to a request for a name, by the sessions from the first to the last
+abbrev pub reply_among : Service → List Session → List ℕ → Reply
+reply_among service [] name = no_such
+reply_among service (s ∷ sessions) name = if bytes_eq s.name name then final (last_page service s.body) else reply_among service sessions name
+
+-- the reply to a request for a name
+abbrev pub reply_to : Service → List ℕ → Reply
+reply_to service name = reply_among service service.sessions name

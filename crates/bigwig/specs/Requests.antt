@@ -1,0 +1,46 @@
+-- The requests that are answered so far.
+use Rattle.std.specs.Prelude.{◌≡◌, ◌≤◌, ◌+◌, ℕ, Bool, true, false, ◌||◌, ◌==◌, nat_le, ◌&&◌, List, [], ◌∷◌, ◌++◌, codes, length}
+use Rattle.std.specs.List.{list_all}
+
+abbrev pub is_between : ℕ → ℕ → ℕ → Bool
+is_between low high b = nat_le low b && nat_le b high
+
+-- a letter or `_`
+abbrev pub is_letter : ℕ → Bool
+is_letter b = is_between 97 122 b || (is_between 65 90 b || b == 95)
+
+abbrev pub is_digit : ℕ → Bool
+is_digit b = is_between 48 57 b
+
+-- a byte that may stand in a word behind its first
+abbrev pub is_word_byte : ℕ → Bool
+is_word_byte b = is_letter b || is_digit b
+
+-- a letter, a digit, `.`, `-` or `:`
+abbrev pub is_host_byte : ℕ → Bool
+is_host_byte b = is_between 97 122 b || (is_between 65 90 b || (is_digit b || (b == 46 || (b == 45 || b == 58))))
+
+-- the first byte passes the test
+abbrev pub begins : (ℕ → Bool) → List ℕ → Bool
+begins p [] = false
+begins p (b ∷ bs) = p b
+
+-- a word of at most 64 bytes
+pub record IsWord (word : List ℕ) : Type 0 where
+  pub first : begins is_letter word ≡ true
+  pub bytes : list_all is_word_byte word ≡ true
+  pub short : length word ≤ 64
+
+-- the name of a host, with its port where one is given
+pub record IsHost (host : List ℕ) : Type 0 where
+  pub first : begins is_host_byte host ≡ true
+  pub bytes : list_all is_host_byte host ≡ true
+
+-- The bytes begin with a request for this name, and the rest follows it: GET /NAME HTTP/1.1, one line Host, and an
+-- empty line, in at most 16,384 bytes.
+pub record Asks (bytes name rest : List ℕ) : Type 0 where
+  pub host : List ℕ
+  pub is_host : IsHost host
+  pub is_name : IsWord name
+  pub spelt : bytes ≡ codes "GET /" ++ (name ++ (codes " HTTP/1.1\r\nHost: " ++ (host ++ (codes "\r\n\r\n" ++ rest))))
+  pub short : length bytes ≤ 16384 + length rest

@@ -1,0 +1,73 @@
+//! What a service answers to a request for a name.
+ghost use Rattle.std.specs.Prelude.{◌≡◌, ◌⊎◌, IfOk, MatchOption};
+ghost use Rattle.bw_lang.specs.Forest.{none};
+ghost use Rattle.bigwig.specs.Meaning as spec;
+ghost use Rattle.bigwig.specs.Replies.{memory};
+ghost use Rattle.bigwig.specs.Sent.{stands_for};
+
+use crate::reply::Reply;
+use bw_lang::{Block, Expr, Items, Memory, Name, Service, Stmt, Template, Tree};
+use bw_page::{Sheet, wrap_exit};
+use std::alloc::Global;
+
+/// The template of this name.
+fn template_named<'a>(templates: &'a [Template], name: &Name) -> Option<&'a Template>
+    ensures { MatchOption result (spec.template_of templates.now name.now ≡ none) (λ t. spec.template_of templates.now name.now ≡ t.now.items) }
+{
+    for template in templates {
+        if template.name.as_str() == name.as_str() {
+            return Some(template);
+        }
+    }
+    None
+}
+
+/// The document that an expression stands for.
+fn value(alloc: Global, templates: &[Template], expr: &Expr) -> Result<Tree, Memory>
+    ensures { IfOk result (λ t. t.items ≡ spec.value templates.now expr.now) }
+{
+    match expr {
+        Expr::Name(name) => match template_named(templates, name) {
+            Some(template) => Tree::constant(template),
+            None => Ok(Tree {
+                items: Items::new(alloc),
+            }),
+        },
+    }
+}
+
+/// The document that a session with this body exits with.
+fn exits_with(alloc: Global, templates: &[Template], body: &Block) -> Result<Tree, Memory>
+    ensures { IfOk result (λ t. t.items ≡ spec.exits_with templates.now body.now) }
+{
+    match body.as_slice() {
+        [] => Ok(Tree {
+            items: Items::new(alloc),
+        }),
+        [Stmt::Exit { page }, ..] => value(alloc, templates, page),
+    }
+}
+
+/// The last page of a session with this body.
+fn last_page(alloc: Global, service: &Service, body: &Block) -> Result<Sheet, Memory>
+    ensures { IfOk result (λ sheet. sheet ≡ spec.last_page service.now body.now) }
+{
+    let document = exits_with(alloc, service.templates.as_slice(), body)?;
+    let page = wrap_exit(&service.name, &document)?;
+    Sheet::of(alloc, &page)
+}
+
+/// The reply to a request for this name.
+pub fn handle(alloc: Global, service: &Service, name: &[u8]) -> Reply
+    ensures { (stands_for result ≡ spec.reply_to service.now name.now) ⊎ (stands_for result ≡ memory) }
+{
+    for session in service.sessions.as_slice() {
+        if session.name.as_bytes() == name {
+            return match last_page(alloc, service, &session.body) {
+                Ok(sheet) => Reply::Final(sheet),
+                Err(Memory) => Reply::Memory,
+            };
+        }
+    }
+    Reply::NoSuch
+}

@@ -1,0 +1,45 @@
+//! How the program ends.
+
+/// How the program ends. The numbers are its exit codes.
+#[derive(Clone, Copy, Debug, PartialEq, Eq)]
+pub enum Status {
+    /// 0: all was done.
+    Done,
+    /// 2: the words of the command line are refused.
+    Usage,
+    /// 3: the service file is refused.
+    ServiceRefused,
+    /// 4: the schema file is refused.
+    SchemaRefused,
+    /// 5: a file could not be read.
+    ReadFault,
+    /// 6: standard output could not be written.
+    WriteFault,
+    /// 7: the port could not be listened on, or no link could be taken.
+    DoorFault,
+    /// 8: there was no memory.
+    Memory,
+    /// 9: the page file is no page, or isn't valid.
+    PageRefused,
+    /// 15: a file that the words name isn't there.
+    NoFile,
+}
+
+impl Status {
+    /// The exit code.
+    pub fn code(self) -> u8
+    {
+        match self {
+            Status::Done => 0,
+            Status::Usage => 2,
+            Status::ServiceRefused => 3,
+            Status::SchemaRefused => 4,
+            Status::ReadFault => 5,
+            Status::WriteFault => 6,
+            Status::DoorFault => 7,
+            Status::Memory => 8,
+            Status::PageRefused => 9,
+            Status::NoFile => 15,
+        }
+    }
+}

@@ -1,0 +1,86 @@
+//! Pages ready to be sent.
+ghost use Rattle.std.specs.Prelude.{◌≡◌, IfOk, length};
+ghost use Rattle.std.specs.Prelude.{[], Some};
+ghost use Rattle.bw_lang.specs.Print.{print};
+
+use crate::printing::print;
+use bw_lang::{Memory, Tree};
+use bw_out::{Channel, Failed, Sink, WriteFault};
+use std::alloc::{AllocError, Global};
+use std::marker::Model;
+
+/// A page ready to be sent, which contracts see as its bytes. All the memory that sending it takes was taken as it
+/// was made.
+#[derive(Debug, Drop)]
+pub struct Sheet {
+    bytes: Vec<u8>,
+}
+
+impl Model for Sheet {
+    ghost use Rattle.std.specs.Prelude.{ℕ, List};
+
+    ghost Value = { List ℕ };
+
+    ghost view = { λ s. s.bytes.items };
+}
+
+impl Sheet {
+    /// The page that this tree prints to, open gaps left out.
+    pub fn of(alloc: Global, page: &Tree) -> Result<Sheet, Memory>
+        ensures { IfOk result (λ sheet. sheet ≡ print page.now.items) }
+    {
+        let mut sink = Growing {
+            bytes: Vec::new(alloc),
+            faults: 0,
+        };
+        match print(page, &mut sink) {
+            Ok(()) => {
+                let Growing { bytes, faults: _ } = sink;
+                Ok(Sheet { bytes })
+            }
+            Err(WriteFault) => Err(Memory),
+        }
+    }
+
+    /// The number of its bytes.
+    pub fn length(&self) -> usize
+        ensures { result ≡ length self.now }
+    {
+        self.bytes.len()
+    }
+
+    pub fn as_bytes(&self) -> &[u8]
+        ensures { result.now ≡ self.now }
+    {
+        self.bytes.as_slice()
+    }
+}
+
+/// A sink that takes memory as it grows, and fails where there is none.
+#[derive(Drop)]
+struct Growing {
+    bytes: Vec<u8>,
+    faults: u64,
+}
+
+impl Channel for Growing {
+    ghost held = { λ s. Some s.bytes.items };
+
+    ghost write_faults = { λ s. s.faults };
+}
+
+impl Sink for Growing {
+    ghost same_refl = { λ a. tt };
+
+    ghost same_trans = { λ a b c p q. tt };
+
+    fn write(&mut self, bytes: &[u8]) -> Result<usize, Failed> {
+        match self.bytes.extend_from_slice(bytes) {
+            Ok(()) => Ok(bytes.len()),
+            Err(AllocError) => {
+                self.faults = self.faults.saturating_add(1);
+                Err(Failed)
+            }
+        }
+    }
+}
