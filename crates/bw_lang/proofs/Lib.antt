@@ -1,3 +1,4 @@
 pub mod Forests
 pub mod ClosingLaws
 pub mod PrintLaws
+pub mod TableLaws

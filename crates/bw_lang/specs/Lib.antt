@@ -6,5 +6,6 @@ pub mod Keywords
 pub mod Laws
 pub mod Lexemes
 pub mod Markup
+pub mod Names
 pub mod Print
 pub mod View

@@ -7,6 +7,7 @@ pub mod items;
 pub mod keywords;
 pub mod laws;
 pub mod markup;
+pub mod names;
 pub mod service;
 pub mod text;
 pub mod token;
@@ -15,6 +16,7 @@ pub mod tree;
 pub use items::{Attr, AttrValue, Attrs, Element, GapId, Item, Items};
 pub use keywords::is_keyword;
 pub use markup::is_void;
+pub use names::{GapNames, NameTable};
 pub use service::{
     Block, Expr, Kind, Literal, Service, Session, Sessions, Shared, Shareds, Stmt, Template,
     Templates,

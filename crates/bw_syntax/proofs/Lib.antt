@@ -1,2 +1,4 @@
+pub mod OneReading
 pub mod Rests
 pub mod Same
+pub mod Words

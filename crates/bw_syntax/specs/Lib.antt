@@ -1,3 +1,4 @@
+pub mod Drafts
+pub mod Reads
 pub mod Spelling
 pub mod View
-pub mod Drafts

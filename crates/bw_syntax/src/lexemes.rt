@@ -1,10 +1,14 @@
 //! Tokens with what they say, and how the parser takes them one after another.
-ghost use Rattle.std.specs.Prelude.{◌≡◌, ◌∷◌, List, ℕ, IfNone, IfSome};
+ghost use Rattle.std.specs.Prelude.{◌≡◌, ◌∷◌, List, ℕ, All, map, IfNone, IfSome, IfOk};
 ghost use Rattle.bw_lang.specs.Keywords.{IsFree};
-ghost use Rattle.bw_lang.specs.Lexemes.{Lexeme as Said, word, template, sign};
-ghost use Rattle.bw_syntax.specs.View.{says};
+ghost use Rattle.bw_lang.specs.Lexemes.{Lexeme as Said, word, template, sign, lexeme};
+ghost use Rattle.bw_lex.specs.Cuts.{IsWithin};
+ghost use Rattle.bw_lex.specs.Forms.{IsWord};
+ghost use Rattle.bw_syntax.specs.View.{said, says};
 
-use bw_lang::is_keyword;
+use bw_lang::{Memory, Token, TokenKind, is_keyword};
+use std::alloc::Global;
+use std::str;
 
 /// What a token says, borrowed from the text and its tokens.
 #[derive(Clone, Copy, Debug)]
@@ -78,4 +82,45 @@ pub fn template_at<'a, 'b>(lexemes: &'b [Lexeme<'a>]) -> Option<(&'a [u8], &'b [
         [Lexeme::Template(inside), rest @ ..] => Some((*inside, rest)),
         _ => None,
     }
+}
+
+/// What a token says.
+fn lexeme_of<'a>(bytes: &'a [u8], token: &'a Token) -> Lexeme<'a>
+    requires { IsWithin bytes.now token.now }
+    ensures { said result ≡ lexeme bytes.now token.now }
+{
+    match &token.what {
+        TokenKind::Word => Lexeme::Word(word_of(&bytes[token.start..token.end])),
+        TokenKind::Number(value) => Lexeme::Number(*value),
+        TokenKind::Str(text) => Lexeme::Str(text.as_str()),
+        TokenKind::Template => Lexeme::Template(&bytes[token.start + 6..token.end - 7]),
+        TokenKind::Sign => Lexeme::Sign(&bytes[token.start..token.end]),
+    }
+}
+
+/// A word as text: letters, digits and `_` are UTF-8.
+fn word_of(bytes: &[u8]) -> &str
+    requires { IsWord bytes.now }
+    ensures { result.now ≡ bytes.now }
+{
+    match str::from_utf8(bytes) {
+        Ok(word) => word,
+        Err(_) => unreachable!(),
+    }
+}
+
+/// What the tokens of a text say.
+pub fn lexemes_of<'a>(
+    alloc: Global,
+    bytes: &'a [u8],
+    tokens: &'a [Token],
+) -> Result<Vec<Lexeme<'a>>, Memory>
+    requires { All (IsWithin bytes.now) tokens.now }
+    ensures { IfOk result (λ lexemes. says lexemes.items ≡ map (lexeme bytes.now) tokens.now) }
+{
+    let mut lexemes = Vec::new(alloc);
+    for token in tokens {
+        lexemes.push(lexeme_of(bytes, token))?;
+    }
+    Ok(lexemes)
 }

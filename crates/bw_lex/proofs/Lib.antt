@@ -1,0 +1,14 @@
+pub mod Branches
+pub mod Cutting
+pub mod Digits
+pub mod Ends
+pub mod Exact
+pub mod Fronts
+pub mod Longest
+pub mod Means
+pub mod Passes
+pub mod Passing
+pub mod Spelled
+pub mod Strings
+pub mod Templates
+pub mod Utf8

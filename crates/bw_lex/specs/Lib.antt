@@ -1,0 +1,5 @@
+pub mod Bytes
+pub mod Cuts
+pub mod Forms
+pub mod Pieces
+pub mod Tokens

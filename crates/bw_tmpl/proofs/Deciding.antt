@@ -1,0 +1,88 @@
+-- What reading answers is determined.
+use Rattle.std.proofs.Common.{◌≡◌, ℕ, true, false, List, [], Some, refl, sym, ap, subst, ◌∙◌, arith}
+use Rattle.bw_lang.specs.Forest.{Forest}
+use Rattle.bw_tmpl.specs.declared.pieces.Piece.{Piece}
+use Rattle.bw_tmpl.specs.declared.fault.TmplFault.{TmplFault}
+use Rattle.bw_tmpl.specs.declared.fault.TmplFault.TheVariants as fault
+use Rattle.bw_tmpl.specs.Reads.{ReadsAs, nesting}
+use Rattle.bw_tmpl.specs.Repeats.{repeats}
+use Rattle.bw_tmpl.specs.Spelling.{Spells}
+use Rattle.bw_tmpl.specs.Templates.{ReadsBy, RefusedBy, SpellsClosed}
+use Rattle.bw_tmpl.specs.Laws.{OneTemplate, NotBoth, OneReason, OneClosedTemplate, NotBothClosed, OneClosedReason}
+use Rattle.bw_tmpl.proofs.Inverse.{reads_once}
+use Rattle.bw_tmpl.proofs.Depths.{reads_depth}
+use Rattle.bw_tmpl.proofs.Spelled.{spelled_once}
+
+true_false : true ≡ false → ⊥
+true_false p = cc
+
+some_is : (m n : ℕ) → Some m ≡ Some n → m ≡ n
+some_is m n p = cc
+
+-- items of the same pieces stand as deep in one another, whatever the tables
+same_nesting : (ps : List Piece) (names others : List (List ℕ)) (f g : Forest) → ReadsAs names ps f → ReadsAs others ps g → nesting f ≡ nesting g
+same_nesting ps names others f g p q = some_is (nesting f) (nesting g) (sym (reads_depth names ps f p) ∙ reads_depth others ps g q)
+
+module _ (S : List Piece → List ℕ → Type 0) (once : (ps qs : List Piece) (bytes : List ℕ) → S ps bytes → S qs bytes → ps ≡ qs) where
+  one : (names : List (List ℕ)) (most : ℕ) (bytes : List ℕ) (f g : Forest) → ReadsBy S names most bytes f → ReadsBy S names most bytes g → f ≡ g
+  one names most bytes f g p q = reads_once names q.0 f g (subst (λ (l : List Piece). ReadsAs names l f) (once p.0 q.0 bytes p.1 q.1) p.3) q.3
+
+  both : (names : List (List ℕ)) (most : ℕ) (bytes : List ℕ) (f : Forest) (e : TmplFault) → ReadsBy S names most bytes f → RefusedBy S most bytes e → e ≡ fault.Memory
+  both names most bytes f fault.Malformed p r = absurd (r p.0 p.1)
+  both names most bytes f fault.RepeatedAttribute p r = absurd (true_false (sym r.2 ∙ ap repeats (once r.0 p.0 bytes r.1 p.1) ∙ p.2))
+  both names most bytes f fault.Mismatched p r = absurd (r.3 names f (subst (λ (l : List Piece). ReadsAs names l f) (once p.0 r.0 bytes p.1 r.1) p.3))
+  both names most bytes f fault.Nesting p r =
+      let n = same_nesting r.0 names r.1 f r.2 (subst (λ (l : List Piece). ReadsAs names l f) (once p.0 r.0 bytes p.1 r.3) p.3) r.5 in absurd (omega (arith, p.4, r.6, n))
+  both names most bytes f fault.Memory p r = refl
+
+  -- a tag can't both name an attribute twice and not
+  repeats_and_not : (ps qs : List Piece) (bytes : List ℕ) → S ps bytes → S qs bytes → repeats ps ≡ true → repeats qs ≡ false → ⊥
+  repeats_and_not ps qs bytes p q t f = true_false (sym t ∙ ap repeats (once ps qs bytes p q) ∙ f)
+
+  -- pieces can't both read as items and as none
+  reads_and_not : (ps qs : List Piece) (bytes : List ℕ) (names : List (List ℕ)) (f : Forest) → S ps bytes → S qs bytes → ReadsAs names ps f → ((table : List (List ℕ)) (g : Forest) → ReadsAs table qs g → ⊥) → ⊥
+  reads_and_not ps qs bytes names f p q r n = n names f (subst (λ (l : List Piece). ReadsAs names l f) (once ps qs bytes p q) r)
+
+  reason : (most : ℕ) (bytes : List ℕ) (d e : TmplFault) → RefusedBy S most bytes d → RefusedBy S most bytes e → (d ≡ fault.Memory → ⊥) → (e ≡ fault.Memory → ⊥) → d ≡ e
+  reason most bytes fault.Memory e p q m n = absurd (m refl)
+  reason most bytes fault.Malformed fault.Memory p q m n = absurd (n refl)
+  reason most bytes fault.Malformed fault.Malformed p q m n = refl
+  reason most bytes fault.Malformed fault.RepeatedAttribute p q m n = absurd (p q.0 q.1)
+  reason most bytes fault.Malformed fault.Mismatched p q m n = absurd (p q.0 q.1)
+  reason most bytes fault.Malformed fault.Nesting p q m n = absurd (p q.0 q.3)
+  reason most bytes fault.RepeatedAttribute fault.Memory p q m n = absurd (n refl)
+  reason most bytes fault.RepeatedAttribute fault.Malformed p q m n = absurd (q p.0 p.1)
+  reason most bytes fault.RepeatedAttribute fault.RepeatedAttribute p q m n = refl
+  reason most bytes fault.RepeatedAttribute fault.Mismatched p q m n = absurd (repeats_and_not p.0 q.0 bytes p.1 q.1 p.2 q.2)
+  reason most bytes fault.RepeatedAttribute fault.Nesting p q m n = absurd (repeats_and_not p.0 q.0 bytes p.1 q.3 p.2 q.4)
+  reason most bytes fault.Mismatched fault.Memory p q m n = absurd (n refl)
+  reason most bytes fault.Mismatched fault.Malformed p q m n = absurd (q p.0 p.1)
+  reason most bytes fault.Mismatched fault.RepeatedAttribute p q m n = absurd (repeats_and_not q.0 p.0 bytes q.1 p.1 q.2 p.2)
+  reason most bytes fault.Mismatched fault.Mismatched p q m n = refl
+  reason most bytes fault.Mismatched fault.Nesting p q m n = absurd (reads_and_not q.0 p.0 bytes q.1 q.2 q.3 p.1 q.5 p.3)
+  reason most bytes fault.Nesting fault.Memory p q m n = absurd (n refl)
+  reason most bytes fault.Nesting fault.Malformed p q m n = absurd (q p.0 p.3)
+  reason most bytes fault.Nesting fault.RepeatedAttribute p q m n = absurd (repeats_and_not q.0 p.0 bytes q.1 p.3 q.2 p.4)
+  reason most bytes fault.Nesting fault.Mismatched p q m n = absurd (reads_and_not p.0 q.0 bytes p.1 p.2 p.3 q.1 p.5 q.3)
+  reason most bytes fault.Nesting fault.Nesting p q m n = refl
+
+closed_once : (ps qs : List Piece) (bytes : List ℕ) → SpellsClosed ps bytes → SpellsClosed qs bytes → ps ≡ qs
+closed_once ps qs bytes p q = spelled_once ps qs bytes p.spells q.spells
+
+pub one_template : OneTemplate
+one_template = one Spells spelled_once
+
+pub not_both : NotBoth
+not_both = both Spells spelled_once
+
+pub one_reason : OneReason
+one_reason = reason Spells spelled_once
+
+pub one_closed_template : OneClosedTemplate
+one_closed_template = one SpellsClosed closed_once []
+
+pub not_both_closed : NotBothClosed
+not_both_closed = both SpellsClosed closed_once []
+
+pub one_closed_reason : OneClosedReason
+one_closed_reason = reason SpellsClosed closed_once

@@ -1,0 +1,14 @@
+pub mod Inverse
+pub mod Depths
+pub mod Runs
+pub mod Many
+pub mod Characters
+pub mod Shrinking
+pub mod Spelled
+pub mod GapLaws
+pub mod Repeating
+pub mod Refusals
+pub mod Back
+pub mod Keeping
+pub mod Made
+pub mod Deciding

@@ -1,0 +1,9 @@
+use Rattle.std.proofs.Common.{◌≡◌, ◌+◌, drop}
+use Rattle.bw_tmpl.specs.Reading.{leading, is_blank}
+use Rattle.bw_tmpl.proofs.chars.past_blanks.Given as goal
+
+abbrev pub invariant-loop-b : goal.invariant-loop-b
+invariant-loop-b l = record {
+  at : l.n ≡ l.b-index;
+  found : leading is_blank l.bytes ≡ l.b-index + leading is_blank (drop l.b-index l.bytes);
+}

@@ -1,0 +1,6 @@
+use Rattle.std.proofs.Common.{◌≡◌, drop}
+use Rattle.bw_tmpl.specs.Gaps.{attr_gaps}
+use Rattle.bw_tmpl.proofs.gaps.has_hole.Given as goal
+
+abbrev pub invariant-loop-attr : goal.invariant-loop-attr
+invariant-loop-attr l = attr_gaps (drop l.attr-index l.attrs) ≡ attr_gaps l.attrs

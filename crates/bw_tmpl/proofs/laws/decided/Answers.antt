@@ -1,0 +1,5 @@
+use Rattle.bw_tmpl.proofs.Deciding.{one_template, not_both, one_reason}
+use Rattle.bw_tmpl.proofs.laws.decided.Goals as goal
+
+pub returns : goal.returns
+returns c = record { one = one_template; not_both = not_both; reason = one_reason }

@@ -1,0 +1,209 @@
+//! Items are built from pieces.
+ghost use Rattle.std.specs.Prelude.{◌≡◌, ◌≢◌, IfOk, OnOk, OnErr, length, ◌<◌, ◌^◌, [], ◌∷◌, map, MatchOption, MatchResult};
+ghost use Rattle.std.specs.Bool.{MatchBool};
+ghost use Rattle.bw_lang.specs.Forest.{none};
+ghost use Rattle.bw_lang.specs.View.{before};
+ghost use Rattle.bw_tmpl.specs.Numbers.{numbered, numbered_value};
+ghost use Rattle.bw_tmpl.specs.Building.{nothing_built, with_items, element_begun, empty_element, element_ended, draft_after, built, MismatchedIfNone};
+
+use crate::fault::TmplFault;
+use crate::nesting::is_same;
+use crate::pieces::{Piece, RawAttr, RawAttrs, RawValue, Tag};
+use bw_lang::{Attr, AttrValue, Attrs, Element, GapNames, Item, Items, Memory, Name, is_void};
+use std::alloc::Global;
+use std::marker::Model;
+use std::mem;
+
+/// An element that is open, and the items in front of it.
+#[derive(Drop)]
+pub struct OpenElement {
+    pub tag: Name,
+    pub attrs: Attrs,
+    pub front: Items,
+}
+
+/// The elements that are open, the innermost first.
+#[derive(Drop)]
+pub struct OpenElements {
+    list: Vec<OpenElement>,
+}
+
+impl Model for OpenElements {
+    ghost use Rattle.std.specs.Prelude.{List, reverse};
+    ghost use Rattle.bw_tmpl.specs.declared.building.OpenElement.{OpenElement};
+
+    ghost Value = { List OpenElement };
+
+    ghost use Rattle.bw_tmpl.specs.contracts.building.OpenElement as element;
+    ghost use Rattle.std.specs.Coded.{codes};
+
+    ghost coded = { Prim.hlevel (codes, element.the_row.coded) };
+
+    ghost view = { λ a. reverse a.list.items };
+}
+
+impl OpenElements {
+    pub fn new(alloc: Global) -> OpenElements
+        ensures { result ≡ [] }
+    {
+        OpenElements {
+            list: Vec::new(alloc),
+        }
+    }
+
+    pub fn push(&mut self, element: OpenElement) -> Result<(), Memory>
+        ensures ok { OnOk result (self.new ≡ element ∷ self.old) }
+    {
+        self.list.push(element)?;
+        Ok(())
+    }
+
+    pub fn pop(&mut self) -> Option<OpenElement>
+        ensures { MatchOption result ((self.old ≡ []) × (self.new ≡ [])) (λ l. self.old ≡ l ∷ self.new) }
+    {
+        self.list.pop()
+    }
+
+    pub fn is_empty(&self) -> bool
+        ensures { MatchBool result (self.now ≡ []) (self.now ≢ []) }
+    {
+        self.list.is_empty()
+    }
+}
+
+/// What was built so far: the items of the innermost open element, and the elements that are open.
+#[derive(Drop)]
+pub struct Draft {
+    pub items: Items,
+    pub parents: OpenElements,
+}
+
+/// A value with its gap by number.
+fn value_of(value: &RawValue, gaps: &GapNames) -> Result<AttrValue, Memory>
+    ensures { IfOk result (λ v. v ≡ numbered_value gaps.now value.now) }
+{
+    match value {
+        RawValue::Fixed(text) => Ok(AttrValue::Fixed(text.copy()?)),
+        RawValue::Hole(name) => Ok(AttrValue::Hole(gaps.number(name))),
+    }
+}
+
+/// An attribute with its gap by number.
+fn attr_of(attr: &RawAttr, gaps: &GapNames) -> Result<Attr, Memory>
+    ensures { IfOk result (λ a. a ≡ numbered gaps.now attr.now) }
+{
+    Ok(Attr {
+        name: attr.name.copy()?,
+        value: value_of(&attr.value, gaps)?,
+    })
+}
+
+/// The attributes of a tag with their gaps by number.
+fn attrs_of(alloc: Global, attrs: &RawAttrs, gaps: &GapNames) -> Result<Attrs, Memory>
+    ensures { IfOk result (λ a. a ≡ map (numbered gaps.now) attrs.now) }
+{
+    let mut made = Attrs::new(alloc);
+    for attr in attrs.as_slice() {
+        made.push(attr_of(attr, gaps)?)?;
+    }
+    Ok(made)
+}
+
+impl Draft {
+    /// No items, and no element is open.
+    fn new(alloc: Global) -> Draft
+        ensures { result ≡ nothing_built }
+    {
+        Draft {
+            items: Items::new(alloc),
+            parents: OpenElements::new(alloc),
+        }
+    }
+
+    /// One item more.
+    fn add(&mut self, item: Item) -> Result<(), Memory>
+        ensures { OnOk result (self.new ≡ with_items self.old (before item none)) }
+    {
+        self.items.push(item)
+    }
+
+    /// A start tag that an end tag is to follow.
+    fn begin(&mut self, tag: &Tag, gaps: &GapNames) -> Result<(), Memory>
+        ensures { OnOk result (self.new ≡ element_begun gaps.now self.old tag.now) }
+    {
+        let alloc = self.items.alloc();
+        let attrs = attrs_of(alloc, &tag.attrs, gaps)?;
+        let name = tag.name.copy()?;
+        let front = mem::replace(&mut self.items, Items::new(alloc));
+        self.parents.push(OpenElement {
+            tag: name,
+            attrs,
+            front,
+        })
+    }
+
+    /// An element without items.
+    fn alone(&mut self, tag: &Tag, gaps: &GapNames) -> Result<(), Memory>
+        ensures { OnOk result (self.new ≡ with_items self.old (empty_element gaps.now tag.now)) }
+    {
+        let alloc = self.items.alloc();
+        let element = Element {
+            tag: tag.name.copy()?,
+            attrs: attrs_of(alloc, &tag.attrs, gaps)?,
+            items: Items::new(alloc),
+        };
+        self.add(Item::Element(element))
+    }
+
+    /// An end tag.
+    fn end(&mut self, name: &Name) -> Result<(), TmplFault>
+        ensures { MatchResult result (λ _. element_ended self.old.items self.old.parents name.now ≡ Some self.new) (λ e. MismatchedIfNone e (element_ended self.old.items self.old.parents name.now)) }
+    {
+        let Some(innermost) = self.parents.pop() else {
+            return Err(TmplFault::Mismatched);
+        };
+        let OpenElement { tag, attrs, front } = innermost;
+        if !is_same(&tag, name) {
+            return Err(TmplFault::Mismatched);
+        }
+        let items = mem::replace(&mut self.items, front);
+        let element = Element { tag, attrs, items };
+        self.add(Item::Element(element))?;
+        Ok(())
+    }
+
+    /// The next piece.
+    fn take(&mut self, piece: &Piece, gaps: &GapNames) -> Result<(), TmplFault>
+        ensures { MatchResult result (λ _. draft_after gaps.now self.old piece.now ≡ Some self.new) (λ e. MismatchedIfNone e (draft_after gaps.now self.old piece.now)) }
+    {
+        match piece {
+            Piece::Text(text) => self.add(Item::Text(text.copy()?))?,
+            Piece::Gap(name) => self.add(Item::Gap(gaps.number(name)))?,
+            Piece::Whole(tag) => self.alone(tag, gaps)?,
+            Piece::Start(tag) => {
+                if is_void(&tag.name) {
+                    self.alone(tag, gaps)?
+                } else {
+                    self.begin(tag, gaps)?
+                }
+            }
+            Piece::End(name) => return self.end(name),
+        }
+        Ok(())
+    }
+}
+
+/// The items that the pieces read as. `Mismatched`: the tags don't pair.
+pub fn items_of(alloc: Global, pieces: &[Piece], gaps: &GapNames) -> Result<Items, TmplFault>
+    ensures { MatchResult result (λ f. built gaps.now pieces.now ≡ Some f) (λ e. MismatchedIfNone e (built gaps.now pieces.now)) }
+{
+    let mut build = Draft::new(alloc);
+    for piece in pieces {
+        build.take(piece, gaps)?;
+    }
+    if build.parents.is_empty() {
+        Ok(build.items)
+    } else {
+        Err(TmplFault::Mismatched)
+    }
+}

@@ -1,0 +1,153 @@
+//! Characters and names at the front of bytes.
+ghost use Rattle.std.specs.Prelude.{◌≡◌, ◌<◌, length, take, drop, ◌≤◌, IfOk, MatchOption, MatchResult, Some, None};
+ghost use Rattle.bw_tmpl.specs.Reading as spec;
+
+use crate::fault::TmplFault;
+use crate::pieces::NameClass;
+use bw_lang::{Memory, Name, Text};
+use std::alloc::Global;
+use std::str;
+
+/// Whether a name of the class may begin with the byte.
+fn is_first(class: NameClass, c: u8) -> bool
+    ensures { result ≡ spec.first_of class c }
+{
+    match class {
+        NameClass::Tag | NameClass::Attr => c.is_ascii_lowercase(),
+        NameClass::Word => c.is_ascii_alphabetic() || c == b'_',
+    }
+}
+
+/// Whether the byte may stand in a name of the class, behind the first.
+fn is_later(class: NameClass, c: u8) -> bool
+    ensures { result ≡ spec.later_of class c }
+{
+    match class {
+        NameClass::Tag => c.is_ascii_lowercase() || c.is_ascii_digit(),
+        NameClass::Attr => c.is_ascii_lowercase() || c.is_ascii_digit() || c == b'-',
+        NameClass::Word => c.is_ascii_alphanumeric() || c == b'_',
+    }
+}
+
+/// Whether the byte is a space, a tab or the end of a line.
+pub fn is_blank(c: u8) -> bool
+    ensures { result ≡ spec.is_blank c }
+{
+    c == b' ' || c == b'\t' || c == b'\r' || c == b'\n'
+}
+
+/// How many bytes at the front may stand in a name of the class.
+fn name_length(class: NameClass, bytes: &[u8]) -> usize
+    ensures value { result ≡ spec.leading (spec.later_of class) bytes.now }
+    ensures within { result ≤ length bytes.now }
+{
+    let mut n = 0;
+    for b in bytes {
+        if !is_later(class, *b) {
+            return n;
+        }
+        n += 1;
+    }
+    n
+}
+
+/// The bytes behind blanks.
+pub fn past_blanks(bytes: &[u8]) -> &[u8]
+    ensures { result.now ≡ spec.past_blanks bytes.now }
+{
+    let mut n = 0;
+    for b in bytes {
+        if !is_blank(*b) {
+            break;
+        }
+        n += 1;
+    }
+    &bytes[n..]
+}
+
+/// Whether a name of the class may begin with the first of the bytes.
+fn begins(class: NameClass, bytes: &[u8]) -> bool
+    ensures { result ≡ spec.begins (spec.first_of class) bytes.now }
+{
+    match bytes {
+        [] => false,
+        [first, ..] => is_first(class, *first),
+    }
+}
+
+/// The longest name of the class at the front, and the bytes behind it.
+#[tactic(auto, using(crate::proofs::Runs::name_utf8))]
+pub fn name_at(alloc: Global, class: NameClass, bytes: &[u8]) -> Result<(Name, &[u8]), TmplFault>
+    ensures { MatchResult result (λ x. spec.name_at class bytes.now ≡ Some (x.0, x.1.now)) (λ e. spec.MalformedIfNone e (spec.name_at class bytes.now)) }
+{
+    if !begins(class, bytes) {
+        return Err(TmplFault::Malformed);
+    }
+    let n = name_length(class, bytes);
+    match str::from_utf8(&bytes[..n]) {
+        Ok(name) => Ok((Name::of(alloc, name)?, &bytes[n..])),
+        Err(_) => Err(TmplFault::Malformed),
+    }
+}
+
+/// What the reference at the front stands for, and the bytes behind it.
+fn ref_at(bytes: &[u8]) -> Option<(u8, &[u8])>
+    ensures { MatchOption result (spec.ref_at bytes.now ≡ None) (λ x. spec.ref_at bytes.now ≡ Some (x.0, x.1.now)) }
+{
+    if let Some(rest) = bytes.strip_prefix(b"&amp;") {
+        return Some((b'&', rest));
+    }
+    if let Some(rest) = bytes.strip_prefix(b"&lt;") {
+        return Some((b'<', rest));
+    }
+    if let Some(rest) = bytes.strip_prefix(b"&gt;") {
+        return Some((b'>', rest));
+    }
+    if let Some(rest) = bytes.strip_prefix(b"&quot;") {
+        return Some((b'"', rest));
+    }
+    None
+}
+
+/// A character that is neither `<` nor `stop`, and the bytes behind it.
+fn char_at(stop: u8, bytes: &[u8]) -> Option<(u8, &[u8])>
+    ensures { MatchOption result (spec.char_at stop bytes.now ≡ None) (λ x. spec.char_at stop bytes.now ≡ Some (x.0, x.1.now)) }
+{
+    let Some(first) = bytes.first() else {
+        return None;
+    };
+    if *first == b'&' {
+        return ref_at(bytes);
+    }
+    if *first == b'<' || *first == stop {
+        return None;
+    }
+    Some((*first, &bytes[1..]))
+}
+
+/// The characters at the front, and the bytes behind them.
+pub fn chars_at(alloc: Global, stop: u8, bytes: &[u8]) -> Result<(Vec<u8>, &[u8]), Memory>
+    ensures { IfOk result (λ x. spec.each (spec.char_at stop) bytes.now ≡ (x.0.items, x.1.now)) }
+{
+    let mut text = Vec::new(alloc);
+    let mut rest = bytes;
+    'chars: loop {
+        match char_at(stop, rest) {
+            None => return Ok((text, rest)),
+            Some((c, after)) => {
+                text.push(c)?;
+                rest = after;
+            }
+        }
+    }
+}
+
+/// A text, if the bytes are UTF-8.
+pub fn checked(alloc: Global, bytes: &[u8]) -> Result<Text, TmplFault>
+    ensures { MatchResult result (λ t. spec.checked bytes.now ≡ Some t) (λ e. spec.MalformedIfNone e (spec.checked bytes.now)) }
+{
+    match str::from_utf8(bytes) {
+        Ok(text) => Ok(Text::of(alloc, text)?),
+        Err(_) => Err(TmplFault::Malformed),
+    }
+}

@@ -1,0 +1,36 @@
+//! Laws of reading. A law is the contract of an empty function.
+ghost use Rattle.bw_tmpl.specs.Laws.{OneTemplate, NotBoth, OneReason, OneClosedTemplate, NotBothClosed, OneClosedReason, ClosedIsTemplate, ClosedHasNoGap, ReadsMarkup, PlugsMarkup, PlugsTextMarkup, ClosesMarkup, ReadsBack};
+
+/// What reading a template answers is determined: by a table of names bytes are one template at most, and then
+/// there is no reason to refuse them, and otherwise one reason at most.
+pub fn decided()
+    ensures one { OneTemplate }
+    ensures not_both { NotBoth }
+    ensures reason { OneReason }
+{}
+
+/// What reading a template without gaps answers is determined.
+pub fn closed_decided()
+    ensures one { OneClosedTemplate }
+    ensures not_both { NotBothClosed }
+    ensures reason { OneClosedReason }
+{}
+
+/// A template without gaps is a template, and its items have no open gap.
+pub fn closed_is_template()
+    ensures template { ClosedIsTemplate }
+    ensures no_gap { ClosedHasNoGap }
+{}
+
+/// What is read is markup, and filling gaps and closing keep it so.
+pub fn markup_stays()
+    ensures reads { ReadsMarkup }
+    ensures plug { PlugsMarkup }
+    ensures plug_text { PlugsTextMarkup }
+    ensures close { ClosesMarkup }
+{}
+
+/// What is printed is read back.
+pub fn reads_back()
+    ensures { ReadsBack }
+{}

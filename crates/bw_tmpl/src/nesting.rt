@@ -1,0 +1,154 @@
+//! How deep elements stand inside one another, found from the tags alone, before an item is built.
+ghost use Rattle.std.specs.Prelude.{◌≡◌, ◌≢◌, ◌+◌, ◌≤◌, ◌<◌, ◌^◌, length, IfOk, OnOk, OnErr, [], ◌∷◌, MatchOption, MatchResult};
+ghost use Rattle.std.specs.Bool.{MatchBool};
+ghost use Rattle.bw_lang.specs.Names.{same};
+ghost use Rattle.bw_tmpl.specs.Building.{MismatchedIfNone};
+ghost use Rattle.bw_tmpl.specs.Nesting.{no_tags, one_deeper, tag_opened, tag_closed, tags_after, depth};
+
+use crate::fault::TmplFault;
+use crate::pieces::Piece;
+use bw_lang::{Memory, Name, is_void};
+use std::alloc::Global;
+use std::marker::Model;
+
+/// Names, the last that was pushed first.
+#[derive(Debug, Drop)]
+pub struct NameStack {
+    list: Vec<Name>,
+}
+
+impl Model for NameStack {
+    ghost use Rattle.std.specs.Prelude.{ℕ, List, reverse};
+
+    ghost Value = { List (List ℕ) };
+
+    ghost view = { λ a. reverse a.list.items };
+}
+
+/// Whether the two names have the same bytes.
+pub fn is_same(a: &Name, b: &Name) -> bool
+    ensures { result ≡ same a.now b.now }
+{
+    a.as_str() == b.as_str()
+}
+
+impl NameStack {
+    pub fn new(alloc: Global) -> NameStack
+        ensures { result ≡ [] }
+    {
+        NameStack {
+            list: Vec::new(alloc),
+        }
+    }
+
+    pub fn push(&mut self, name: Name) -> Result<(), Memory>
+        ensures ok { OnOk result (self.new ≡ name ∷ self.old) }
+    {
+        self.list.push(name)?;
+        Ok(())
+    }
+
+    pub fn pop(&mut self) -> Option<Name>
+        ensures { MatchOption result ((self.old ≡ []) × (self.new ≡ [])) (λ l. self.old ≡ l ∷ self.new) }
+    {
+        self.list.pop()
+    }
+
+    pub fn len(&self) -> usize
+        ensures len { result ≡ length self.now }
+        ensures few { result < 2 ^ 63 }
+    {
+        self.list.len()
+    }
+
+    pub fn is_empty(&self) -> bool
+        ensures { MatchBool result (self.now ≡ []) (self.now ≢ []) }
+    {
+        self.list.is_empty()
+    }
+}
+
+/// The names of the open elements, and how many were open at once at most.
+#[derive(Drop)]
+pub struct OpenTags {
+    pub names: NameStack,
+    pub deepest: usize,
+}
+
+impl OpenTags {
+    fn new(alloc: Global) -> OpenTags
+        ensures { result ≡ no_tags }
+    {
+        OpenTags {
+            names: NameStack::new(alloc),
+            deepest: 0,
+        }
+    }
+
+    /// One more element, for a moment.
+    fn count_element(&mut self)
+        ensures { self.new ≡ one_deeper self.old }
+    {
+        let depth = self.names.len() + 1;
+        if self.deepest < depth {
+            self.deepest = depth;
+        }
+    }
+
+    /// A start tag that an end tag is to follow.
+    fn begin(&mut self, name: &Name) -> Result<(), Memory>
+        ensures { OnOk result (self.new ≡ tag_opened name.now (one_deeper self.old)) }
+    {
+        let name = name.copy()?;
+        self.count_element();
+        self.names.push(name)
+    }
+
+    /// An end tag.
+    fn end(&mut self, name: &Name) -> Result<(), TmplFault>
+        ensures { MatchResult result (λ _. tag_closed self.old.names self.old.deepest name.now ≡ Some self.new) (λ e. MismatchedIfNone e (tag_closed self.old.names self.old.deepest name.now)) }
+    {
+        let Some(innermost) = self.names.pop() else {
+            return Err(TmplFault::Mismatched);
+        };
+        if is_same(&innermost, name) {
+            Ok(())
+        } else {
+            Err(TmplFault::Mismatched)
+        }
+    }
+
+    /// The next piece.
+    fn take(&mut self, piece: &Piece) -> Result<(), TmplFault>
+        ensures { MatchResult result (λ _. tags_after self.old piece.now ≡ Some self.new) (λ e. MismatchedIfNone e (tags_after self.old piece.now)) }
+    {
+        match piece {
+            Piece::Text(_) | Piece::Gap(_) => {}
+            Piece::Whole(_) => self.count_element(),
+            Piece::Start(tag) => {
+                if is_void(&tag.name) {
+                    self.count_element()
+                } else {
+                    self.begin(&tag.name)?
+                }
+            }
+            Piece::End(name) => return self.end(name),
+        }
+        Ok(())
+    }
+}
+
+/// How many elements stand inside one another at most. `Mismatched`: the tags don't pair.
+pub fn depth_of(alloc: Global, pieces: &[Piece]) -> Result<usize, TmplFault>
+    ensures { MatchResult result (λ n. depth pieces.now ≡ Some n) (λ e. MismatchedIfNone e (depth pieces.now)) }
+{
+    let mut tags = OpenTags::new(alloc);
+    for piece in pieces {
+        tags.take(piece)?;
+    }
+    if tags.names.is_empty() {
+        Ok(tags.deepest)
+    } else {
+        Err(TmplFault::Mismatched)
+    }
+}

@@ -1,0 +1,72 @@
+//! Templates are read.
+ghost use Rattle.std.specs.Prelude.{◌≡◌, ◌≢◌, ◌≤◌, ℕ, List, length, MatchResult, OnOk, IfOk, IfErr};
+ghost use Rattle.bw_lang.specs.Documents.{count};
+ghost use Rattle.bw_lang.specs.Names.{with_names, Extends};
+ghost use Rattle.bw_tmpl.specs.Gaps.{gap_names};
+ghost use Rattle.bw_tmpl.specs.Spelling.{Spells};
+ghost use Rattle.bw_tmpl.specs.Templates.{IsTemplate, IsRefused, IsClosedTemplate, IsClosedRefused, Passes, Fails};
+ghost use Rattle.bw_tmpl.specs.declared.pieces.Piece.{Piece as Piece_};
+
+use crate::building::items_of;
+use crate::fault::TmplFault;
+use crate::gaps::{add_all, any_gap};
+use crate::nesting::depth_of;
+use crate::pieces::Piece;
+use crate::repeats::any_repeats;
+use crate::tags::pieces_of;
+use bw_lang::{GapNames, Items};
+use std::alloc::Global;
+
+/// The greatest number of elements that may stand inside one another in a template of a service.
+pub const TEMPLATE_NESTING: u32 = 64;
+
+/// Refuses pieces that can't be built. The tags are paired and counted here, so that no refused text is built.
+fn check(alloc: Global, pieces: &[Piece], most: u32) -> Result<(), TmplFault>
+    ensures { MatchResult result (λ _. Passes most pieces.now) (λ e. Fails most pieces.now e) }
+{
+    if any_repeats(alloc, pieces)? {
+        return Err(TmplFault::RepeatedAttribute);
+    }
+    let depth = depth_of(alloc, pieces)?;
+    if depth > most as usize {
+        return Err(TmplFault::Nesting);
+    }
+    Ok(())
+}
+
+/// Reads the inside of a template of a service, the bytes between `<html>` and `</html>`: its items, whose gaps
+/// have their numbers by `gaps`. The names of its gaps are taken in there, in the order in which they stand, so
+/// that each is in the table afterwards, and the numbers of the others stay.
+///
+/// It refuses, in this order: `Malformed` where the bytes are no list of pieces, `RepeatedAttribute` where a tag
+/// names an attribute twice, `Mismatched` where the tags don't pair, and `Nesting` where more than
+/// `TEMPLATE_NESTING` elements stand inside one another. Then `gaps` is as it was. After `Memory`, which may come
+/// at any time, it may have new names behind the old ones.
+pub fn read_template(alloc: Global, bytes: &[u8], gaps: &mut GapNames) -> Result<Items, TmplFault>
+    ensures items { MatchResult result (λ f. IsTemplate gaps.new TEMPLATE_NESTING bytes.now f) (λ e. IsRefused TEMPLATE_NESTING bytes.now e) }
+    ensures names { OnOk result ((ps : List Piece_) → Spells ps bytes.now → gaps.new ≡ with_names gaps.old (gap_names ps)) }
+    ensures numbered { IfOk result (λ f. (g : ℕ) → length gaps.new ≤ g → count g f ≡ 0) }
+    ensures extends { Extends gaps.old gaps.new }
+    ensures unchanged { IfErr result (λ e. e ≢ TmplFault.Memory → gaps.new ≡ gaps.old) }
+{
+    let list = pieces_of(alloc, bytes)?;
+    let pieces = list.as_slice();
+    check(alloc, pieces, TEMPLATE_NESTING)?;
+    add_all(gaps, pieces)?;
+    items_of(alloc, pieces, gaps)
+}
+
+/// Reads a template without gaps, as the text of a page, where at most `most` elements may stand inside one
+/// another. It refuses as `read_template` does, and a gap is `Malformed`.
+pub fn read_closed(alloc: Global, bytes: &[u8], most: u32) -> Result<Items, TmplFault>
+    ensures items { MatchResult result (λ f. IsClosedTemplate most bytes.now f) (λ e. IsClosedRefused most bytes.now e) }
+    ensures closed { IfOk result (λ f. (g : ℕ) → count g f ≡ 0) }
+{
+    let list = pieces_of(alloc, bytes)?;
+    let pieces = list.as_slice();
+    if any_gap(pieces) {
+        return Err(TmplFault::Malformed);
+    }
+    check(alloc, pieces, most)?;
+    items_of(alloc, pieces, &GapNames::new(alloc))
+}
