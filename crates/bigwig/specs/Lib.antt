@@ -1,6 +1,9 @@
 pub mod Commands
 pub mod Meaning
+pub mod Outcomes
 pub mod Replies
 pub mod Requests
 pub mod Runs
 pub mod Sent
+pub mod Stops
+pub mod Streams

@@ -4,7 +4,10 @@
 mod command;
 mod reply;
 mod request;
+mod program;
 mod serving;
 mod status;
+mod stream;
 
+pub use program::run;
 pub use status::Status;

@@ -6,7 +6,7 @@ ghost use Rattle.bigwig.specs.Requests.{Asks, IsWord, IsHost, is_word_byte, is_h
 ghost use Rattle.bigwig.specs.Runs.{AsksNothing};
 
 /// The greatest number of bytes of a request.
-const MOST: usize = 16_384;
+pub const MOST: usize = 16_384;
 
 /// The greatest number of bytes of a name.
 const WORD_MOST: usize = 64;

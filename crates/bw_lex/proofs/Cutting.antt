@@ -1,14 +1,12 @@
 -- A text is cut into the tokens that the scan finds, and in no other way.
-use Rattle.std.proofs.Common.{◌≡◌, ℕ, zero, suc, ◌+◌, ◌-◌, ◌<◌, ◌≤◌, Bool, true, false, List, [], ◌∷◌, ◌++◌, length, get_or, take, drop, refl, sym, ap, ◌∙◌, subst, arith, Result, Ok, Err, All, ◌⊎◌, inl, inr, IfOk, IfErr, nat_lt}
-use Rattle.std.specs.List.{slice_range}
+use Rattle.std.proofs.Common.{Bool, ◌≡◌, ℕ, zero, suc, ◌+◌, ◌-◌, ◌≤◌, true, false, List, [], ◌∷◌, ◌++◌, length, take, drop, refl, sym, ap, ◌∙◌, subst, arith, Result, Ok, Err, All, ◌⊎◌, inl, inr, IfOk, IfErr}
 use Rattle.std.specs.Str.{IsUtf8, is_utf8}
 use Rattle.std.specs.Str.Lossy.{utf8_valid_len, valid_len_up_to}
 use Rattle.std.proofs.lemmas.Bool.{cases_lt, lt-ltb}
 use Rattle.std.proofs.lemmas.Str.{IsUtf8-nil, IsUtf8-from_is_utf8}
-use Rattle.std.proofs.lemmas.List.{append_assoc, append-nil, length-append, length-drop, length-take-le, take-append-drop, take_at, take_all, drop_at}
+use Rattle.std.proofs.lemmas.List.{length-append, length-drop, length-take-le, take-append-drop, take_all, drop_at}
 use Rattle.bw_lang.specs.declared.token.Token.{Token}
 use Rattle.bw_lang.specs.declared.token.TokenKind.{TokenKind}
-use Rattle.bw_lang.specs.declared.token.TokenKind.TheVariants as kinds
 use Rattle.bw_lex.specs.declared.LexFault.TheVariants as faults
 use Rattle.bw_lex.specs.declared.pieces.Piece.{Piece}
 use Rattle.bw_lex.specs.declared.pieces.Piece.TheVariants as pieces
@@ -21,7 +19,8 @@ use Rattle.bw_lex.proofs.Branches.{if_branch}
 use Rattle.bw_lex.proofs.Ends.{Ends, piece-ends}
 use Rattle.bw_lex.proofs.Exact.{gap-exact, token-exact}
 use Rattle.bw_lex.proofs.Longest.{longest}
-use Rattle.bw_lex.proofs.Means.{Means, piece-means}
+use Rattle.bw_lex.proofs.Means.{piece-means}
+use Rattle.bw_lex.proofs.Within.{form_has_bytes, all-within}
 use Rattle.bw_lex.proofs.Passing.{scan-piece, scan-fault, whole}
 
 -- a reading with a token in front is of tokens with that token in front
@@ -39,7 +38,7 @@ gap-cut : (at n : ℕ) (bytes : List ℕ) (tokens : List Token) → piece false 
 gap-cut at n bytes tokens e some most rest =
     let own = take n bytes in
     let len : length own ≡ n = length-take-le n bytes most in
-    let long = longest bytes n (ap piece_len e) some most in
+    let long = longest false bytes n (ap piece_len e) some most in
     subst (λ l. Cuts at l tokens) (take-append-drop n bytes)
     (cuts.gap at own (drop n bytes) tokens (piece-means false bytes (pieces.Gap n) e) long (subst (λ m. Cuts (at + m) (drop n bytes) tokens) (sym len) rest))
 
@@ -47,7 +46,7 @@ token-cut : (at n : ℕ) (kind : TokenKind) (bytes : List ℕ) (tokens : List To
 token-cut at n kind bytes tokens e some most rest =
     let own = take n bytes in
     let len : length own ≡ n = length-take-le n bytes most in
-    let long = longest bytes n (ap piece_len e) some most in
+    let long = longest false bytes n (ap piece_len e) some most in
     let means : HasForm kind own × IsHeld kind = piece-means false bytes (pieces.Token kind n) e in
     subst (λ l. Cuts at l (record { what = kind; start = at; end = at + n } ∷ tokens)) (take-append-drop n bytes)
     (subst (λ m. Cuts at (own ++ drop n bytes) (record { what = kind; start = at; end = at + m } ∷ tokens)) len
@@ -74,33 +73,23 @@ cut (suc most) at (b ∷ bs) tokens h e =
     (λ at n tokens some read. cut most at (drop n (b ∷ bs)) tokens (omega (arith, h, some, length-drop n (b ∷ bs))) read)
 
 -- a piece that stands at the front is scanned as it is cut
-gap_has_bytes : (own : List ℕ) → IsGap own → 1 ≤ length own
+pub gap_has_bytes : (own : List ℕ) → IsGap own → 1 ≤ length own
 gap_has_bytes own (inl h) = omega (arith, ap length h.1)
 gap_has_bytes own (inr h) = omega (arith, ap length h.1)
 
-form_has_bytes : (kind : TokenKind) (own : List ℕ) → HasForm kind own → 1 ≤ length own
-form_has_bytes kinds.Word [] h = absurd h
-form_has_bytes kinds.Word (b ∷ bs) h = omega arith
-form_has_bytes (kinds.Number v) [] h = absurd (h.0 refl)
-form_has_bytes (kinds.Number v) (b ∷ bs) h = omega arith
-form_has_bytes (kinds.Str text) own h = omega (arith, ap length h.1)
-form_has_bytes kinds.Template own h = omega (arith, ap length h.1)
-form_has_bytes kinds.Sign [] h = absurd h
-form_has_bytes kinds.Sign (a ∷ bs) h = omega arith
-
-scanned : (at : ℕ) (own rest : List ℕ) (p : Piece) → piece false (own ++ rest) ≡ p → piece_len p ≡ length own → 1 ≤ length own → scan false 0 at (own ++ rest) ≡ with_rest at p (scan false 0 (at + length own) rest)
-scanned at own rest p e l some =
-    scan-piece false at (length own) (own ++ rest) p e l some (omega (arith, length-append own rest))
-    ∙ ap (λ r. with_rest at p (scan false 0 (at + length own) r)) (drop_at own rest (length own) refl)
+pub scanned : (bad : Bool) (at : ℕ) (own rest : List ℕ) (p : Piece) → piece bad (own ++ rest) ≡ p → piece_len p ≡ length own → 1 ≤ length own → scan bad 0 at (own ++ rest) ≡ with_rest at p (scan bad 0 (at + length own) rest)
+scanned bad at own rest p e l some =
+    scan-piece bad at (length own) (own ++ rest) p e l some (omega (arith, length-append own rest))
+    ∙ ap (λ r. with_rest at p (scan bad 0 (at + length own) r)) (drop_at own rest (length own) refl)
 
 read : (at : ℕ) (bytes : List ℕ) (tokens : List Token) → Cuts at bytes tokens → scan false 0 at bytes ≡ Ok tokens
 unfolding scan
 read at bytes tokens (cuts.nothing n) = refl
 read at bytes tokens (cuts.gap n own rest ts form long others) =
-    scanned n own rest (pieces.Gap (length own)) (gap-exact own rest form long) refl (gap_has_bytes own form)
+    scanned false n own rest (pieces.Gap (length own)) (gap-exact false own rest form long) refl (gap_has_bytes own form)
     ∙ read (n + length own) rest ts others
 read at bytes tokens (cuts.token n kind own rest ts form held long others) =
-    scanned n own rest (pieces.Token kind (length own)) (token-exact kind own rest form held long) refl (form_has_bytes kind own form)
+    scanned false n own rest (pieces.Token kind (length own)) (token-exact false kind own rest form held long) refl (form_has_bytes kind own form)
     ∙ ap (onto (record { what = kind; start = n; end = n + length own } ∷ [])) (read (n + length own) rest ts others)
 
 pub read-cuts : (bytes : List ℕ) (tokens : List Token) → AreTokens bytes tokens → tokens_of bytes ≡ Ok tokens
@@ -124,48 +113,22 @@ bad-reads-nothing (suc inner) at (b ∷ bs) tokens e = bad-reads-nothing inner (
 bad-reads-nothing zero at (b ∷ bs) tokens e =
     none_read (piece true (b ∷ bs)) at (scan true (piece_len (piece true (b ∷ bs)) - 1) (at + 1) bs) tokens (bad-reads-nothing (piece_len (piece true (b ∷ bs)) - 1) (at + 1) bs) e
 
--- each token stands in the bytes that are cut
-at_place : (front own rest bytes : List ℕ) (kind : TokenKind) (at : ℕ) → bytes ≡ front ++ (own ++ rest) → at ≡ length front → HasForm kind own → IsHeld kind → IsWithin bytes (record { what = kind; start = at; end = at + length own })
-at_place front own rest bytes kind at e l form held =
-    let some = form_has_bytes kind own form in
-    let slice : slice_range bytes at (at + length own) ≡ own =
-      (λ i. take (at + length own - at) (drop at (e i)))
-      ∙ (λ i. take (let k : at + length own - at ≡ length own = omega arith in k i) (drop_at front (own ++ rest) at (sym l) i))
-      ∙ take_at own rest (length own) refl in
-    record {
-      some = omega (arith, some);
-      inside = omega (arith, ap length e, length-append front (own ++ rest), length-append own rest, l);
-      form = subst (HasForm kind) (sym slice) form;
-      held = held;
-    }
-
-within : (front bytes text : List ℕ) (at : ℕ) (tokens : List Token) → text ≡ front ++ bytes → at ≡ length front → Cuts at bytes tokens → All (IsWithin text) tokens
-within front bytes text at tokens e l (cuts.nothing n) k d h = absurd (omega (arith, h))
-within front bytes text at tokens e l (cuts.gap n own rest ts form long others) k d h =
-    within (front ++ own) rest text (n + length own) ts (e ∙ sym (append_assoc front own rest)) (omega (arith, l, length-append front own)) others k d h
-within front bytes text at tokens e l (cuts.token n kind own rest ts form held long others) zero d h = at_place front own rest text kind n e l form held
-within front bytes text at tokens e l (cuts.token n kind own rest ts form held long others) (suc k) d h =
-    within (front ++ own) rest text (n + length own) ts (e ∙ sym (append_assoc front own rest)) (omega (arith, l, length-append front own)) others k d (omega (arith, h))
-
-pub all-within : (bytes : List ℕ) (tokens : List Token) → Cuts 0 bytes tokens → All (IsWithin bytes) tokens
-all-within bytes tokens h = within [] bytes bytes 0 tokens refl refl h
-
 -- the front that is counted as UTF-8 is UTF-8
-front_is_text : (bs : List ℕ) (n : ℕ) → IsUtf8 (take (valid_len_up_to bs n) bs)
+pub front_is_text : (bs : List ℕ) (n : ℕ) → IsUtf8 (take (valid_len_up_to bs n) bs)
 front_is_text bs zero = IsUtf8-nil
 front_is_text bs (suc n) = if_branch (λ m. IsUtf8 (take m bs)) (is_utf8 (take (suc n) bs)) _ _ (λ h. IsUtf8-from_is_utf8 (take (suc n) bs) h) (λ h. front_is_text bs n)
 
-is_text : (bytes : List ℕ) → length bytes ≤ utf8_valid_len bytes → IsUtf8 bytes
+pub is_text : (bytes : List ℕ) → length bytes ≤ utf8_valid_len bytes → IsUtf8 bytes
 unfolding utf8_valid_len
 is_text bytes h = subst IsUtf8 (take_all (utf8_valid_len bytes) bytes h) (front_is_text bytes (length bytes))
 
 pub tokens-found : (bytes : List ℕ) (tokens : List Token) → tokens_of bytes ≡ Ok tokens → AreTokens bytes tokens
 tokens-found bytes tokens e = elim (cases_lt (utf8_valid_len bytes) (length bytes)) [
-    inl h ↦ absurd (bad-reads-nothing 0 0 (take (utf8_valid_len bytes) bytes) tokens (ap (λ bad. scan bad 0 0 (take (utf8_valid_len bytes) bytes)) (sym (lt-ltb _ _ h)) ∙ e))
+  | inl h ↦ absurd (bad-reads-nothing 0 0 (take (utf8_valid_len bytes) bytes) tokens (ap (λ bad. scan bad 0 0 (take (utf8_valid_len bytes) bytes)) (sym (lt-ltb _ _ h)) ∙ e))
   | inr h ↦
       let text = is_text bytes h in
       (text, cut (length bytes) 0 bytes tokens (omega arith) (sym (whole bytes text) ∙ e))
-  ]
+]
 
 pub read_exactly : IsReadExactly
 read_exactly bytes tokens = (read-cuts bytes tokens, tokens-found bytes tokens)
@@ -176,7 +139,7 @@ if_tokens (Ok tokens) bytes h = tokens-found bytes tokens h
 if_tokens (Err fault) bytes h = h
 
 pub if_within : {X : Type 0} (answer : Result (List Token) X) (bytes : List ℕ) → IfOk answer (λ tokens. tokens_of bytes ≡ Ok tokens) → IfOk answer (λ tokens. All (IsWithin bytes) tokens)
-if_within (Ok tokens) bytes h = all-within bytes tokens (tokens-found bytes tokens h).1
+if_within (Ok tokens) bytes h = all-within bytes tokens (tokens-found bytes tokens h)
 if_within (Err fault) bytes h = h
 
 pub if_only : (answer : Reading) (bytes : List ℕ) → IfOk answer (λ tokens. tokens_of bytes ≡ Ok tokens) → IfErr answer (λ fault. (fault ≡ faults.Memory) ⊎ (tokens_of bytes ≡ Err fault)) → (tokens : List Token) → AreTokens bytes tokens → (answer ≡ Err faults.Memory) ⊎ (answer ≡ Ok tokens)

@@ -8,7 +8,11 @@ pub mod Longest
 pub mod Means
 pub mod Passes
 pub mod Passing
+pub mod Refusing
 pub mod Spelled
+pub mod Stopping
 pub mod Strings
 pub mod Templates
+pub mod Unread
 pub mod Utf8
+pub mod Within

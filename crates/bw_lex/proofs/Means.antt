@@ -1,16 +1,15 @@
 -- Each piece that is found has its form.
-use Rattle.std.proofs.Common.{◌≡◌, ◌≢◌, ℕ, zero, suc, ◌+◌, ◌-◌, ◌<◌, ◌≤◌, ◌^◌, Bool, true, false, List, [], ◌∷◌, ◌++◌, length, get_or, take, drop, refl, sym, ap, ◌∙◌, subst, arith, ◌⊎◌, inl, inr, codes, nat_eq, nat_le, ◌==◌, ◌||◌, if◌then◌else◌}
+use Rattle.std.proofs.Common.{◌≡◌, ℕ, suc, ◌+◌, ◌-◌, ◌≤◌, Bool, true, false, List, [], ◌∷◌, ◌++◌, length, take, drop, refl, sym, ap, ◌∙◌, subst, arith, inl, inr, codes, nat_eq, nat_le, ◌||◌}
 use Rattle.std.specs.List.{prefix_len, starts_with, AllPass}
 use Rattle.std.proofs.lemmas.Bool.{leb-true}
 use Rattle.std.proofs.lemmas.List.{take_at, append_assoc, length-append}
 use Rattle.bw_lang.specs.declared.token.TokenKind.{TokenKind}
-use Rattle.bw_lang.specs.declared.token.TokenKind.TheVariants as kinds
 use Rattle.bw_lex.specs.declared.pieces.Piece.{Piece}
 use Rattle.bw_lex.specs.declared.pieces.Piece.TheVariants as pieces
 use Rattle.bw_lex.specs.declared.pieces.StringByte.{StringByte}
 use Rattle.bw_lex.specs.declared.pieces.StringByte.TheVariants as inside
-use Rattle.bw_lex.specs.Bytes.{is_blank, is_letter, is_digit, is_word_byte, is_on_line, is_sign, is_pair}
-use Rattle.bw_lex.specs.Forms.{HasForm, IsHeld, IsGap, IsWord, IsNumber, IsString, IsTemplate}
+use Rattle.bw_lex.specs.Bytes.{is_letter, is_digit, is_word_byte, is_on_line, is_sign, is_pair}
+use Rattle.bw_lex.specs.Forms.{HasForm, IsHeld, IsGap, IsWord}
 use Rattle.bw_lex.specs.Pieces.{value, number, string_at, string_byte, string, template, sign, piece}
 use Rattle.bw_lex.proofs.Branches.{Branch, blank, word, digits, quoted, comment, markup, other, branch, if_branch}
 use Rattle.bw_lex.proofs.Ends.{some}
@@ -36,7 +35,7 @@ number-means b bs h =
     let own = take n (b ∷ bs) in
     if_branch (λ p. Means p (b ∷ bs)) (nat_le (value own) 9_223_372_036_854_775_807) _ _
     (λ g. let most : value own ≤ 9_223_372_036_854_775_807 = leb-true _ _ g in
-      (((λ e. let q : b ∷ take (n - 1) bs ≡ [] = sym (take_first n b bs (some is_digit b bs h).0) ∙ e in absurd (cc)), passing is_digit (b ∷ bs) n refl, refl), omega (arith, most)))
+    (((λ e. let q : b ∷ take (n - 1) bs ≡ [] = sym (take_first n b bs (some is_digit b bs h).0) ∙ e in absurd (cc)), passing is_digit (b ∷ bs) n refl, refl), omega (arith, most)))
     (λ g. tt)
 
 comment-means : (bs : List ℕ) → IsGap (take (prefix_len is_on_line (codes "//" ++ bs)) (codes "//" ++ bs))

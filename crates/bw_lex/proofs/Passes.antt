@@ -1,5 +1,5 @@
 -- Fronts of which each byte passes a test.
-use Rattle.std.proofs.Common.{◌≡◌, ℕ, zero, suc, ◌+◌, ◌-◌, ◌<◌, ◌≤◌, Bool, true, false, List, [], ◌∷◌, ◌++◌, length, get_or, take, drop, refl, sym, ap, ◌∙◌, subst, arith, ◌⊎◌, inl, inr, cond}
+use Rattle.std.proofs.Common.{◌≡◌, ℕ, zero, suc, ◌+◌, ◌-◌, ◌<◌, ◌≤◌, Bool, true, false, List, [], ◌∷◌, ◌++◌, length, take, refl, ap, ◌∙◌, arith, ◌⊎◌, inl, inr, cond}
 use Rattle.std.specs.List.{prefix_len, AllPass}
 use Rattle.std.proofs.lemmas.List.{length-take, get_or-take}
 use Rattle.std.proofs.lemmas.List.Sums.{prefix_len_passes}
@@ -40,13 +40,13 @@ reaches p (b ∷ bs) rest h = omega (arith, ap (λ t. cond t (1 + prefix_len p (
 pub next : (p : ℕ → Bool) (own rest : List ℕ) → AllPass p own → (prefix_len p (own ++ rest) ≡ length own) ⊎ ((c : ℕ) × (less : List ℕ) × (rest ≡ c ∷ less) × (p c ≡ true))
 next p [] [] h = inl refl
 next p [] (c ∷ less) h = elim (true_or_false (p c)) [
-    inl e ↦ inr (c, less, refl, e)
+  | inl e ↦ inr (c, less, refl, e)
   | inr e ↦ inl (ap (λ t. cond t (1 + prefix_len p less) 0) e)
-  ]
+]
 next p (b ∷ bs) rest h = elim (next p bs rest (all_tail p b bs h)) [
-    inl e ↦ inl (omega (arith, ap (λ t. cond t (1 + prefix_len p (bs ++ rest)) 0) (all_head p b bs h), e))
+  | inl e ↦ inl (omega (arith, ap (λ t. cond t (1 + prefix_len p (bs ++ rest)) 0) (all_head p b bs h), e))
   | inr e ↦ inr e
-  ]
+]
 
 -- some of the bytes, the first among them
 pub take_first : (n b : ℕ) (bs : List ℕ) → 1 ≤ n → take n (b ∷ bs) ≡ b ∷ take (n - 1) bs

@@ -1,11 +1,10 @@
 -- What the rest reads as behind a piece.
-use Rattle.std.proofs.Common.{◌≡◌, ℕ, zero, suc, ◌+◌, ◌-◌, ◌<◌, ◌≤◌, Bool, true, false, List, [], ◌∷◌, ◌++◌, length, get_or, take, drop, refl, sym, ap, ◌∙◌, subst, arith, Result, Ok, Err, nat_lt}
+use Rattle.std.proofs.Common.{◌≡◌, ℕ, zero, suc, ◌+◌, ◌-◌, ◌<◌, ◌≤◌, Bool, true, false, List, [], ◌∷◌, ◌++◌, length, take, drop, refl, sym, ap, ◌∙◌, subst, arith, Ok, Err, nat_lt}
 use Rattle.std.specs.Str.{IsUtf8}
 use Rattle.std.specs.Str.Lossy.{utf8_valid_len}
-use Rattle.std.proofs.lemmas.List.{drop_more, length-drop, drop-drop, drop_all, take_rest, take_all, append_assoc, append-nil}
+use Rattle.std.proofs.lemmas.List.{length-drop, drop-drop, take_rest, take_all, append_assoc, append-nil}
 use Rattle.std.proofs.lemmas.Str.{utf8_valid_len-IsUtf8}
 use Rattle.std.proofs.lemmas.Bool.{le-ltb, lt-ltb}
-use Rattle.bw_lang.specs.declared.token.TokenKind.{TokenKind}
 use Rattle.bw_lang.specs.declared.token.Token.{Token}
 use Rattle.bw_lex.specs.declared.LexFault.TheVariants as faults
 use Rattle.bw_lex.specs.declared.pieces.FaultKind.{FaultKind}

@@ -1,14 +1,13 @@
 -- Strings, and the texts that they stand for.
-use Rattle.std.proofs.Common.{◌≡◌, ◌≢◌, ℕ, zero, suc, ◌+◌, ◌-◌, ◌<◌, ◌≤◌, Bool, true, false, List, [], ◌∷◌, ◌++◌, length, get_or, take, drop, refl, sym, ap, ◌∙◌, subst, arith, ◌⊎◌, inl, inr}
+use Rattle.std.proofs.Common.{◌≡◌, ℕ, suc, ◌+◌, Bool, true, false, List, [], ◌∷◌, ◌++◌, length, refl, sym, ap, ◌∙◌, subst, arith, inl, inr}
 use Rattle.std.proofs.lemmas.List.{append_assoc, append-nil, length-append}
 use Rattle.std.proofs.lemmas.Bool.Decides.{nat_tests}
 use Rattle.bw_lang.specs.declared.token.TokenKind.{TokenKind}
 use Rattle.bw_lang.specs.declared.token.TokenKind.TheVariants as kinds
-use Rattle.bw_lex.specs.declared.pieces.Piece.{Piece}
 use Rattle.bw_lex.specs.declared.pieces.Piece.TheVariants as pieces
 use Rattle.bw_lex.specs.declared.pieces.StringByte.{StringByte}
 use Rattle.bw_lex.specs.declared.pieces.StringByte.TheVariants as inside
-use Rattle.bw_lex.specs.Forms.{StandsFor, Spells, IsString}
+use Rattle.bw_lex.specs.Forms.{StandsFor, Spells}
 use Rattle.bw_lex.specs.Pieces.{string_byte, string_at, string}
 use Rattle.bw_lex.proofs.Strings.{stands_plain, stands_escaped, escapes_is, closes_is}
 
@@ -17,7 +16,7 @@ StandsFor-append c bytes rest more (inl h) = inl (ap (λ l. l ++ more) h.0, h.1,
 StandsFor-append c bytes rest more (inr (inl h)) = inr (inl (ap (λ l. l ++ more) h.0, h.1))
 StandsFor-append c bytes rest more (inr (inr h)) = inr (inr (ap (λ l. l ++ more) h.0, h.1))
 
-Spells-append : (text bytes rest more : List ℕ) → Spells text bytes rest → Spells text (bytes ++ more) (rest ++ more)
+pub Spells-append : (text bytes rest more : List ℕ) → Spells text bytes rest → Spells text (bytes ++ more) (rest ++ more)
 Spells-append [] bytes rest more h = ap (λ l. l ++ more) h
 Spells-append (c ∷ text) bytes rest more h = (h.0 ++ more, StandsFor-append c bytes h.0 more h.1, Spells-append text h.0 rest more h.2)
 
@@ -25,15 +24,15 @@ Spells-append (c ∷ text) bytes rest more h = (h.0 ++ more, StandsFor-append c 
 over_byte : (bad : Bool) (c : ℕ) (bytes rest text : List ℕ) (n : ℕ) → StandsFor c bytes rest → (m : ℕ) × (m + length rest ≡ n + length bytes) × (string bad false text n bytes ≡ string bad false (text ++ c ∷ []) m rest)
 over_byte bad c bytes rest text n (inl h) =
     let stands : string_byte false c ≡ inside.Stands c = grind (arith, nat_tests, h.1, h.2, h.3) in
-    ( n + 1, omega (arith, ap length h.0), ap (string bad false text n) h.0 ∙ ap (λ s. string_at s text n (λ c. string bad false (text ++ c ∷ []) (n + 1) rest) (string bad true text (n + 1) rest)) stands )
+    (n + 1, omega (arith, ap length h.0), ap (string bad false text n) h.0 ∙ ap (λ s. string_at s text n (λ c. string bad false (text ++ c ∷ []) (n + 1) rest) (string bad true text (n + 1) rest)) stands)
 over_byte bad c bytes rest text n (inr (inl h)) =
     let stands : string_byte true c ≡ inside.Stands c = grind (arith, nat_tests, h.1) in
-    ( n + 1 + 1, omega (arith, ap length h.0), ap (string bad false text n) h.0 ∙ ap (λ s. string_at s text (n + 1) (λ c. string bad false (text ++ c ∷ []) (n + 1 + 1) rest) (string bad true text (n + 1 + 1) rest)) stands )
+    (n + 1 + 1, omega (arith, ap length h.0), ap (string bad false text n) h.0 ∙ ap (λ s. string_at s text (n + 1) (λ c. string bad false (text ++ c ∷ []) (n + 1 + 1) rest) (string bad true text (n + 1 + 1) rest)) stands)
 over_byte bad c bytes rest text n (inr (inr h)) =
-    ( n + 1 + 1, omega (arith, ap length h.0), ap (string bad false text n) h.0 ∙ ap (λ c. string bad false (text ++ c ∷ []) (n + 1 + 1) rest) (sym h.1) )
+    (n + 1 + 1, omega (arith, ap length h.0), ap (string bad false text n) h.0 ∙ ap (λ c. string bad false (text ++ c ∷ []) (n + 1 + 1) rest) (sym h.1))
 
 -- and over those that stand for a text
-over_text : (bad : Bool) (more bytes rest text : List ℕ) (n : ℕ) → Spells more bytes rest → (m : ℕ) × (m + length rest ≡ n + length bytes) × (string bad false text n bytes ≡ string bad false (text ++ more) m rest)
+pub over_text : (bad : Bool) (more bytes rest text : List ℕ) (n : ℕ) → Spells more bytes rest → (m : ℕ) × (m + length rest ≡ n + length bytes) × (string bad false text n bytes ≡ string bad false (text ++ more) m rest)
 over_text bad [] bytes rest text n h = (n, omega (arith, ap length h), ap (string bad false text n) h ∙ ap (λ t. string bad false t n rest) (sym (append-nil text)))
 over_text bad (c ∷ more) bytes rest text n h =
     let first = over_byte bad c bytes h.0 text n h.1 in
@@ -60,12 +59,11 @@ pub record Found (escaped : Bool) (text : List ℕ) (n : ℕ) (bytes : List ℕ)
   pub len : end ≡ n + length inner
   pub spelled : Spells more (behind escaped inner) (34 ∷ [])
 
-
-stood : (escaped : Bool) (b c : ℕ) (inner : List ℕ) → string_byte escaped b ≡ inside.Stands c → StandsFor c (behind escaped (b ∷ inner)) inner
+pub stood : (escaped : Bool) (b c : ℕ) (inner : List ℕ) → string_byte escaped b ≡ inside.Stands c → StandsFor c (behind escaped (b ∷ inner)) inner
 stood true b c inner e = elim (stands_escaped b c e) [
-    inl h ↦ inr (inl (ap (λ d. 92 ∷ d ∷ inner) (sym h.0), (elim h.1 [ inl q ↦ inl (h.0 ∙ q) | inr q ↦ inr (h.0 ∙ q) ])))
+  | inl h ↦ inr (inl (ap (λ d. 92 ∷ d ∷ inner) (sym h.0), (elim h.1 [ inl q ↦ inl (h.0 ∙ q) | inr q ↦ inr (h.0 ∙ q) ])))
   | inr h ↦ inr (inr (ap (λ d. 92 ∷ d ∷ inner) h.0, h.1))
-  ]
+]
 stood false b c inner e =
     let h = stands_plain b c e in
     inl (ap (λ d. d ∷ inner) (sym h.0), (λ q. h.1.0 (sym h.0 ∙ q)), (λ q. h.1.1 (sym h.0 ∙ q)), (λ q. h.1.2 (sym h.0 ∙ q)))

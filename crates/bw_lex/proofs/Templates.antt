@@ -1,5 +1,5 @@
 -- The search for the end of a template.
-use Rattle.std.proofs.Common.{zero, suc, ◌⊎◌, inl, inr, ◌≡◌, ℕ, ◌+◌, ◌-◌, ◌<◌, ◌≤◌, Bool, true, false, List, [], ◌∷◌, ◌++◌, length, get_or, take, drop, refl, sym, ap, ◌∙◌, subst, arith, codes, nat_eq, if◌then◌else◌}
+use Rattle.std.proofs.Common.{inl, inr, ◌≡◌, ℕ, ◌+◌, ◌-◌, ◌<◌, ◌≤◌, Bool, true, false, List, [], ◌∷◌, ◌++◌, length, get_or, take, drop, refl, sym, ap, ◌∙◌, arith, codes, nat_eq, if◌then◌else◌}
 use Rattle.std.specs.List.{starts_with}
 use Rattle.std.proofs.lemmas.Bool.{cases_lt}
 use Rattle.std.proofs.lemmas.List.{drop_more, take_rest, length-append}
@@ -30,15 +30,15 @@ front_of (a ∷ p) (x ∷ xs) ys zs e h =
     let others = front_of p xs ys zs tail (omega (arith, h)) in
     (λ i. head i ∷ others i)
 
-no_end_behind : (b : ℕ) (bs : List ℕ) → HasNoEnd (b ∷ bs) → HasNoEnd bs
+pub no_end_behind : (b : ℕ) (bs : List ℕ) → HasNoEnd (b ∷ bs) → HasNoEnd bs
 no_end_behind b bs h front back e = h (b ∷ front) back (ap (λ l. b ∷ l) e)
 
 -- an end tag at the front of bytes that have none is longer than they are
 is_cut : (b : ℕ) (bs rest : List ℕ) → HasNoEnd (b ∷ bs) → starts_with nat_eq (b ∷ (bs ++ rest)) (codes "</html>") ≡ true → length (b ∷ bs) < 7
 is_cut b bs rest none e = elim (cases_lt (length (b ∷ bs)) 7) [
-    inl h ↦ h
+  | inl h ↦ h
   | inr h ↦ absurd (none [] (drop 7 (b ∷ bs)) (front_of (codes "</html>") (b ∷ bs) rest (drop 7 (b ∷ (bs ++ rest))) (starts (b ∷ (bs ++ rest)) (codes "</html>") e) h))
-  ]
+]
 
 -- it doesn't lap over into another
 laps : (bs rest : List ℕ) (b : ℕ) → length (b ∷ bs) < 7 → (b ∷ bs) ++ (codes "</html>" ++ rest) ≡ codes "</html>" ++ drop 7 ((b ∷ bs) ++ (codes "</html>" ++ rest)) → ⊥
@@ -57,9 +57,9 @@ template-whole bad n [] rest none =
 template-whole bad n (b ∷ bs) rest none =
     let on = bs ++ (codes "</html>" ++ rest) in
     let there : starts_with nat_eq (b ∷ on) (codes "</html>") ≡ false = elim (true_or_false (starts_with nat_eq (b ∷ on) (codes "</html>"))) [
-        inl e ↦ absurd (laps bs rest b (is_cut b bs (codes "</html>" ++ rest) none e) (starts (b ∷ on) (codes "</html>") e))
+      | inl e ↦ absurd (laps bs rest b (is_cut b bs (codes "</html>" ++ rest) none e) (starts (b ∷ on) (codes "</html>") e))
       | inr e ↦ e
-      ] in
+    ] in
     ap (λ t. if t then pieces.Token kinds.Template (n + 7) else template bad (n + 1) on) there
     ∙ template-whole bad (n + 1) bs rest (no_end_behind b bs none)
     ∙ ap (pieces.Token kinds.Template) (omega arith)
@@ -98,7 +98,7 @@ pub record Ended (n : ℕ) (bytes : List ℕ) (kind : TokenKind) (end : ℕ) : T
 pub none_in_nil : HasNoEnd []
 none_in_nil front back e = absurd (omega (arith, ap length e, length-append front (codes "</html>" ++ back)))
 
-no_end_in_front : (b : ℕ) (bs rest : List ℕ) → starts_with nat_eq (b ∷ (bs ++ rest)) (codes "</html>") ≡ false → HasNoEnd bs → HasNoEnd (b ∷ bs)
+pub no_end_in_front : (b : ℕ) (bs rest : List ℕ) → starts_with nat_eq (b ∷ (bs ++ rest)) (codes "</html>") ≡ false → HasNoEnd bs → HasNoEnd (b ∷ bs)
 no_end_in_front b bs rest h none [] back e =
     let there = starts_there (b ∷ (bs ++ rest)) (codes "</html>") (back ++ rest) (ap (λ l. l ++ rest) e) in
     cc
@@ -110,7 +110,7 @@ pub template-found : (bad : Bool) (n : ℕ) (bytes : List ℕ) (kind : TokenKind
 template-found true n [] kind end e = absurd (cc)
 template-found false n [] kind end e = absurd (cc)
 template-found bad n (b ∷ bs) kind end e = elim (true_or_false (starts_with nat_eq (b ∷ bs) (codes "</html>"))) [
-    inl h ↦
+  | inl h ↦
       let q : pieces.Token kinds.Template (n + 7) ≡ pieces.Token kind end = ap (λ t. if t then pieces.Token kinds.Template (n + 7) else template bad (n + 1) bs) (sym h) ∙ e in
       let is : kind ≡ kinds.Template = cc in
       let len : end ≡ n + 7 = cc in
@@ -125,4 +125,4 @@ template-found bad n (b ∷ bs) kind end e = elim (true_or_false (starts_with na
         len = omega (arith, f.len);
         none = no_end_in_front b f.inner (codes "</html>" ++ f.rest) (ap (λ l. starts_with nat_eq (b ∷ l) (codes "</html>")) (sym f.front) ∙ h) f.none;
       }
-  ]
+]

@@ -56,7 +56,7 @@ HasForm (kinds.Str text) own = IsString text own
 HasForm kinds.Template own = IsTemplate own
 HasForm kinds.Sign own = IsSign own
 
--- numbers are below 2^63
+-- the value of a number is below 2^63
 abbrev pub IsHeld : TokenKind → Type 0
 IsHeld kinds.Word = Unit {0}
 IsHeld (kinds.Number v) = v < 2 ^ 63
@@ -72,6 +72,6 @@ IsGap own = ((b : ℕ) × (own ≡ b ∷ []) × IsTrue (is_blank b)) ⊎ ((line 
 abbrev pub BeginsTemplate : List ℕ → Type 0
 BeginsTemplate own = (inside : List ℕ) × (own ≡ codes "<html>" ++ inside) × HasNoEnd inside
 
--- what may stand at a place
+-- what may stand at a place; a template counts from its `<html>` on, so that no `<` in front of `html>` is a sign
 abbrev pub IsPiece : List ℕ → Type 0
 IsPiece own = IsGap own ⊎ (((kind : TokenKind) × HasForm kind own) ⊎ BeginsTemplate own)

@@ -1,5 +1,5 @@
 -- The piece that stands at the front of some bytes: blanks or a comment, a token, or a fault.
-use Rattle.std.specs.Prelude.{ℕ, zero, suc, ◌+◌, ◌-◌, ◌*◌, Bool, true, false, nat_eq, nat_le, ◌==◌, ◌||◌, if◌then◌else◌, List, [], ◌∷◌, ◌++◌, codes, fold, take_while, drop}
+use Rattle.std.specs.Prelude.{ℕ, ◌+◌, ◌-◌, ◌*◌, Bool, true, false, nat_eq, nat_le, ◌==◌, ◌||◌, if◌then◌else◌, List, [], ◌∷◌, ◌++◌, codes, fold, take_while, drop}
 use Rattle.std.specs.List.{prefix_len, starts_with}
 use Rattle.std.specs.Str.{byte}
 use Rattle.bw_lang.specs.declared.token.TokenKind.TheVariants as kinds
@@ -41,7 +41,7 @@ abbrev pub string : Bool → Bool → List ℕ → ℕ → List ℕ → Piece
 string bad escaped text n [] = if escaped then pieces.Fault faults.BadByte (n - 1) else if bad then pieces.Fault faults.BadByte n else pieces.Fault faults.OpenString 0
 string bad escaped text n (b ∷ bs) = string_at (string_byte escaped b) text n (λ c. string bad false (text ++ c ∷ []) (n + 1) bs) (string bad true text (n + 1) bs)
 
--- a template of which the first n bytes have no end tag begin in them but behind `<html>`
+-- the rest of a template behind its first n bytes; bad: a byte that is no UTF-8 follows the last
 abbrev pub template : Bool → ℕ → List ℕ → Piece
 template bad n [] = if bad then pieces.Fault faults.BadByte n else pieces.Fault faults.OpenTemplate 0
 template bad n (b ∷ bs) =

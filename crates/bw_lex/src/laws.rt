@@ -1,8 +1,11 @@
 //! Laws of tokens. A law is the contract of an empty function.
 ghost use Rattle.bw_lex.specs.Cuts.{IsCutOnce, IsReadExactly};
+ghost use Rattle.bw_lex.specs.Refusals.{IsRefusedExactly, IsReadOrRefused};
 
-/// A text has at most one list of tokens, and it is read exactly where it has one.
-pub fn one_list_of_tokens()
+/// A text has one list of tokens or one first fault, and is read as that.
+pub fn reads_exactly()
     ensures once { IsCutOnce }
-    ensures read { IsReadExactly }
+    ensures tokens { IsReadExactly }
+    ensures faults { IsRefusedExactly }
+    ensures either { IsReadOrRefused }
 {}

@@ -1,4 +1,13 @@
 //! The text of a service becomes tokens.
+//!
+//! The text is UTF-8. Spaces, tabs, carriage returns and line feeds part tokens, and so do comments: `//` and the bytes
+//! behind it up to the next line feed or the end of the text. At each place the longest token is taken. It is
+//!
+//! - a word: a letter `A` to `Z`, `a` to `z` or `_`, and then letters, digits and `_`;
+//! - a number: decimal digits, with a value of at most 9,223,372,036,854,775,807;
+//! - a string between two `"`: characters other than `"`, `\` and line feed, and the escapes `\"`, `\\` and `\n`;
+//! - a template: `<html>`, and all bytes up to the first `</html>`, which is part of it;
+//! - or a sign: `{ } ( ) [ ] <[ ; , = == != ! < <= > >= + - * / % && ||`.
 #![tactic(auto)]
 
 pub mod laws;
@@ -8,7 +17,9 @@ ghost use Rattle.std.specs.Prelude.{◌≡◌, ◌⊎◌, List, All, IfOk, IfErr
 ghost use Rattle.std.specs.Str.{IsUtf8};
 ghost use Rattle.bw_lang.specs.declared.token.Token.{Token};
 ghost use Rattle.bw_lex.specs.Cuts.{AreTokens, IsWithin};
+ghost use Rattle.bw_lex.specs.Refusals.{IsRefused};
 ghost use Rattle.bw_lex.specs.Tokens.{scan, tokens_of, fault_at};
+ghost use Rattle.bw_lex.specs.declared.LexFault.{LexFault};
 ghost use Rattle.bw_lex.specs.declared.LexFault.TheVariants.{Memory as OutOfMemory};
 
 use crate::pieces::{FaultKind, Piece, read_piece};
@@ -95,16 +106,22 @@ fn scan(alloc: Global, bad: bool, bytes: &[u8]) -> Result<Tokens, LexFault>
 
 /// The tokens of the text of a service.
 ///
-/// They are returned exactly where the bytes are UTF-8 that is cut into blanks, comments and tokens, each the longest
-/// that begins at its place. Otherwise the error is the first fault that a scan from the first byte meets. Only want
-/// of memory comes at any text.
+/// They are returned exactly where the bytes are UTF-8 and are cut into blanks, comments and tokens, each the longest
+/// that begins at its place; a text is cut in one way at most. Otherwise the error is the first fault in the text:
+/// the fault that stands behind the blanks, comments and tokens that come before it. [`LexFault`] says what each fault
+/// is. Only want of memory comes at any text. It takes time that grows with the number of the bytes.
 pub fn lex(alloc: Global, bytes: &[u8]) -> Result<Tokens, LexFault>
-    ensures ok { IfOk result (λ tokens. AreTokens bytes.now tokens) }
-    ensures only { (tokens : List Token) → AreTokens bytes.now tokens → (result ≡ Err OutOfMemory) ⊎ (result ≡ Ok tokens) }
-    ensures spans { IfOk result (λ tokens. All (IsWithin bytes.now) tokens) }
+    // The tokens, and the first fault, as a relation that says what stands where.
+    ensures tokens { IfOk result (λ tokens. AreTokens bytes.now tokens) }
+    ensures only_tokens { (tokens : List Token) → AreTokens bytes.now tokens → (result ≡ Err OutOfMemory) ⊎ (result ≡ Ok tokens) }
+    ensures refused { IfErr result (λ fault. (fault ≡ OutOfMemory) ⊎ IsRefused bytes.now fault) }
+    ensures only_refused { (fault : LexFault) → IsRefused bytes.now fault → (result ≡ Err OutOfMemory) ⊎ (result ≡ Err fault) }
 
-    ensures read { IfOk result (λ tokens. tokens_of bytes.now ≡ Ok tokens) }
+    // The same as a function of the bytes.
+    ensures ok { IfOk result (λ tokens. tokens_of bytes.now ≡ Ok tokens) }
     ensures fault { IfErr result (λ fault. (fault ≡ OutOfMemory) ⊎ (tokens_of bytes.now ≡ Err fault)) }
+
+    ensures spans { IfOk result (λ tokens. All (IsWithin bytes.now) tokens) }
 {
     match str::from_utf8(bytes) {
         Ok(_) => scan(alloc, false, bytes),

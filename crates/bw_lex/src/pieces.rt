@@ -1,17 +1,18 @@
 //! The piece that stands at the front of some bytes.
 ghost use Rattle.std.specs.Prelude.{◌≡◌, ℕ, ◌+◌, ◌<◌, ◌≤◌, false, nat_le, [], length, slice_index, drop, IfOk, MatchOption};
 ghost use Rattle.std.specs.List.{prefix_len, AllPass};
-ghost use Rattle.std.specs.Str.{IsUtf8};
+ghost use Rattle.std.specs.Str.{IsUtf8, byte};
 ghost use Rattle.bw_lex.specs.Bytes.{is_blank, is_letter, is_digit, is_word_byte, is_on_line, is_sign, is_pair};
 ghost use Rattle.bw_lex.specs.Pieces.{value, number, string_byte, string, template, sign, piece};
 
 use bw_lang::{Memory, Text, TokenKind};
 use std::alloc::Global;
 
+/// The greatest value of a number.
 const GREATEST: u64 = 9_223_372_036_854_775_807;
 
 /// The faults, without their places.
-#[derive(Clone, Copy, Debug)]
+#[derive(Clone, Copy)]
 pub enum FaultKind {
     BadByte,
     OpenString,
@@ -20,7 +21,7 @@ pub enum FaultKind {
 }
 
 /// What stands at a byte.
-#[derive(Debug, Drop)]
+#[derive(Drop)]
 pub enum Piece {
     /// A blank or a comment, of so many bytes.
     Gap(usize),
@@ -48,28 +49,25 @@ enum StringByte {
 fn is_blank(b: u8) -> bool
     ensures { result ≡ is_blank b }
 {
-    b == b' ' || (b == b'\t' || (b == b'\r' || b == b'\n'))
+    b" \t\r\n".contains(&b)
 }
 
 fn is_letter(b: u8) -> bool
     ensures { result ≡ is_letter b }
 {
-    b.is_ascii_lowercase() || (b.is_ascii_uppercase() || b == b'_')
+    b.is_ascii_alphabetic() || b == b'_'
 }
 
 fn is_digit(b: u8) -> bool
     ensures { result ≡ is_digit b }
 {
-    b'0' <= b && b <= b'9'
+    b.is_ascii_digit()
 }
 
 fn is_sign(b: u8) -> bool
     ensures { result ≡ is_sign b }
 {
-    matches!(
-        b,
-        b'{' | b'}' | b'(' | b')' | b'[' | b']' | b';' | b',' | b'=' | b'!' | b'<' | b'>' | b'+' | b'-' | b'*' | b'/' | b'%'
-    )
+    b"{}()[];,=!<>+-*/%".contains(&b)
 }
 
 fn is_pair(a: u8, b: u8) -> bool
@@ -77,7 +75,13 @@ fn is_pair(a: u8, b: u8) -> bool
 {
     matches!(
         (a, b),
-        (b'<', b'[') | (b'=', b'=') | (b'!', b'=') | (b'<', b'=') | (b'>', b'=') | (b'&', b'&') | (b'|', b'|')
+        (b'<', b'[')
+            | (b'=', b'=')
+            | (b'!', b'=')
+            | (b'<', b'=')
+            | (b'>', b'=')
+            | (b'&', b'&')
+            | (b'|', b'|')
     )
 }
 
@@ -106,7 +110,10 @@ fn digits_len(bytes: &[u8]) -> usize
 fn word_len(bytes: &[u8]) -> usize
     ensures { result ≡ prefix_len is_word_byte bytes.now }
 {
-    bytes.iter().take_while(|b| is_letter(**b) || is_digit(**b)).count()
+    bytes
+        .iter()
+        .take_while(|b| is_letter(**b) || is_digit(**b))
+        .count()
 }
 
 fn line_len(bytes: &[u8]) -> usize
@@ -176,7 +183,7 @@ fn string(alloc: Global, bad: bool, bytes: &[u8]) -> Result<Piece, Memory>
     }
 }
 
-/// A template, which these bytes begin.
+/// A template, which these bytes begin: the 6 of `<html>`, and more up to the 7 of the first `</html>`.
 fn template(bad: bool, bytes: &[u8]) -> Piece
     requires { 6 ≤ length bytes.now }
     ensures { result ≡ template bad 6 (drop 6 bytes.now) }
@@ -207,7 +214,7 @@ fn sign(bytes: &[u8]) -> Piece
 /// The piece at the front of the bytes, behind which a bad byte follows or not.
 #[tactic(auto, unfolding(crate::specs::Pieces::piece))]
 pub fn read_piece(alloc: Global, bad: bool, bytes: &[u8]) -> Result<Piece, Memory>
-    requires { slice_index bytes.now 0 ≡ 34 → IsUtf8 (drop 1 bytes.now) }
+    requires { slice_index bytes.now 0 ≡ byte "\"" → IsUtf8 (drop 1 bytes.now) }
     ensures { IfOk result (λ p. p ≡ piece bad bytes.now) }
 {
     let [first, rest @ ..] = bytes else {

@@ -34,9 +34,6 @@ use Rattle.bw_lang.proofs.PrintLaws.{joined_alike}
 abbrev IsStop : ℕ → Type 0
 IsStop stop = (stop ≡ 60) ⊎ (stop ≡ 34)
 
-by_38 : ℕ → Bool → List ℕ → List ℕ
-by_38 b v other = if v then codes "&amp;" else other
-
 not_stop : (stop b : ℕ) → IsStop stop → nat_eq b 60 ≡ false → nat_eq b 34 ≡ false → b ≢ stop
 not_stop stop b (inl h) p q = grind (arith, nat_tests)
 not_stop stop b (inr h) p q = grind (arith, nat_tests)
@@ -320,4 +317,4 @@ reads_back f most s le =
     let r : Reads [] g (written g) [] = subst (λ (l : List Piece). Reads [] g l []) (append-nil (written g)) (reads_written g sg []) in
     let spelled : Spells (written g) (print f) = record { apart = apart_written g sg (joined_tidy f); pieces = q } in
     let n : nesting g ≤ most = subst (λ (k : ℕ). k ≤ most) (sym (joined_nest f)) le in
-    (written g, record { spells = spelled; closed = written_gapless g sg }, repeats_written g sg, r, n)
+    record { pieces = written g; spelled = record { spells = spelled; closed = written_gapless g sg }; once = repeats_written g sg; reads = r; nested = n }

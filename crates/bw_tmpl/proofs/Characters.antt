@@ -83,9 +83,7 @@ char_shorter stop c bytes rest (inr (w, inr (inr (inr h)), p)) = let e : length 
 pub char_shrinks : (stop : ℕ) → Shrinks (char_at stop)
 char_shrinks stop = record { less = λ bytes x e. char_shorter stop x.0 bytes x.1 (char_is stop bytes x e) }
 
--- for the loop
-pub char_falls : (stop : ℕ) (bytes : List ℕ) (c : ℕ) (rest : List ℕ) → char_at stop bytes ≡ Some (c, rest) → length rest < length bytes
-char_falls stop bytes c rest e = (char_shrinks stop).less bytes (c, rest) e
+-- ---- for the loop
 
 pub chars_more : (stop : ℕ) (front : List ℕ) (bytes : List ℕ) (c : ℕ) (rest : List ℕ) (total : List ℕ × List ℕ) → char_at stop bytes ≡ Some (c, rest) → onto front (each (char_at stop) bytes) ≡ total → onto (front ++ c ∷ []) (each (char_at stop) rest) ≡ total
 chars_more stop = onto_more (char_at stop) (char_shrinks stop)

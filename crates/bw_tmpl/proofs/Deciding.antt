@@ -25,15 +25,8 @@ same_nesting ps names others f g p q = some_is (nesting f) (nesting g) (sym (rea
 
 module _ (S : List Piece → List ℕ → Type 0) (once : (ps qs : List Piece) (bytes : List ℕ) → S ps bytes → S qs bytes → ps ≡ qs) where
   one : (names : List (List ℕ)) (most : ℕ) (bytes : List ℕ) (f g : Forest) → ReadsBy S names most bytes f → ReadsBy S names most bytes g → f ≡ g
-  one names most bytes f g p q = reads_once names q.0 f g (subst (λ (l : List Piece). ReadsAs names l f) (once p.0 q.0 bytes p.1 q.1) p.3) q.3
-
-  both : (names : List (List ℕ)) (most : ℕ) (bytes : List ℕ) (f : Forest) (e : TmplFault) → ReadsBy S names most bytes f → RefusedBy S most bytes e → e ≡ fault.Memory
-  both names most bytes f fault.Malformed p r = absurd (r p.0 p.1)
-  both names most bytes f fault.RepeatedAttribute p r = absurd (true_false (sym r.2 ∙ ap repeats (once r.0 p.0 bytes r.1 p.1) ∙ p.2))
-  both names most bytes f fault.Mismatched p r = absurd (r.3 names f (subst (λ (l : List Piece). ReadsAs names l f) (once p.0 r.0 bytes p.1 r.1) p.3))
-  both names most bytes f fault.Nesting p r =
-      let n = same_nesting r.0 names r.1 f r.2 (subst (λ (l : List Piece). ReadsAs names l f) (once p.0 r.0 bytes p.1 r.3) p.3) r.5 in absurd (omega (arith, p.4, r.6, n))
-  both names most bytes f fault.Memory p r = refl
+  one names most bytes f g p q =
+      reads_once names q.pieces f g (subst (λ (l : List Piece). ReadsAs names l f) (once p.pieces q.pieces bytes p.spelled q.spelled) p.reads) q.reads
 
   -- a tag can't both name an attribute twice and not
   repeats_and_not : (ps qs : List Piece) (bytes : List ℕ) → S ps bytes → S qs bytes → repeats ps ≡ true → repeats qs ≡ false → ⊥
@@ -43,27 +36,36 @@ module _ (S : List Piece → List ℕ → Type 0) (once : (ps qs : List Piece) (
   reads_and_not : (ps qs : List Piece) (bytes : List ℕ) (names : List (List ℕ)) (f : Forest) → S ps bytes → S qs bytes → ReadsAs names ps f → ((table : List (List ℕ)) (g : Forest) → ReadsAs table qs g → ⊥) → ⊥
   reads_and_not ps qs bytes names f p q r n = n names f (subst (λ (l : List Piece). ReadsAs names l f) (once ps qs bytes p q) r)
 
+  both : (names : List (List ℕ)) (most : ℕ) (bytes : List ℕ) (f : Forest) (e : TmplFault) → ReadsBy S names most bytes f → RefusedBy S most bytes e → e ≡ fault.Memory
+  both names most bytes f fault.Malformed p r = absurd (r p.pieces p.spelled)
+  both names most bytes f fault.RepeatedAttribute p r = absurd (repeats_and_not r.pieces p.pieces bytes r.spelled p.spelled r.twice p.once)
+  both names most bytes f fault.Mismatched p r = absurd (reads_and_not p.pieces r.pieces bytes names f p.spelled r.spelled p.reads r.no_items)
+  both names most bytes f fault.Nesting p r =
+      let read : ReadsAs names r.pieces f = subst (λ (l : List Piece). ReadsAs names l f) (once p.pieces r.pieces bytes p.spelled r.spelled) p.reads in
+      let n = same_nesting r.pieces names r.names f r.items read r.reads in absurd (omega (arith, p.nested, r.deeper, n))
+  both names most bytes f fault.Memory p r = refl
+
   reason : (most : ℕ) (bytes : List ℕ) (d e : TmplFault) → RefusedBy S most bytes d → RefusedBy S most bytes e → (d ≡ fault.Memory → ⊥) → (e ≡ fault.Memory → ⊥) → d ≡ e
   reason most bytes fault.Memory e p q m n = absurd (m refl)
   reason most bytes fault.Malformed fault.Memory p q m n = absurd (n refl)
   reason most bytes fault.Malformed fault.Malformed p q m n = refl
-  reason most bytes fault.Malformed fault.RepeatedAttribute p q m n = absurd (p q.0 q.1)
-  reason most bytes fault.Malformed fault.Mismatched p q m n = absurd (p q.0 q.1)
-  reason most bytes fault.Malformed fault.Nesting p q m n = absurd (p q.0 q.3)
+  reason most bytes fault.Malformed fault.RepeatedAttribute p q m n = absurd (p q.pieces q.spelled)
+  reason most bytes fault.Malformed fault.Mismatched p q m n = absurd (p q.pieces q.spelled)
+  reason most bytes fault.Malformed fault.Nesting p q m n = absurd (p q.pieces q.spelled)
   reason most bytes fault.RepeatedAttribute fault.Memory p q m n = absurd (n refl)
-  reason most bytes fault.RepeatedAttribute fault.Malformed p q m n = absurd (q p.0 p.1)
+  reason most bytes fault.RepeatedAttribute fault.Malformed p q m n = absurd (q p.pieces p.spelled)
   reason most bytes fault.RepeatedAttribute fault.RepeatedAttribute p q m n = refl
-  reason most bytes fault.RepeatedAttribute fault.Mismatched p q m n = absurd (repeats_and_not p.0 q.0 bytes p.1 q.1 p.2 q.2)
-  reason most bytes fault.RepeatedAttribute fault.Nesting p q m n = absurd (repeats_and_not p.0 q.0 bytes p.1 q.3 p.2 q.4)
+  reason most bytes fault.RepeatedAttribute fault.Mismatched p q m n = absurd (repeats_and_not p.pieces q.pieces bytes p.spelled q.spelled p.twice q.once)
+  reason most bytes fault.RepeatedAttribute fault.Nesting p q m n = absurd (repeats_and_not p.pieces q.pieces bytes p.spelled q.spelled p.twice q.once)
   reason most bytes fault.Mismatched fault.Memory p q m n = absurd (n refl)
-  reason most bytes fault.Mismatched fault.Malformed p q m n = absurd (q p.0 p.1)
-  reason most bytes fault.Mismatched fault.RepeatedAttribute p q m n = absurd (repeats_and_not q.0 p.0 bytes q.1 p.1 q.2 p.2)
+  reason most bytes fault.Mismatched fault.Malformed p q m n = absurd (q p.pieces p.spelled)
+  reason most bytes fault.Mismatched fault.RepeatedAttribute p q m n = absurd (repeats_and_not q.pieces p.pieces bytes q.spelled p.spelled q.twice p.once)
   reason most bytes fault.Mismatched fault.Mismatched p q m n = refl
-  reason most bytes fault.Mismatched fault.Nesting p q m n = absurd (reads_and_not q.0 p.0 bytes q.1 q.2 q.3 p.1 q.5 p.3)
+  reason most bytes fault.Mismatched fault.Nesting p q m n = absurd (reads_and_not q.pieces p.pieces bytes q.names q.items q.spelled p.spelled q.reads p.no_items)
   reason most bytes fault.Nesting fault.Memory p q m n = absurd (n refl)
-  reason most bytes fault.Nesting fault.Malformed p q m n = absurd (q p.0 p.3)
-  reason most bytes fault.Nesting fault.RepeatedAttribute p q m n = absurd (repeats_and_not q.0 p.0 bytes q.1 p.3 q.2 p.4)
-  reason most bytes fault.Nesting fault.Mismatched p q m n = absurd (reads_and_not p.0 q.0 bytes p.1 p.2 p.3 q.1 p.5 q.3)
+  reason most bytes fault.Nesting fault.Malformed p q m n = absurd (q p.pieces p.spelled)
+  reason most bytes fault.Nesting fault.RepeatedAttribute p q m n = absurd (repeats_and_not q.pieces p.pieces bytes q.spelled p.spelled q.twice p.once)
+  reason most bytes fault.Nesting fault.Mismatched p q m n = absurd (reads_and_not p.pieces q.pieces bytes p.names p.items p.spelled q.spelled p.reads q.no_items)
   reason most bytes fault.Nesting fault.Nesting p q m n = refl
 
 closed_once : (ps qs : List Piece) (bytes : List ℕ) → SpellsClosed ps bytes → SpellsClosed qs bytes → ps ≡ qs

@@ -20,39 +20,39 @@ use Rattle.bw_tmpl.proofs.Inverse.{same-refl, built_reads}
 abbrev at : List (List ℕ) → ℕ → Option OpenTags
 at names deepest = Some (record { names = names; deepest = deepest })
 
-most_is : (names : List (List ℕ)) (m n : ℕ) (ps : List Piece) → m ≡ n → tags_after_all (at names m) ps ≡ tags_after_all (at names n) ps
-most_is names m n ps e = ap (λ (k : ℕ). tags_after_all (at names k) ps) e
+deepest_is : (names : List (List ℕ)) (m n : ℕ) (ps : List Piece) → m ≡ n → tags_after_all (at names m) ps ≡ tags_after_all (at names n) ps
+deepest_is names m n ps e = ap (λ (k : ℕ). tags_after_all (at names k) ps) e
 
-abbrev HIH : List (List ℕ) → Forest → Type 0
-HIH table f = (names : List (List ℕ)) (m : ℕ) (ps rest : List Piece) → length names ≤ m → Reads table f ps rest → tags_after_all (at names m) ps ≡ tags_after_all (at names (max m (length names + nesting f))) rest
+abbrev DepthAfter : List (List ℕ) → Forest → Type 0
+DepthAfter table f = (names : List (List ℕ)) (m : ℕ) (ps rest : List Piece) → length names ≤ m → Reads table f ps rest → tags_after_all (at names m) ps ≡ tags_after_all (at names (max m (length names + nesting f))) rest
 
-element_risen : (table : List (List ℕ)) (tag : List ℕ) (attrs : List Attr) (inner : Forest) (names : List (List ℕ)) (m : ℕ) (ps qs : List Piece) (t : Tag) → HIH table inner → length names ≤ m
+element_depth : (table : List (List ℕ)) (tag : List ℕ) (attrs : List Attr) (inner : Forest) (names : List (List ℕ)) (m : ℕ) (ps qs : List Piece) (t : Tag) → DepthAfter table inner → length names ≤ m
     → (((ps ≡ piece.Whole t ∷ qs) × (inner ≡ none)) ⊎ (((ps ≡ piece.Start t ∷ qs) × (is_void t.name ≡ true) × (inner ≡ none)) ⊎ ((mid : List Piece) × (ps ≡ piece.Start t ∷ mid) × (is_void t.name ≡ false) × Reads table inner mid (piece.End t.name ∷ qs))))
     → tags_after_all (at names m) ps ≡ tags_after_all (at names (max m (length names + suc (nesting inner)))) qs
-element_risen table tag attrs inner names m ps qs t ih le (inl w) =
+element_depth table tag attrs inner names m ps qs t ih le (inl w) =
     let k : nesting inner ≡ 0 = ap nesting w.1 in
-    ap (tags_after_all (at names m)) w.0 ∙ most_is names (max m (suc (length names))) (max m (length names + suc (nesting inner))) qs (omega arith)
-element_risen table tag attrs inner names m ps qs t ih le (inr (inl v)) =
+    ap (tags_after_all (at names m)) w.0 ∙ deepest_is names (max m (suc (length names))) (max m (length names + suc (nesting inner))) qs (omega arith)
+element_depth table tag attrs inner names m ps qs t ih le (inr (inl v)) =
     let k : nesting inner ≡ 0 = ap nesting v.2 in
     ap (tags_after_all (at names m)) v.0 ∙ ap (λ (x : Bool). tags_after_all (if x then at names (max m (suc (length names))) else at (t.name ∷ names) (max m (suc (length names)))) qs) v.1
-    ∙ most_is names (max m (suc (length names))) (max m (length names + suc (nesting inner))) qs (omega arith)
-element_risen table tag attrs inner names m ps qs t ih le (inr (inr v)) =
+    ∙ deepest_is names (max m (suc (length names))) (max m (length names + suc (nesting inner))) qs (omega arith)
+element_depth table tag attrs inner names m ps qs t ih le (inr (inr v)) =
     ap (tags_after_all (at names m)) v.1 ∙ ap (λ (x : Bool). tags_after_all (if x then at names (max m (suc (length names))) else at (t.name ∷ names) (max m (suc (length names)))) v.0) v.2
     ∙ ih (t.name ∷ names) (max m (suc (length names))) v.0 (piece.End t.name ∷ qs) (omega arith) v.3
     ∙ ap (λ (x : Bool). tags_after_all (if x then at names (max (max m (suc (length names))) (suc (length names) + nesting inner)) else None) qs) (same-refl t.name)
-    ∙ most_is names (max (max m (suc (length names))) (suc (length names) + nesting inner)) (max m (length names + suc (nesting inner))) qs (omega arith)
+    ∙ deepest_is names (max (max m (suc (length names))) (suc (length names) + nesting inner)) (max m (length names + suc (nesting inner))) qs (omega arith)
 
-reads_risen : (table : List (List ℕ)) (f : Forest) → HIH table f
-reads_risen table none names m ps rest le h = ap (tags_after_all (at names m)) h ∙ most_is names m (max m (length names + 0)) rest (omega arith)
-reads_risen table (text s f) names m ps rest le h = ap (tags_after_all (at names m)) h.1 ∙ reads_risen table f names m h.0 rest le h.2
-reads_risen table (gap g f) names m ps rest le h = ap (tags_after_all (at names m)) h.1.1 ∙ reads_risen table f names m h.0 rest le h.2
-reads_risen table (element tag attrs inner f) names m ps rest le h =
-    element_risen table tag attrs inner names m ps h.0 h.1.0 (reads_risen table inner) le h.1.3
-    ∙ reads_risen table f names (max m (length names + suc (nesting inner))) h.0 rest (omega arith) h.2
-    ∙ most_is names (max (max m (length names + suc (nesting inner))) (length names + nesting f)) (max m (length names + max (suc (nesting inner)) (nesting f))) rest (omega arith)
+reads_tags : (table : List (List ℕ)) (f : Forest) → DepthAfter table f
+reads_tags table none names m ps rest le h = ap (tags_after_all (at names m)) h ∙ deepest_is names m (max m (length names + 0)) rest (omega arith)
+reads_tags table (text s f) names m ps rest le h = ap (tags_after_all (at names m)) h.1 ∙ reads_tags table f names m h.0 rest le h.2
+reads_tags table (gap g f) names m ps rest le h = ap (tags_after_all (at names m)) h.1.1 ∙ reads_tags table f names m h.0 rest le h.2
+reads_tags table (element tag attrs inner f) names m ps rest le h =
+    element_depth table tag attrs inner names m ps h.0 h.1.0 (reads_tags table inner) le h.1.3
+    ∙ reads_tags table f names (max m (length names + suc (nesting inner))) h.0 rest (omega arith) h.2
+    ∙ deepest_is names (max (max m (length names + suc (nesting inner))) (length names + nesting f)) (max m (length names + max (suc (nesting inner)) (nesting f))) rest (omega arith)
 
 pub reads_depth : (table : List (List ℕ)) (ps : List Piece) (f : Forest) → ReadsAs table ps f → depth ps ≡ Some (nesting f)
-reads_depth table ps f h = ap deepest_if_closed (reads_risen table f [] 0 ps [] (omega arith) h) ∙ ap Some (max_zero (nesting f))
+reads_depth table ps f h = ap deepest_if_closed (reads_tags table f [] 0 ps [] (omega arith) h) ∙ ap Some (max_zero (nesting f))
   where
     max_zero : (n : ℕ) → max 0 (0 + n) ≡ n
     max_zero n = omega arith

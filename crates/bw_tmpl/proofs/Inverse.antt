@@ -32,10 +32,10 @@ state f parents = Some (record { items = f; parents = parents })
 as_empty : (names : List (List ℕ)) (t : Tag) (tag : List ℕ) (attrs : List Attr) (inner : Forest) → tag ≡ t.name → attrs ≡ map (numbered names) t.attrs → inner ≡ none → empty_element names t ≡ element tag attrs inner none
 as_empty names t tag attrs inner p q r = cc
 
-abbrev IH : List (List ℕ) → Forest → Type 0
-IH names f = (b : Draft) (ps rest : List Piece) → Reads names f ps rest → draft_after_all names (Some b) ps ≡ draft_after_all names (Some (with_items b f)) rest
+abbrev TakenAs : List (List ℕ) → Forest → Type 0
+TakenAs names f = (b : Draft) (ps rest : List Piece) → Reads names f ps rest → draft_after_all names (Some b) ps ≡ draft_after_all names (Some (with_items b f)) rest
 
-element_taken : (names : List (List ℕ)) (tag : List ℕ) (attrs : List Attr) (inner : Forest) (b : Draft) (ps qs : List Piece) (t : Tag) → IH names inner → tag ≡ t.name → attrs ≡ map (numbered names) t.attrs
+element_taken : (names : List (List ℕ)) (tag : List ℕ) (attrs : List Attr) (inner : Forest) (b : Draft) (ps qs : List Piece) (t : Tag) → TakenAs names inner → tag ≡ t.name → attrs ≡ map (numbered names) t.attrs
     → (((ps ≡ piece.Whole t ∷ qs) × (inner ≡ none)) ⊎ (((ps ≡ piece.Start t ∷ qs) × (is_void t.name ≡ true) × (inner ≡ none)) ⊎ ((mid : List Piece) × (ps ≡ piece.Start t ∷ mid) × (is_void t.name ≡ false) × Reads names inner mid (piece.End t.name ∷ qs))))
     → draft_after_all names (Some b) ps ≡ draft_after_all names (Some (with_items b (element tag attrs inner none))) qs
 element_taken names tag attrs inner b ps qs t ih p q (inl w) =
@@ -91,8 +91,8 @@ more names x (l ∷ parents) cur ps qs out r c = (
   subst (λ (i : Forest). Completes names parents (append l.front (element l.tag l.attrs i none)) c.1 out) (append_assoc cur x c.0) c.3,
 )
 
-abbrev CIH : List (List ℕ) → List Piece → Forest → Type 0
-CIH names ps out = (items : Forest) (parents : List OpenElement) → finished (draft_after_all names (state items parents) ps) ≡ Some out → Completes names parents items ps out
+abbrev CompletesFrom : List (List ℕ) → List Piece → Forest → Type 0
+CompletesFrom names ps out = (items : Forest) (parents : List OpenElement) → finished (draft_after_all names (state items parents) ps) ≡ Some out → Completes names parents items ps out
 
 nothing_left : (names : List (List ℕ)) (out items : Forest) (parents : List OpenElement) → if_none_open items parents ≡ Some out → Completes names parents items [] out
 nothing_left names out items [] h = (none, refl, (cc) ∙ sym (append-none items))
@@ -101,14 +101,14 @@ nothing_left names out items (l ∷ parents) h = absurd (cc)
 empty_reads : (names : List (List ℕ)) (t : Tag) (ps : List Piece) → Reads names (empty_element names t) (piece.Whole t ∷ ps) ps
 empty_reads names t ps = (ps, (t, refl, refl, inl (refl, refl)), refl)
 
-started : (names : List (List ℕ)) (out : Forest) (t : Tag) (ps : List Piece) (ih : CIH names ps out) (items : Forest) (parents : List OpenElement) (v : Bool) → is_void t.name ≡ v
+started : (names : List (List ℕ)) (out : Forest) (t : Tag) (ps : List Piece) (ih : CompletesFrom names ps out) (items : Forest) (parents : List OpenElement) (v : Bool) → is_void t.name ≡ v
     → finished (draft_after_all names (if v then state (append items (empty_element names t)) parents else state none (record { tag = t.name; attrs = map (numbered names) t.attrs; front = items } ∷ parents)) ps) ≡ Some out → Completes names parents items (piece.Start t ∷ ps) out
 started names out t ps ih items parents true e h = more names (empty_element names t) parents items (piece.Start t ∷ ps) ps out (ps, (t, refl, refl, inr (inl (refl, e, refl))), refl) (ih (append items (empty_element names t)) parents h)
 started names out t ps ih items parents false e h =
     let c = ih none (record { tag = t.name; attrs = map (numbered names) t.attrs; front = items } ∷ parents) h in
     more names (element t.name (map (numbered names) t.attrs) c.0 none) parents items (piece.Start t ∷ ps) c.1 out (c.1, (t, refl, refl, inr (inr (ps, refl, e, c.2))), refl) c.3
 
-ended_level : (names : List (List ℕ)) (out : Forest) (n : List ℕ) (ps : List Piece) (ih : CIH names ps out) (items : Forest) (l : OpenElement) (parents : List OpenElement) (v : Bool) → same l.tag n ≡ v
+ended_level : (names : List (List ℕ)) (out : Forest) (n : List ℕ) (ps : List Piece) (ih : CompletesFrom names ps out) (items : Forest) (l : OpenElement) (parents : List OpenElement) (v : Bool) → same l.tag n ≡ v
     → finished (draft_after_all names (if v then state (append l.front (element l.tag l.attrs items none)) parents else None) ps) ≡ Some out → Completes names (l ∷ parents) items (piece.End n ∷ ps) out
 ended_level names out n ps ih items l parents true e h = (
   none,
@@ -119,13 +119,13 @@ ended_level names out n ps ih items l parents true e h = (
 ended_level names out n [] ih items l parents false e h = absurd (cc)
 ended_level names out n (p ∷ ps) ih items l parents false e h = absurd (cc)
 
-ended_all : (names : List (List ℕ)) (out : Forest) (n : List ℕ) (ps : List Piece) (ih : CIH names ps out) (items : Forest) (parents : List OpenElement)
+ended_all : (names : List (List ℕ)) (out : Forest) (n : List ℕ) (ps : List Piece) (ih : CompletesFrom names ps out) (items : Forest) (parents : List OpenElement)
     → finished (draft_after_all names (element_ended items parents n) ps) ≡ Some out → Completes names parents items (piece.End n ∷ ps) out
 ended_all names out n [] ih items [] h = absurd (cc)
 ended_all names out n (p ∷ ps) ih items [] h = absurd (cc)
 ended_all names out n ps ih items (l ∷ parents) h = ended_level names out n ps ih items l parents (same l.tag n) refl h
 
-completes : (names : List (List ℕ)) (out : Forest) (ps : List Piece) → CIH names ps out
+completes : (names : List (List ℕ)) (out : Forest) (ps : List Piece) → CompletesFrom names ps out
 completes names out [] items parents h = nothing_left names out items parents h
 completes names out (piece.Text s ∷ ps) items parents h = more names (text s none) parents items (piece.Text s ∷ ps) ps out (ps, refl, refl) (completes names out ps (append items (text s none)) parents h)
 completes names out (piece.Gap n ∷ ps) items parents h = more names (gap (number names n) none) parents items (piece.Gap n ∷ ps) ps out (ps, (n, refl, refl), refl) (completes names out ps (append items (gap (number names n) none)) parents h)

@@ -100,10 +100,10 @@ not_void t inner a b = absurd (true_false (sym b ∙ a))
     true_false : true ≡ false → ⊥
     true_false p = cc
 
-abbrev RIH : List (List ℕ) → Forest → Type 0
-RIH names f = (ps rest : List Piece) → AllGood ps → Reads names f ps rest → Both f rest
+abbrev BothRead : List (List ℕ) → Forest → Type 0
+BothRead names f = (ps rest : List Piece) → AllGood ps → Reads names f ps rest → Both f rest
 
-by_case : (names : List (List ℕ)) (tag : List ℕ) (attrs : List Attr) (inner f : Forest) (t : Tag) (ps qs rest : List Piece) → RIH names inner → RIH names f → AllGood ps → Reads names f qs rest → tag ≡ t.name → attrs ≡ map (numbered names) t.attrs
+by_case : (names : List (List ℕ)) (tag : List ℕ) (attrs : List Attr) (inner f : Forest) (t : Tag) (ps qs rest : List Piece) → BothRead names inner → BothRead names f → AllGood ps → Reads names f qs rest → tag ≡ t.name → attrs ≡ map (numbered names) t.attrs
     → (((ps ≡ piece.Whole t ∷ qs) × (inner ≡ none)) ⊎ (((ps ≡ piece.Start t ∷ qs) × (is_void t.name ≡ true) × (inner ≡ none)) ⊎ ((mid : List Piece) × (ps ≡ piece.Start t ∷ mid) × (is_void t.name ≡ false) × Reads names inner mid (piece.End t.name ∷ qs))))
     → Both (element tag attrs inner f) rest
 by_case names tag attrs inner f t ps qs rest hi hf g r p q (inl w) =
@@ -114,11 +114,11 @@ by_case names tag attrs inner f t ps qs rest hi hf g r p q (inr (inr w)) =
     let a : AllGood (piece.Start t ∷ w.0) = subst AllGood w.1 g in
     let i : Both inner (piece.End t.name ∷ qs) = hi w.0 (piece.End t.name ∷ qs) a.1 w.3 in element_kept names tag attrs inner f t rest p q a.0 (not_void t inner w.2) i.0 (hf qs rest i.1.1 r)
 
-reads_both : (names : List (List ℕ)) (f : Forest) → RIH names f
+reads_both : (names : List (List ℕ)) (f : Forest) → BothRead names f
 reads_both names none ps rest g h = (tt, subst AllGood h g)
 reads_both names (text s f) ps rest g h = let a : AllGood (piece.Text s ∷ h.0) = subst AllGood h.1 g in let b = reads_both names f h.0 rest a.1 h.2 in ((a.0, b.0), b.1)
 reads_both names (gap k f) ps rest g h = let a : AllGood (piece.Gap h.1.0 ∷ h.0) = subst AllGood h.1.1 g in let b = reads_both names f h.0 rest a.1 h.2 in ((tt, b.0), b.1)
 reads_both names (element tag attrs inner f) ps rest g h = by_case names tag attrs inner f h.1.0 ps h.0 rest (reads_both names inner) (reads_both names f) g h.2 h.1.1 h.1.2 h.1.3
 
 pub reads_markup : ReadsMarkup
-reads_markup names most bytes f h = (reads_both names f h.0 [] (all_good h.0 bytes [] h.1.pieces h.2) h.3).0
+reads_markup names most bytes f h = (reads_both names f h.pieces [] (all_good h.pieces bytes [] h.spelled.pieces h.once) h.reads).0

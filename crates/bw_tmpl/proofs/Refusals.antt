@@ -10,7 +10,8 @@ use Rattle.bw_tmpl.specs.Building.{built, MismatchedIfNone}
 use Rattle.bw_tmpl.specs.Nesting.{depth}
 use Rattle.bw_tmpl.specs.Spelling.{Spells}
 use Rattle.bw_tmpl.specs.Gaps.{gap_names}
-use Rattle.bw_tmpl.specs.Templates.{ReadsBy, RefusedBy, SpellsClosed, Passes, Fails}
+use Rattle.bw_tmpl.specs.Checks.{Passes, Fails}
+use Rattle.bw_tmpl.specs.Templates.{ReadsBy, RefusedBy, SpellsClosed}
 use Rattle.bw_tmpl.proofs.Inverse.{built_reads, reads_built}
 use Rattle.bw_tmpl.proofs.Depths.{reads_depth, depth_reads}
 use Rattle.bw_tmpl.proofs.Spelled.{spelled_pieces, spelled_once}
@@ -31,16 +32,22 @@ unread S s most bytes fault.Memory h = tt
 -- a list of pieces that can't be built
 pub refused : (S : List Piece → List ℕ → Type 0) (most : ℕ) (bytes : List ℕ) (ps : List Piece) (e : TmplFault) → S ps bytes → Fails most ps e → RefusedBy S most bytes e
 refused S most bytes ps fault.Malformed p h = absurd h
-refused S most bytes ps fault.RepeatedAttribute p h = (ps, p, h)
-refused S most bytes ps fault.Mismatched p h = (ps, p, h.0, λ (names : List (List ℕ)) (f : Forest) (r : ReadsAs names ps f). apart (nesting f) (depth ps) h.1 (reads_depth names ps f r))
-refused S most bytes ps fault.Nesting p h = let k = depth_reads [] ps h.1.0 h.1.1 in (ps, [], k.0, p, h.0, k.1, omega (arith, k.2, h.1.2))
+refused S most bytes ps fault.RepeatedAttribute p h = record { pieces = ps; spelled = p; twice = h }
+refused S most bytes ps fault.Mismatched p h = record {
+  pieces = ps;
+  spelled = p;
+  once = h.0;
+  no_items = λ (names : List (List ℕ)) (f : Forest) (r : ReadsAs names ps f). apart (nesting f) (depth ps) h.1 (reads_depth names ps f r);
+}
+refused S most bytes ps fault.Nesting p h = let k = depth_reads [] ps h.1.0 h.1.1 in record { pieces = ps; spelled = p; once = h.0; names = []; items = k.0; reads = k.1; deeper = omega (arith, k.2, h.1.2) }
 refused S most bytes ps fault.Memory p h = tt
 
 -- a list of pieces that was built
 pub read : (S : List Piece → List ℕ → Type 0) (names : List (List ℕ)) (most : ℕ) (bytes : List ℕ) (ps : List Piece) (f : Forest) → S ps bytes → Passes most ps → built names ps ≡ Some f → ReadsBy S names most bytes f
 read S names most bytes ps f p h b =
     let k = built_reads names ps f b in
-    let e : h.1.0 ≡ nesting f = some_is h.1.0 (nesting f) (sym h.1.1 ∙ reads_depth names ps f k) in (ps, p, h.0, k, omega (arith, h.1.2))
+    let e : h.1.0 ≡ nesting f = some_is h.1.0 (nesting f) (sym h.1.1 ∙ reads_depth names ps f k) in
+    record { pieces = ps; spelled = p; once = h.0; reads = k; nested = omega (arith, h.1.2) }
 
 -- what passes is refused for want of memory alone
 pub built_but_memory : (names : List (List ℕ)) (most : ℕ) (ps : List Piece) (e : TmplFault) → Passes most ps → MismatchedIfNone e (built names ps) → e ≡ fault.Memory

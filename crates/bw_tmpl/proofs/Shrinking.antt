@@ -14,9 +14,7 @@ use Rattle.bw_tmpl.specs.Reading.{◌>>=◌, map_or, stripped, leading, begins, 
 use Rattle.bw_tmpl.proofs.Many.{bind_some, map_or_some, cond_some, cond_none, some_is, stripped_is, Shrinks, each_more, each_none}
 use Rattle.bw_tmpl.proofs.Characters.{char_shrinks}
 
--- what is behind is not longer
-abbrev Falls : {A : Type 0} → List ℕ → Option (A × List ℕ) → Type 0
-Falls {A} bytes o = (x : A × List ℕ) → o ≡ Some x → length x.1 ≤ length bytes
+-- ---- what is behind is not longer
 
 stripped_le : (front bytes rest : List ℕ) → stripped front bytes ≡ Some rest → length rest + length front ≡ length bytes
 stripped_le front bytes rest h = let e : length bytes ≡ length (front ++ rest) = ap length (stripped_is front bytes rest h) in let k = length-append front rest in omega arith

@@ -1,5 +1,5 @@
 -- Items built from pieces, one piece after the other.
-use Rattle.std.specs.Prelude.{◌≡◌, ℕ, if◌then◌else◌, List, [], ◌∷◌, map, Option, Some, None}
+use Rattle.std.specs.Prelude.{◌≡◌, ℕ, if◌then◌else◌, List, [], ◌∷◌, map, Option, Some, None, Result, MatchResult}
 use Rattle.bw_lang.specs.Forest.{Forest, none, text, gap, element}
 use Rattle.bw_lang.specs.Documents.{append}
 use Rattle.bw_lang.specs.Markup.{is_void}
@@ -20,6 +20,10 @@ MismatchedIfNone fault.Mismatched o = o ≡ None
 MismatchedIfNone fault.Malformed o = ⊥
 MismatchedIfNone fault.RepeatedAttribute o = ⊥
 MismatchedIfNone fault.Nesting o = ⊥
+
+-- The answer is what there is to build, where view says what of it is compared, or Mismatched where there is nothing; it may be Memory at any time.
+abbrev pub Builds : {A B : Type 0} → (A → B) → Result A TmplFault → Option B → Type 0
+Builds view answer o = MatchResult answer (λ x. o ≡ Some (view x)) (λ e. MismatchedIfNone e o)
 
 -- no items, and no element is open
 abbrev pub nothing_built : Draft

@@ -5,9 +5,19 @@ use Rattle.bw_lang.specs.Documents.{plug, plug_text, close, count}
 use Rattle.bw_lang.specs.Print.{print, joined}
 use Rattle.bw_tmpl.specs.declared.fault.TmplFault.{TmplFault}
 use Rattle.bw_tmpl.specs.declared.fault.TmplFault.TheVariants as fault
-use Rattle.bw_tmpl.specs.Reads.{nesting}
+use Rattle.bw_tmpl.specs.declared.pieces.Piece.{Piece}
+use Rattle.bw_tmpl.specs.Spelling.{Spells}
+use Rattle.bw_tmpl.specs.Reads.{ReadsAs, nesting}
 use Rattle.bw_tmpl.specs.Templates.{IsTemplate, IsRefused, IsClosedTemplate, IsClosedRefused}
 use Rattle.bw_tmpl.specs.Markup.{IsMarkup, IsClosedMarkup}
+
+-- bytes are one list of pieces at most
+abbrev pub OneSpelling : Type 0
+OneSpelling = (ps qs : List Piece) (bytes : List ℕ) → Spells ps bytes → Spells qs bytes → ps ≡ qs
+
+-- pieces read as one list of items at most
+abbrev pub OneReading : Type 0
+OneReading = (names : List (List ℕ)) (ps : List Piece) (f g : Forest) → ReadsAs names ps f → ReadsAs names ps g → f ≡ g
 
 -- bytes are one template at most
 abbrev pub OneTemplate : Type 0

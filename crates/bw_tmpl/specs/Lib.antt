@@ -6,6 +6,7 @@ pub mod Repeats
 pub mod Numbers
 pub mod Reads
 pub mod Nesting
+pub mod Checks
 pub mod Building
 pub mod Templates
 pub mod Markup

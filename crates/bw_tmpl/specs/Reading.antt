@@ -1,5 +1,5 @@
 -- What stands at the front of bytes, and the bytes behind it.
-use Rattle.std.specs.Prelude.{ℕ, zero, suc, Bool, false, ◌||◌, ◌==◌, nat_eq, if◌then◌else◌, List, [], ◌∷◌, length, take, drop, Option, Some, None, codes, ◌≡◌}
+use Rattle.std.specs.Prelude.{ℕ, zero, suc, Bool, false, ◌||◌, ◌==◌, nat_eq, if◌then◌else◌, List, [], ◌∷◌, length, take, drop, Option, Some, None, Result, MatchResult, codes, ◌≡◌}
 use Rattle.std.specs.Str.{is_utf8}
 use Rattle.std.specs.Char.{is_ascii_lowercase, is_ascii_digit, is_ascii_alphabetic, is_ascii_alphanumeric}
 use lib.Pointwise.{pointwise}
@@ -30,6 +30,10 @@ MalformedIfNone fault.Malformed o = o ≡ None
 MalformedIfNone fault.Mismatched o = ⊥
 MalformedIfNone fault.RepeatedAttribute o = ⊥
 MalformedIfNone fault.Nesting o = ⊥
+
+-- The answer is what there is to read, where view says what of it is compared, or Malformed where there is nothing; it may be Memory at any time.
+abbrev pub Gives : {A B : Type 0} → (A → B) → Result A TmplFault → Option B → Type 0
+Gives view answer o = MatchResult answer (λ x. o ≡ Some (view x)) (λ e. MalformedIfNone e o)
 
 -- what f makes of the value, or d where there is none
 abbrev pub map_or : {A B : Type 0} → Option A → (A → B) → B → B
@@ -70,7 +74,9 @@ begins p (b ∷ bs) = p b
 
 -- the longest name at the front
 abbrev pub name_at : NameClass → List ℕ → Option (List ℕ × List ℕ)
-name_at c bytes = let n = leading (later_of c) bytes in if begins (first_of c) bytes then Some (take n bytes, drop n bytes) else None
+name_at c bytes =
+    let n = leading (later_of c) bytes in
+    if begins (first_of c) bytes then Some (take n bytes, drop n bytes) else None
 
 -- the bytes behind the blanks at the front
 abbrev pub past_blanks : List ℕ → List ℕ
@@ -134,7 +140,10 @@ value_at bytes =
 
 -- an attribute, with the blanks in front of it
 unfoldable pub attr_at : List ℕ → Option (RawAttr × List ℕ)
-attr_at bytes = if begins is_blank bytes then (name_at class.Attr (past_blanks bytes) >>= λ n. stripped (codes "=") n.1 >>= λ m. value_at m >>= λ v. Some (record { name = n.0; value = v.0 }, v.1)) else None
+attr_at bytes =
+    if begins is_blank bytes then
+    (name_at class.Attr (past_blanks bytes) >>= λ n. stripped (codes "=") n.1 >>= λ m. value_at m >>= λ v. Some (record { name = n.0; value = v.0 }, v.1))
+    else None
 
 -- ---- pieces
 
@@ -158,7 +167,9 @@ gap_at bytes = name_at class.Word bytes >>= λ n. stripped (codes "]>") n.1 >>= 
 
 -- a text, as long as it can be
 unfoldable pub text_at : List ℕ → Option (Piece × List ℕ)
-text_at bytes = let t = each (char_at less_than) bytes in if length t.0 == 0 then None else (checked t.0 >>= λ v. Some (piece.Text v, t.1))
+text_at bytes =
+    let t = each (char_at less_than) bytes in
+    if length t.0 == 0 then None else (checked t.0 >>= λ v. Some (piece.Text v, t.1))
 
 -- a piece of any kind
 unfoldable pub piece_at : List ℕ → Option (Piece × List ℕ)

@@ -30,7 +30,9 @@ IsRef c w =
 -- Here and below: the thing is written at the front of bytes, and rest is behind it.
 -- A character of a text or a value that ends in front of stop: itself, or a reference.
 abbrev pub IsChar : ℕ → ℕ → List ℕ → List ℕ → Type 0
-IsChar stop c bytes rest = ((bytes ≡ c ∷ rest) × (c ≢ ampersand) × (c ≢ less_than) × (c ≢ stop)) ⊎ ((w : List ℕ) × IsRef c w × (bytes ≡ w ++ rest))
+IsChar stop c bytes rest =
+    ((bytes ≡ c ∷ rest) × (c ≢ ampersand) × (c ≢ less_than) × (c ≢ stop))
+    ⊎ ((w : List ℕ) × IsRef c w × (bytes ≡ w ++ rest))
 
 -- one after the other
 abbrev pub Each : {A : Type 0} → (A → List ℕ → List ℕ → Type 0) → List A → List ℕ → List ℕ → Type 0
@@ -39,7 +41,8 @@ Each R (x ∷ xs) bytes rest = (mid : List ℕ) × R x bytes mid × Each R xs mi
 
 -- a value between two of the same quotes, or the name of a gap in brackets
 abbrev pub IsValue : RawValue → List ℕ → List ℕ → Type 0
-IsValue (raw.Fixed v) bytes rest = (q : ℕ) × ((q ≡ double_quote) ⊎ (q ≡ single_quote)) × (u : List ℕ) × (bytes ≡ q ∷ u) × Each (IsChar q) v u (q ∷ rest) × IsUtf8 v
+IsValue (raw.Fixed v) bytes rest =
+    (q : ℕ) × ((q ≡ double_quote) ⊎ (q ≡ single_quote)) × (u : List ℕ) × (bytes ≡ q ∷ u) × Each (IsChar q) v u (q ∷ rest) × IsUtf8 v
 IsValue (raw.Hole n) bytes rest = IsName class.Word n × (bytes ≡ open_bracket ∷ (n ++ close_bracket ∷ rest))
 
 -- blanks, one at least, a name, `=` and a value
@@ -69,7 +72,8 @@ IsPiece (piece.Text s) bytes rest = (s ≢ []) × IsUtf8 s × Each (IsChar less_
 IsPiece (piece.Gap n) bytes rest = IsName class.Word n × (bytes ≡ codes "<[" ++ (n ++ (codes "]>" ++ rest)))
 IsPiece (piece.Start t) bytes rest = (m : List ℕ) × (bytes ≡ less_than ∷ m) × IsTag t m (codes ">" ++ rest)
 IsPiece (piece.Whole t) bytes rest = (m : List ℕ) × (bytes ≡ less_than ∷ m) × IsTag t m (codes "/>" ++ rest)
-IsPiece (piece.End n) bytes rest = IsName class.Tag n × (w : List ℕ) × (passes is_blank w ≡ true) × (bytes ≡ codes "</" ++ (n ++ (w ++ (codes ">" ++ rest))))
+IsPiece (piece.End n) bytes rest =
+    IsName class.Tag n × (w : List ℕ) × (passes is_blank w ≡ true) × (bytes ≡ codes "</" ++ (n ++ (w ++ (codes ">" ++ rest))))
 
 -- the piece is a text
 abbrev pub is_text : Piece → Bool

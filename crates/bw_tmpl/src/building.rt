@@ -1,10 +1,10 @@
 //! Items are built from pieces.
-ghost use Rattle.std.specs.Prelude.{◌≡◌, ◌≢◌, IfOk, OnOk, OnErr, length, ◌<◌, ◌^◌, [], ◌∷◌, map, MatchOption, MatchResult};
+ghost use Rattle.std.specs.Prelude.{◌≡◌, ◌≢◌, IfOk, OnOk, [], ◌∷◌, map, MatchOption};
 ghost use Rattle.std.specs.Bool.{MatchBool};
 ghost use Rattle.bw_lang.specs.Forest.{none};
 ghost use Rattle.bw_lang.specs.View.{before};
 ghost use Rattle.bw_tmpl.specs.Numbers.{numbered, numbered_value};
-ghost use Rattle.bw_tmpl.specs.Building.{nothing_built, with_items, element_begun, empty_element, element_ended, draft_after, built, MismatchedIfNone};
+ghost use Rattle.bw_tmpl.specs.Building.{nothing_built, with_items, element_begun, empty_element, element_ended, draft_after, built, Builds};
 
 use crate::fault::TmplFault;
 use crate::nesting::is_same;
@@ -14,7 +14,7 @@ use std::alloc::Global;
 use std::marker::Model;
 use std::mem;
 
-/// An element that is open, and the items in front of it.
+/// An element that is open: its start tag, and the items in front of it.
 #[derive(Drop)]
 pub struct OpenElement {
     pub tag: Name,
@@ -35,9 +35,9 @@ impl Model for OpenElements {
     ghost Value = { List OpenElement };
 
     ghost use Rattle.bw_tmpl.specs.contracts.building.OpenElement as element;
-    ghost use Rattle.std.specs.Coded.{codes};
+    ghost use Rattle.std.specs.Coded.{coded_list};
 
-    ghost coded = { Prim.hlevel (codes, element.the_row.coded) };
+    ghost coded = { coded_list element.the_row.coded };
 
     ghost view = { λ a. reverse a.list.items };
 }
@@ -157,7 +157,7 @@ impl Draft {
 
     /// An end tag.
     fn end(&mut self, name: &Name) -> Result<(), TmplFault>
-        ensures { MatchResult result (λ _. element_ended self.old.items self.old.parents name.now ≡ Some self.new) (λ e. MismatchedIfNone e (element_ended self.old.items self.old.parents name.now)) }
+        ensures { Builds (λ _. self.new) result (element_ended self.old.items self.old.parents name.now) }
     {
         let Some(innermost) = self.parents.pop() else {
             return Err(TmplFault::Mismatched);
@@ -174,7 +174,7 @@ impl Draft {
 
     /// The next piece.
     fn take(&mut self, piece: &Piece, gaps: &GapNames) -> Result<(), TmplFault>
-        ensures { MatchResult result (λ _. draft_after gaps.now self.old piece.now ≡ Some self.new) (λ e. MismatchedIfNone e (draft_after gaps.now self.old piece.now)) }
+        ensures { Builds (λ _. self.new) result (draft_after gaps.now self.old piece.now) }
     {
         match piece {
             Piece::Text(text) => self.add(Item::Text(text.copy()?))?,
@@ -195,14 +195,14 @@ impl Draft {
 
 /// The items that the pieces read as. `Mismatched`: the tags don't pair.
 pub fn items_of(alloc: Global, pieces: &[Piece], gaps: &GapNames) -> Result<Items, TmplFault>
-    ensures { MatchResult result (λ f. built gaps.now pieces.now ≡ Some f) (λ e. MismatchedIfNone e (built gaps.now pieces.now)) }
+    ensures { Builds (λ f. f) result (built gaps.now pieces.now) }
 {
-    let mut build = Draft::new(alloc);
+    let mut draft = Draft::new(alloc);
     for piece in pieces {
-        build.take(piece, gaps)?;
+        draft.take(piece, gaps)?;
     }
-    if build.parents.is_empty() {
-        Ok(build.items)
+    if draft.parents.is_empty() {
+        Ok(draft.items)
     } else {
         Err(TmplFault::Mismatched)
     }

@@ -1,5 +1,5 @@
 //! Characters and names at the front of bytes.
-ghost use Rattle.std.specs.Prelude.{◌≡◌, ◌<◌, length, take, drop, ◌≤◌, IfOk, MatchOption, MatchResult, Some, None};
+ghost use Rattle.std.specs.Prelude.{◌≡◌, length, ◌≤◌, IfOk, MatchOption};
 ghost use Rattle.bw_tmpl.specs.Reading as spec;
 
 use crate::fault::TmplFault;
@@ -78,7 +78,7 @@ fn begins(class: NameClass, bytes: &[u8]) -> bool
 /// The longest name of the class at the front, and the bytes behind it.
 #[tactic(auto, using(crate::proofs::Runs::name_utf8))]
 pub fn name_at(alloc: Global, class: NameClass, bytes: &[u8]) -> Result<(Name, &[u8]), TmplFault>
-    ensures { MatchResult result (λ x. spec.name_at class bytes.now ≡ Some (x.0, x.1.now)) (λ e. spec.MalformedIfNone e (spec.name_at class bytes.now)) }
+    ensures { spec.Gives (λ x. (x.0, x.1.now)) result (spec.name_at class bytes.now) }
 {
     if !begins(class, bytes) {
         return Err(TmplFault::Malformed);
@@ -109,7 +109,7 @@ fn ref_at(bytes: &[u8]) -> Option<(u8, &[u8])>
     None
 }
 
-/// A character that is neither `<` nor `stop`, and the bytes behind it.
+/// The character at the front, itself or by a reference, if it is neither `<` nor `stop`, and the bytes behind it.
 fn char_at(stop: u8, bytes: &[u8]) -> Option<(u8, &[u8])>
     ensures { MatchOption result (spec.char_at stop bytes.now ≡ None) (λ x. spec.char_at stop bytes.now ≡ Some (x.0, x.1.now)) }
 {
@@ -125,7 +125,7 @@ fn char_at(stop: u8, bytes: &[u8]) -> Option<(u8, &[u8])>
     Some((*first, &bytes[1..]))
 }
 
-/// The characters at the front, and the bytes behind them.
+/// The characters at the front, as many as there are, and the bytes behind them.
 pub fn chars_at(alloc: Global, stop: u8, bytes: &[u8]) -> Result<(Vec<u8>, &[u8]), Memory>
     ensures { IfOk result (λ x. spec.each (spec.char_at stop) bytes.now ≡ (x.0.items, x.1.now)) }
 {
@@ -144,7 +144,7 @@ pub fn chars_at(alloc: Global, stop: u8, bytes: &[u8]) -> Result<(Vec<u8>, &[u8]
 
 /// A text, if the bytes are UTF-8.
 pub fn checked(alloc: Global, bytes: &[u8]) -> Result<Text, TmplFault>
-    ensures { MatchResult result (λ t. spec.checked bytes.now ≡ Some t) (λ e. spec.MalformedIfNone e (spec.checked bytes.now)) }
+    ensures { spec.Gives (λ t. t) result (spec.checked bytes.now) }
 {
     match str::from_utf8(bytes) {
         Ok(text) => Ok(Text::of(alloc, text)?),

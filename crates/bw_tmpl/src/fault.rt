@@ -8,8 +8,8 @@ use thiserror::Error;
 /// this order.
 #[derive(Clone, Copy, Debug, PartialEq, Eq, Error)]
 pub enum TmplFault {
-    /// The bytes are no list of texts, content gaps, start tags, whole tags and end tags, or, where gaps are not
-    /// allowed, there is one.
+    /// The bytes are no list of texts, content gaps, start tags, whole tags and end tags, a text or a value isn't
+    /// UTF-8, or there is a gap where none is allowed.
     #[error("the template is malformed")]
     Malformed,
     /// A tag names an attribute twice.

@@ -1,5 +1,11 @@
 //! Laws of reading. A law is the contract of an empty function.
-ghost use Rattle.bw_tmpl.specs.Laws.{OneTemplate, NotBoth, OneReason, OneClosedTemplate, NotBothClosed, OneClosedReason, ClosedIsTemplate, ClosedHasNoGap, ReadsMarkup, PlugsMarkup, PlugsTextMarkup, ClosesMarkup, ReadsBack};
+ghost use Rattle.bw_tmpl.specs.Laws.{OneSpelling, OneReading, OneTemplate, NotBoth, OneReason, OneClosedTemplate, NotBothClosed, OneClosedReason, ClosedIsTemplate, ClosedHasNoGap, ReadsMarkup, PlugsMarkup, PlugsTextMarkup, ClosesMarkup, ReadsBack};
+
+/// Bytes are one list of pieces at most, and by a table of names pieces read as one list of items at most.
+pub fn unique()
+    ensures pieces { OneSpelling }
+    ensures items { OneReading }
+{}
 
 /// What reading a template answers is determined: by a table of names bytes are one template at most, and then
 /// there is no reason to refuse them, and otherwise one reason at most.

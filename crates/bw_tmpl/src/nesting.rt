@@ -1,8 +1,8 @@
 //! How deep elements stand inside one another, found from the tags alone, before an item is built.
-ghost use Rattle.std.specs.Prelude.{◌≡◌, ◌≢◌, ◌+◌, ◌≤◌, ◌<◌, ◌^◌, length, IfOk, OnOk, OnErr, [], ◌∷◌, MatchOption, MatchResult};
+ghost use Rattle.std.specs.Prelude.{◌≡◌, ◌≢◌, ◌<◌, ◌^◌, length, OnOk, [], ◌∷◌, MatchOption};
 ghost use Rattle.std.specs.Bool.{MatchBool};
 ghost use Rattle.bw_lang.specs.Names.{same};
-ghost use Rattle.bw_tmpl.specs.Building.{MismatchedIfNone};
+ghost use Rattle.bw_tmpl.specs.Building.{Builds};
 ghost use Rattle.bw_tmpl.specs.Nesting.{no_tags, one_deeper, tag_opened, tag_closed, tags_after, depth};
 
 use crate::fault::TmplFault;
@@ -106,7 +106,7 @@ impl OpenTags {
 
     /// An end tag.
     fn end(&mut self, name: &Name) -> Result<(), TmplFault>
-        ensures { MatchResult result (λ _. tag_closed self.old.names self.old.deepest name.now ≡ Some self.new) (λ e. MismatchedIfNone e (tag_closed self.old.names self.old.deepest name.now)) }
+        ensures { Builds (λ _. self.new) result (tag_closed self.old.names self.old.deepest name.now) }
     {
         let Some(innermost) = self.names.pop() else {
             return Err(TmplFault::Mismatched);
@@ -120,7 +120,7 @@ impl OpenTags {
 
     /// The next piece.
     fn take(&mut self, piece: &Piece) -> Result<(), TmplFault>
-        ensures { MatchResult result (λ _. tags_after self.old piece.now ≡ Some self.new) (λ e. MismatchedIfNone e (tags_after self.old piece.now)) }
+        ensures { Builds (λ _. self.new) result (tags_after self.old piece.now) }
     {
         match piece {
             Piece::Text(_) | Piece::Gap(_) => {}
@@ -140,7 +140,7 @@ impl OpenTags {
 
 /// How many elements stand inside one another at most. `Mismatched`: the tags don't pair.
 pub fn depth_of(alloc: Global, pieces: &[Piece]) -> Result<usize, TmplFault>
-    ensures { MatchResult result (λ n. depth pieces.now ≡ Some n) (λ e. MismatchedIfNone e (depth pieces.now)) }
+    ensures { Builds (λ n. n) result (depth pieces.now) }
 {
     let mut tags = OpenTags::new(alloc);
     for piece in pieces {

@@ -2,9 +2,10 @@
 ghost use Rattle.std.specs.Prelude.{◌≡◌, ◌≢◌, ◌≤◌, ℕ, List, length, MatchResult, OnOk, IfOk, IfErr};
 ghost use Rattle.bw_lang.specs.Documents.{count};
 ghost use Rattle.bw_lang.specs.Names.{with_names, Extends};
+ghost use Rattle.bw_tmpl.specs.Checks.{Passes, Fails};
 ghost use Rattle.bw_tmpl.specs.Gaps.{gap_names};
 ghost use Rattle.bw_tmpl.specs.Spelling.{Spells};
-ghost use Rattle.bw_tmpl.specs.Templates.{IsTemplate, IsRefused, IsClosedTemplate, IsClosedRefused, Passes, Fails};
+ghost use Rattle.bw_tmpl.specs.Templates.{IsTemplate, IsRefused, IsClosedTemplate, IsClosedRefused};
 ghost use Rattle.bw_tmpl.specs.declared.pieces.Piece.{Piece as Piece_};
 
 use crate::building::items_of;

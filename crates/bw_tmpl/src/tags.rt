@@ -1,5 +1,5 @@
 //! Attributes, tags and pieces at the front of bytes.
-ghost use Rattle.std.specs.Prelude.{◌≡◌, length, MatchResult, Some, IfOk};
+ghost use Rattle.std.specs.Prelude.{◌≡◌, IfOk};
 ghost use Rattle.bw_tmpl.specs.Reading as spec;
 ghost use Rattle.bw_tmpl.specs.Reading.{attr_at, piece_at};
 
@@ -12,7 +12,7 @@ use std::alloc::Global;
 /// A value up to its quote, behind the first quote, and the bytes behind it.
 #[tactic(auto, unfolding(crate::specs::Reading::quoted_at))]
 fn quoted_at(alloc: Global, quote: u8, bytes: &[u8]) -> Result<(RawValue, &[u8]), TmplFault>
-    ensures { MatchResult result (λ x. spec.quoted_at quote bytes.now ≡ Some (x.0, x.1.now)) (λ e. spec.MalformedIfNone e (spec.quoted_at quote bytes.now)) }
+    ensures { spec.Gives (λ x. (x.0, x.1.now)) result (spec.quoted_at quote bytes.now) }
 {
     let (text, after) = chars_at(alloc, quote, bytes)?;
     let value = checked(alloc, text.as_slice())?;
@@ -26,7 +26,7 @@ fn quoted_at(alloc: Global, quote: u8, bytes: &[u8]) -> Result<(RawValue, &[u8])
 /// The name of a gap up to `]`, behind `[`, and the bytes behind it.
 #[tactic(auto, unfolding(crate::specs::Reading::hole_at))]
 fn hole_at(alloc: Global, bytes: &[u8]) -> Result<(RawValue, &[u8]), TmplFault>
-    ensures { MatchResult result (λ x. spec.hole_at bytes.now ≡ Some (x.0, x.1.now)) (λ e. spec.MalformedIfNone e (spec.hole_at bytes.now)) }
+    ensures { spec.Gives (λ x. (x.0, x.1.now)) result (spec.hole_at bytes.now) }
 {
     let (name, after) = name_at(alloc, NameClass::Word, bytes)?;
     match after.strip_prefix(b"]") {
@@ -38,7 +38,7 @@ fn hole_at(alloc: Global, bytes: &[u8]) -> Result<(RawValue, &[u8]), TmplFault>
 /// A value, or a gap in its place, and the bytes behind it.
 #[tactic(auto, unfolding(crate::specs::Reading::value_at))]
 fn value_at(alloc: Global, bytes: &[u8]) -> Result<(RawValue, &[u8]), TmplFault>
-    ensures { MatchResult result (λ x. spec.value_at bytes.now ≡ Some (x.0, x.1.now)) (λ e. spec.MalformedIfNone e (spec.value_at bytes.now)) }
+    ensures { spec.Gives (λ x. (x.0, x.1.now)) result (spec.value_at bytes.now) }
 {
     if let Some(rest) = bytes.strip_prefix(b"\"") {
         return quoted_at(alloc, b'"', rest);
@@ -65,7 +65,7 @@ fn begins_blank(bytes: &[u8]) -> bool
 /// An attribute with the blanks in front of it, and the bytes behind it.
 #[tactic(auto, unfolding(crate::specs::Reading::attr_at))]
 fn attr_at(alloc: Global, bytes: &[u8]) -> Result<(RawAttr, &[u8]), TmplFault>
-    ensures { MatchResult result (λ x. spec.attr_at bytes.now ≡ Some (x.0, x.1.now)) (λ e. spec.MalformedIfNone e (spec.attr_at bytes.now)) }
+    ensures { spec.Gives (λ x. (x.0, x.1.now)) result (spec.attr_at bytes.now) }
 {
     if !begins_blank(bytes) {
         return Err(TmplFault::Malformed);
@@ -81,7 +81,7 @@ fn attr_at(alloc: Global, bytes: &[u8]) -> Result<(RawAttr, &[u8]), TmplFault>
 /// A content gap, behind `<[`, and the bytes behind it.
 #[tactic(auto, unfolding(crate::specs::Reading::gap_at))]
 fn gap_at(alloc: Global, bytes: &[u8]) -> Result<(Piece, &[u8]), TmplFault>
-    ensures { MatchResult result (λ x. spec.gap_at bytes.now ≡ Some (x.0, x.1.now)) (λ e. spec.MalformedIfNone e (spec.gap_at bytes.now)) }
+    ensures { spec.Gives (λ x. (x.0, x.1.now)) result (spec.gap_at bytes.now) }
 {
     let (name, after) = name_at(alloc, NameClass::Word, bytes)?;
     match after.strip_prefix(b"]>") {
@@ -93,7 +93,7 @@ fn gap_at(alloc: Global, bytes: &[u8]) -> Result<(Piece, &[u8]), TmplFault>
 /// An end tag, behind `</`, and the bytes behind it.
 #[tactic(auto, unfolding(crate::specs::Reading::end_at))]
 fn end_at(alloc: Global, bytes: &[u8]) -> Result<(Piece, &[u8]), TmplFault>
-    ensures { MatchResult result (λ x. spec.end_at bytes.now ≡ Some (x.0, x.1.now)) (λ e. spec.MalformedIfNone e (spec.end_at bytes.now)) }
+    ensures { spec.Gives (λ x. (x.0, x.1.now)) result (spec.end_at bytes.now) }
 {
     let (name, after) = name_at(alloc, NameClass::Tag, bytes)?;
     match past_blanks(after).strip_prefix(b">") {
@@ -105,7 +105,7 @@ fn end_at(alloc: Global, bytes: &[u8]) -> Result<(Piece, &[u8]), TmplFault>
 /// A text, as long as it can be, and the bytes behind it.
 #[tactic(auto, unfolding(crate::specs::Reading::text_at))]
 fn text_at(alloc: Global, bytes: &[u8]) -> Result<(Piece, &[u8]), TmplFault>
-    ensures { MatchResult result (λ x. spec.text_at bytes.now ≡ Some (x.0, x.1.now)) (λ e. spec.MalformedIfNone e (spec.text_at bytes.now)) }
+    ensures { spec.Gives (λ x. (x.0, x.1.now)) result (spec.text_at bytes.now) }
 {
     let (text, rest) = chars_at(alloc, b'<', bytes)?;
     if text.as_slice().is_empty() {
@@ -136,7 +136,7 @@ fn attrs_at(alloc: Global, bytes: &[u8]) -> Result<(Vec<RawAttr>, &[u8]), Memory
 /// A tag's name, its attributes and the blanks behind them, and the bytes behind these.
 #[tactic(auto, unfolding(crate::specs::Reading::tag_at))]
 fn tag_at(alloc: Global, bytes: &[u8]) -> Result<(Tag, &[u8]), TmplFault>
-    ensures { MatchResult result (λ x. spec.tag_at bytes.now ≡ Some (x.0, x.1.now)) (λ e. spec.MalformedIfNone e (spec.tag_at bytes.now)) }
+    ensures { spec.Gives (λ x. (x.0, x.1.now)) result (spec.tag_at bytes.now) }
 {
     let (name, after) = name_at(alloc, NameClass::Tag, bytes)?;
     let (list, behind) = attrs_at(alloc, after)?;
@@ -147,7 +147,7 @@ fn tag_at(alloc: Global, bytes: &[u8]) -> Result<(Tag, &[u8]), TmplFault>
 /// A start tag or a whole tag, behind `<`, and the bytes behind it.
 #[tactic(auto, unfolding(crate::specs::Reading::whole_at))]
 fn whole_at(alloc: Global, bytes: &[u8]) -> Result<(Piece, &[u8]), TmplFault>
-    ensures { MatchResult result (λ x. spec.whole_at bytes.now ≡ Some (x.0, x.1.now)) (λ e. spec.MalformedIfNone e (spec.whole_at bytes.now)) }
+    ensures { spec.Gives (λ x. (x.0, x.1.now)) result (spec.whole_at bytes.now) }
 {
     let (tag, after) = tag_at(alloc, bytes)?;
     if let Some(rest) = after.strip_prefix(b"/>") {
@@ -162,7 +162,7 @@ fn whole_at(alloc: Global, bytes: &[u8]) -> Result<(Piece, &[u8]), TmplFault>
 /// The piece at the front, and the bytes behind it.
 #[tactic(auto, unfolding(crate::specs::Reading::piece_at))]
 fn next_piece(alloc: Global, bytes: &[u8]) -> Result<(Piece, &[u8]), TmplFault>
-    ensures { MatchResult result (λ x. piece_at bytes.now ≡ Some (x.0, x.1.now)) (λ e. spec.MalformedIfNone e (piece_at bytes.now)) }
+    ensures { spec.Gives (λ x. (x.0, x.1.now)) result (piece_at bytes.now) }
 {
     if let Some(rest) = bytes.strip_prefix(b"<[") {
         return gap_at(alloc, rest);
@@ -197,7 +197,7 @@ fn pieces_at(alloc: Global, bytes: &[u8]) -> Result<(Vec<Piece>, &[u8]), Memory>
 /// The pieces of all of the bytes.
 #[tactic(auto, unfolding(crate::specs::Reading::pieces_of))]
 pub fn pieces_of(alloc: Global, bytes: &[u8]) -> Result<Vec<Piece>, TmplFault>
-    ensures { MatchResult result (λ x. spec.pieces_of bytes.now ≡ Some x.items) (λ e. spec.MalformedIfNone e (spec.pieces_of bytes.now)) }
+    ensures { spec.Gives (λ x. x.items) result (spec.pieces_of bytes.now) }
 {
     let (pieces, rest) = pieces_at(alloc, bytes)?;
     if rest.is_empty() {

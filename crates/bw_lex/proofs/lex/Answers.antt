@@ -1,8 +1,9 @@
-use Rattle.std.proofs.Common.{◌≡◌, ◌⊎◌, ◌∙◌, ◌<◌, arith, length, sym, subst, Result, IfOk, IfErr, Ok, Err}
+use Rattle.std.proofs.Common.{◌≡◌, ◌⊎◌, ◌∙◌, ◌<◌, arith, length, sym, subst, IfOk, IfErr, Ok, Err}
 use Rattle.bw_lex.specs.declared.LexFault.TheVariants.{Memory as OutOfMemory}
 use Rattle.std.specs.Str.Lossy.{utf8_valid_len}
 use Rattle.bw_lex.proofs.Cutting.{if_tokens, if_within, if_only}
 use Rattle.bw_lex.proofs.Passing.{whole, cut_off}
+use Rattle.bw_lex.proofs.Refusing.{if_refused, only_refused}
 use Rattle.bw_lex.proofs.lex.Goals as goal
 
 pub returns-in-Ok : goal.returns-in-Ok
@@ -12,11 +13,13 @@ returns-in-Ok c =
     let read = subst (λ t. IfOk c.scan.result (λ tokens. t ≡ Ok tokens)) scanned c.scan.ensures.ok in
     let fault = subst (λ t. IfErr c.scan.result (λ fault. (fault ≡ OutOfMemory) ⊎ (t ≡ Err fault))) scanned c.scan.ensures.fault in
     record {
-      ok = if_tokens c.scan.result bytes read;
-      only = if_only c.scan.result bytes read fault;
-      spans = if_within c.scan.result bytes read;
-      read = read;
+      tokens = if_tokens c.scan.result bytes read;
+      only_tokens = if_only c.scan.result bytes read fault;
+      refused = if_refused c.scan.result bytes fault;
+      only_refused = only_refused c.scan.result bytes read fault;
+      ok = read;
       fault = fault;
+      spans = if_within c.scan.result bytes read;
     }
 
 pub returns-in-Err : goal.returns-in-Err
@@ -29,9 +32,11 @@ returns-in-Err c =
     let read = subst (λ t. IfOk c.scan-in-Err.result (λ tokens. t ≡ Ok tokens)) scanned c.scan-in-Err.ensures.ok in
     let fault = subst (λ t. IfErr c.scan-in-Err.result (λ fault. (fault ≡ OutOfMemory) ⊎ (t ≡ Err fault))) scanned c.scan-in-Err.ensures.fault in
     record {
-      ok = if_tokens c.scan-in-Err.result bytes read;
-      only = if_only c.scan-in-Err.result bytes read fault;
-      spans = if_within c.scan-in-Err.result bytes read;
-      read = read;
+      tokens = if_tokens c.scan-in-Err.result bytes read;
+      only_tokens = if_only c.scan-in-Err.result bytes read fault;
+      refused = if_refused c.scan-in-Err.result bytes fault;
+      only_refused = only_refused c.scan-in-Err.result bytes read fault;
+      ok = read;
       fault = fault;
+      spans = if_within c.scan-in-Err.result bytes read;
     }

@@ -1,8 +1,8 @@
-use Rattle.std.proofs.Common.{◌≡◌, ◌∙◌, ap, sym, subst, arith, inr, drop, length, List, [], ◌∷◌, ◌++◌, ◌+◌, ◌-◌, ◌≤◌, Ok, Err, refl}
+use Rattle.std.proofs.Common.{◌∙◌, ap, sym, arith, inr, drop, length, [], ◌∷◌, ◌+◌, ◌-◌, ◌≤◌, Ok, Err, refl}
 use Rattle.std.proofs.lemmas.List.{drop_all}
 use Rattle.bw_lang.specs.declared.token.Token.{Token}
 use Rattle.bw_lex.specs.declared.pieces.Piece.TheVariants as pieces
-use Rattle.bw_lex.specs.Tokens.{scan, onto, with_rest, fault_at}
+use Rattle.bw_lex.specs.Tokens.{scan, onto}
 use Rattle.bw_lex.proofs.Passing.{ends_there, goes_on, stops, onto-onto, end_bad, end_good}
 use Rattle.bw_lex.proofs.Utf8.{behind_quote}
 use Rattle.bw_lex.proofs.scan.Goals as goal
@@ -55,9 +55,9 @@ loop-at-preserved c =
     record {
       within = omega (arith, ends.1);
       value = c.loop-at.invariant.value
-        ∙ ap (onto c.loop-at.tokens.items) (goes_on c.args.bad at n c.args.bytes.now c.in_ok-len.field-0 q c.in_ok-len.ensures c.in-Token.is refl ends.0 ends.1)
-        ∙ onto-onto c.loop-at.tokens.items (token ∷ []) rest
-        ∙ ap (λ ts. onto ts rest) (sym c.in_ok-push-in-Token.ensures.items);
+          ∙ ap (onto c.loop-at.tokens.items) (goes_on c.args.bad at n c.args.bytes.now c.in_ok-len.field-0 q c.in_ok-len.ensures c.in-Token.is refl ends.0 ends.1)
+          ∙ onto-onto c.loop-at.tokens.items (token ∷ []) rest
+          ∙ ap (λ ts. onto ts rest) (sym c.in_ok-push-in-Token.ensures.items);
     }
 
 pub overflow_add-at-in-Fault : goal.overflow_add-at-in-Fault
@@ -68,14 +68,14 @@ overflow_add-at-in-Fault c =
 pub returns-in-Fault-clause-fault : goal.returns-in-Fault-clause-fault
 returns-in-Fault-clause-fault c =
     inr (c.loop-at.invariant.value
-      ∙ ap (onto c.loop-at.tokens.items) (stops c.args.bad c.loop-at.at c.in-Fault.len c.args.bytes.now c.in_ok-len.field-0 c.in-Fault.kind c.loop-at-test.true c.in_ok-len.ensures c.in-Fault.is)
-      ∙ ap (λ e. Err e) (sym c.fault_at.ensures))
+    ∙ ap (onto c.loop-at.tokens.items) (stops c.args.bad c.loop-at.at c.in-Fault.len c.args.bytes.now c.in_ok-len.field-0 c.in-Fault.kind c.loop-at-test.true c.in_ok-len.ensures c.in-Fault.is)
+    ∙ ap (λ e. Err e) (sym c.fault_at.ensures))
 
 pub returns-then-bad-clause-fault : goal.returns-then-bad-clause-fault
 returns-then-bad-clause-fault c =
     inr (c.loop-at.invariant.value
-      ∙ (λ i. onto c.loop-at.tokens.items (scan (c.if-bad.true i) 0 c.loop-at.at (drop_all c.loop-at.at c.args.bytes.now c.loop-at-test.false i)))
-      ∙ end_bad c.loop-at.at c.loop-at.tokens.items)
+    ∙ (λ i. onto c.loop-at.tokens.items (scan (c.if-bad.true i) 0 c.loop-at.at (drop_all c.loop-at.at c.args.bytes.now c.loop-at-test.false i)))
+    ∙ end_bad c.loop-at.at c.loop-at.tokens.items)
 
 pub returns-else-bad-clause-ok : goal.returns-else-bad-clause-ok
 returns-else-bad-clause-ok c =

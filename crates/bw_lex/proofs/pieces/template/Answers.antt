@@ -1,5 +1,4 @@
-use Rattle.std.proofs.Common.{◌∙◌, ap, false, if◌then◌else◌, ◌+◌, drop}
-use Rattle.bw_lang.specs.declared.token.TokenKind.TheVariants as kinds
+use Rattle.std.proofs.Common.{◌∙◌, false}
 use Rattle.bw_lex.proofs.Templates.{template-more}
 use Rattle.bw_lex.proofs.pieces.template.Goals as goal
 

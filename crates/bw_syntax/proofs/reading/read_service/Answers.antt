@@ -6,4 +6,4 @@ use Rattle.bw_syntax.proofs.reading.read_service.Goals as goal
 
 pub returns-in-Some-clause-not_yet : goal.returns-in-Some-clause-not_yet
 returns-in-Some-clause-not_yet c = λ e.
-    no_reading _ _ _ _ c.in-Ok.ensures.ok (c.in_ok-lexemes.ensures ∙ ap (map (lexeme c.args.bytes.now)) c.as_slice.ensures) (ap says (sym c.deref.ensures.value) ∙ c.in-Some.ensures.found) (c.service_from.ensures.not_yet e)
+    no_reading _ _ _ _ c.in-Ok.ensures.tokens (c.in_ok-lexemes.ensures ∙ ap (map (lexeme c.args.bytes.now)) c.as_slice.ensures) (ap says (sym c.deref.ensures.value) ∙ c.in-Some.ensures.found) (c.service_from.ensures.not_yet e)

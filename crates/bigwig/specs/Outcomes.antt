@@ -1,0 +1,65 @@
+-- What the program comes to: its status, the keys that it leaves, and what it prints.
+use Rattle.std.specs.Prelude.{◌≡◌, ◌⊎◌, ℕ, List, [], ◌∷◌, ◌++◌, None, Some, IfSome, codes}
+use Rattle.std.specs.declared.option.Option.{Option}
+use Rattle.std.specs.Io.KnownBytes.{Appends}
+use Rattle.bw_lang.specs.declared.service.Service.{Service}
+use Rattle.bw_out.specs.Causes.{Rose}
+use Rattle.bw_out.specs.Told.{Disk}
+use Rattle.bw_syntax.specs.Reads.{Reads, ReadsNothing}
+use Rattle.bigwig.specs.Commands.{command_of, replay}
+use Rattle.bigwig.specs.Runs.{Run}
+use Rattle.bigwig.specs.declared.status.Status.{Status}
+use Rattle.bigwig.specs.declared.status.Status.TheVariants.{Done, Usage, ServiceRefused, ReadFault, WriteFault, Memory, NoFile}
+
+-- a line with its end
+abbrev pub line : List ℕ → List ℕ
+line text = text ++ 10 ∷ []
+
+abbrev pub usage_line : List ℕ
+usage_line = line (codes "usage: bigwig check SERVICE | replay SERVICE REQUESTS | serve SERVICE | valid PAGE | make N")
+
+abbrev pub not_yet_line : List ℕ
+not_yet_line = line (codes "not yet")
+
+abbrev pub no_file_line : List ℕ → List ℕ
+no_file_line name = codes "no file " ++ line name
+
+-- What is due by the words, the files and the keys to come: a status, the keys that are left, and the bytes printed.
+-- One case for each row of the table of outcomes, in the order in which they are decided.
+pub data Due (words : List (List ℕ)) (disk : Disk) (keys : List ℕ) : Status → List ℕ → List ℕ → Type 0 where
+  usage : {left bytes : List ℕ} → command_of words ≡ None → left ≡ keys → bytes ≡ usage_line → Due words disk keys Usage left bytes
+  no_service : {left bytes : List ℕ} (service requests : List ℕ) → command_of words ≡ Some (replay service requests)
+      → disk service ≡ None → left ≡ keys → bytes ≡ no_file_line service → Due words disk keys NoFile left bytes
+  refused : {left bytes : List ℕ} (service requests content : List ℕ) → command_of words ≡ Some (replay service requests)
+      → disk service ≡ Some content → ReadsNothing content → left ≡ keys → bytes ≡ not_yet_line → Due words disk keys ServiceRefused left bytes
+  no_requests : {left bytes : List ℕ} (service requests content : List ℕ) (tree : Service) → command_of words ≡ Some (replay service requests)
+      → disk service ≡ Some content → Reads content tree → disk requests ≡ None → left ≡ keys → bytes ≡ no_file_line requests → Due words disk keys NoFile left bytes
+  served : {left bytes : List ℕ} (service requests content stream : List ℕ) (tree : Service) → command_of words ≡ Some (replay service requests)
+      → disk service ≡ Some content → Reads content tree → disk requests ≡ Some stream → Run tree stream keys left bytes → Due words disk keys Done left bytes
+
+-- What comes of what is due: the whole of it; a read fault or want of memory, with nothing printed and no key drawn;
+-- or a write fault, with a first part of what was due printed.
+pub data Comes (due : Status → List ℕ → List ℕ → Type 0) (keys : List ℕ) : Status → List ℕ → List ℕ → Type 0 where
+  whole : {status : Status} {left bytes : List ℕ} → due status left bytes → Comes due keys status left bytes
+  read_fault : {left bytes : List ℕ} → left ≡ keys → bytes ≡ [] → Comes due keys ReadFault left bytes
+  write_fault : {left bytes : List ℕ} (status : Status) (all rest : List ℕ) → due status left all → bytes ++ rest ≡ all → Comes due keys WriteFault left bytes
+  memory : {left bytes : List ℕ} → left ≡ keys → bytes ≡ [] → Comes due keys Memory left bytes
+
+-- the keys that are left, and the bytes that were appended to what was held, are so related
+abbrev pub Leaves : Option (List ℕ) → Option (List ℕ) → Option (List ℕ) → (List ℕ → List ℕ → Type 0) → Type 0
+Leaves keys held now fact = (left bytes : List ℕ) × (keys ≡ Some left) × Appends held now bytes × fact left bytes
+
+-- The text was printed, and the status is this one; or a first part of the text was, and it is a write fault.
+abbrev pub Prints : Option (List ℕ) → Option (List ℕ) → Status → List ℕ → Status → Type 0
+Prints held now status text result =
+    (bytes : List ℕ) × Appends held now bytes × (((result ≡ status) × (bytes ≡ text)) ⊎ ((result ≡ WriteFault) × (rest : List ℕ) × (bytes ++ rest ≡ text)))
+
+-- what a run comes to by these words, where the files and the keys tell
+abbrev pub ComesBy : Option Disk → Option (List ℕ) → Option (List ℕ) → Option (List ℕ) → Option (List ℕ) → List (List ℕ) → Status → Type 0
+ComesBy told coming later held now words status =
+    IfSome told (λ disk. IfSome coming (λ keys. Leaves later held now (Comes (Due words disk keys) keys status)))
+
+-- a fact shows as a rise of a count, and without it the count stands
+pub record Shows (fact : Type 0) (before now : ℕ) : Type 0 where
+  pub only : fact → Rose before now
+  pub other : (fact → ⊥) → now ≡ before
