@@ -43,14 +43,16 @@ fewer_behind s name rest n more a =
     let k = n - length text in
     let fits : length text ≤ 16384 = omega (arith, a.short, ap length parts, length-append text rest) in
     let split : n ≡ length text + k = omega arith in
-    let front : take n s ≡ text ++ take k rest = ap (take n) parts ∙ ap (λ m. take m (text ++ rest)) split ∙ take-append-add text rest k in
-    (take k rest, record {
-      host = a.host;
-      is_host = a.is_host;
-      is_name = a.is_name;
-      spelt = front ∙ text-append name a.host (take k rest);
-      short = omega (arith, ap length front, length-append text (take k rest));
-    })
+    let front : take n s ≡ text ++ take k rest = ap (take n) parts ∙ ap (λ m. take m (text ++ rest)) split ∙ take-append-add text rest k in (
+      take k rest,
+      record {
+        host = a.host;
+        is_host = a.is_host;
+        is_name = a.is_name;
+        spelt = front ∙ text-append name a.host (take k rest);
+        short = omega (arith, ap length front, length-append text (take k rest));
+      },
+    )
 
 nothing_whole : (s : List ℕ) (n : ℕ) → 16384 < n → AsksNothing (take n s) → AsksNothing s
 nothing_whole s n more none name rest a = let less = fewer_behind s name rest n more a in none name less.0 less.1

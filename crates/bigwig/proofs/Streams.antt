@@ -56,9 +56,13 @@ pub replied : (service : Service) (stream name rest : List ℕ) (reply : Reply) 
 replied service stream name rest reply None later a b c key e asks is draws w more = tt
 replied service stream name rest reply (Some ks) later a b c key end.Ended asks is draws w more =
     (later_keys ks, bytes_of reply ++ more.0, draws.1, Appends-trans a b c (bytes_of reply) more.0 w more.2, due_of service stream name rest ks more.0 reply asks is more.1)
-replied service stream name rest reply (Some ks) later a b c key end.WriteFault asks is draws w more =
-    (later_keys ks, bytes_of reply ++ more.0, draws.1, due_of service stream name rest ks more.0 reply asks is more.1,
-    (bytes_of reply ++ more.2.0, more.2.1, append_assoc (bytes_of reply) more.2.0 more.2.1 ∙ ap (λ l. bytes_of reply ++ l) more.2.2, Appends-trans a b c (bytes_of reply) more.2.0 w more.2.3))
+replied service stream name rest reply (Some ks) later a b c key end.WriteFault asks is draws w more = (
+  later_keys ks,
+  bytes_of reply ++ more.0,
+  draws.1,
+  due_of service stream name rest ks more.0 reply asks is more.1,
+  (bytes_of reply ++ more.2.0, more.2.1, append_assoc (bytes_of reply) more.2.0 more.2.1 ∙ ap (λ l. bytes_of reply ++ l) more.2.2, Appends-trans a b c (bytes_of reply) more.2.0 w more.2.3),
+)
 replied service stream name rest reply (Some ks) later a b c key end.ReadFault asks is draws w more = absurd more
 
 -- the reply to it was begun
@@ -67,6 +71,10 @@ pub reply_stopped : (service : Service) (stream name rest : List ℕ) (reply : R
     → IfSome coming (λ ks. Serves service stream ks later a b end.WriteFault)
 reply_stopped service stream name rest reply None later a b key asks is draws w = tt
 reply_stopped service stream name rest reply (Some ks) later a b key asks is draws w =
-    let more = ends_so rest in
-    (later_keys ks, bytes_of reply ++ more.0, draws.1, due_of service stream name rest ks more.0 reply asks is more.1,
-    (w.0, w.1 ++ more.0, sym (append_assoc w.0 w.1 more.0) ∙ ap (λ l. l ++ more.0) w.2, w.3))
+    let more = ends_so rest in (
+      later_keys ks,
+      bytes_of reply ++ more.0,
+      draws.1,
+      due_of service stream name rest ks more.0 reply asks is more.1,
+      (w.0, w.1 ++ more.0, sym (append_assoc w.0 w.1 more.0) ∙ ap (λ l. l ++ more.0) w.2, w.3),
+    )

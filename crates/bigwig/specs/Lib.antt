@@ -1,4 +1,5 @@
 pub mod Commands
+pub mod Laws
 pub mod Meaning
 pub mod Outcomes
 pub mod Replies

@@ -2,12 +2,14 @@
 #![tactic(auto)]
 
 mod command;
+mod laws;
+mod program;
 mod reply;
 mod request;
-mod program;
 mod serving;
 mod status;
 mod stream;
 
+pub use laws::{one_answer, one_outcome};
 pub use program::run;
 pub use status::Status;

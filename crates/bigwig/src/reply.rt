@@ -33,7 +33,12 @@ pub fn write_reply<W: Sink>(reply: &Reply, sink: &mut W) -> Result<(), WriteFaul
 {
     match reply {
         Reply::Final(sheet) => {
-            write_message(b"200 OK", b"text/html; charset=utf-8", sheet.as_bytes(), sink)
+            write_message(
+                b"200 OK",
+                b"text/html; charset=utf-8",
+                sheet.as_bytes(),
+                sink,
+            )
         }
         Reply::NoSuch => write_text(b"404 Not Found", b"no such page\n", sink),
         Reply::Bad => write_text(b"400 Bad Request", b"bad request\n", sink),
@@ -87,9 +92,6 @@ fn write_length<W: Sink>(length: usize, sink: &mut W) -> Result<(), WriteFault>
     let mut digits = Buffer::new();
     write_parts(
         sink,
-        &[
-            b"\r\nContent-Length: ",
-            digits.format(length).as_bytes(),
-        ],
+        &[b"\r\nContent-Length: ", digits.format(length).as_bytes()],
     )
 }

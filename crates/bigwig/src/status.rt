@@ -27,8 +27,7 @@ pub enum Status {
 
 impl Status {
     /// The exit code.
-    pub fn code(self) -> u8
-    {
+    pub fn code(self) -> u8 {
         match self {
             Status::Done => 0,
             Status::Usage => 2,

@@ -47,9 +47,7 @@ fn exit_after<'a, 'b>(lexemes: &'b [Lexeme<'a>]) -> Option<(&'a str, &'b [Lexeme
 }
 
 /// A session at the front: its name and the name of the page that it exits with, and what follows it.
-fn session_after<'a, 'b>(
-    lexemes: &'b [Lexeme<'a>],
-) -> Option<(&'a str, &'a str, &'b [Lexeme<'a>])>
+fn session_after<'a, 'b>(lexemes: &'b [Lexeme<'a>]) -> Option<(&'a str, &'a str, &'b [Lexeme<'a>])>
     ensures found { IfSome result (λ x. says lexemes.now ≡ spell_session x.0.now x.1.now (says x.2.now)) }
     ensures free { IfSome result (λ x. IsFree x.0.now) }
     ensures free_page { IfSome result (λ x. IsFree x.1.now) }

@@ -27,13 +27,7 @@ pub fn after_word<'a, 'b>(which: &str, lexemes: &'b [Lexeme<'a>]) -> Option<&'b 
     ensures none { IfNone result ((rest : List Said) → says lexemes.now ≡ word which.now ∷ rest → ⊥) }
 {
     match lexemes {
-        [Lexeme::Word(other), rest @ ..] => {
-            if *other == which {
-                Some(rest)
-            } else {
-                None
-            }
-        }
+        [Lexeme::Word(other), rest @ ..] => { if *other == which { Some(rest) } else { None } }
         _ => None,
     }
 }
@@ -44,13 +38,7 @@ pub fn after_sign<'a, 'b>(which: &[u8], lexemes: &'b [Lexeme<'a>]) -> Option<&'b
     ensures none { IfNone result ((rest : List Said) → says lexemes.now ≡ sign which.now ∷ rest → ⊥) }
 {
     match lexemes {
-        [Lexeme::Sign(other), rest @ ..] => {
-            if *other == which {
-                Some(rest)
-            } else {
-                None
-            }
-        }
+        [Lexeme::Sign(other), rest @ ..] => { if *other == which { Some(rest) } else { None } }
         _ => None,
     }
 }

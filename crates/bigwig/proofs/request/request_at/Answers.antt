@@ -36,6 +36,6 @@ returns-clause-found c = record {
   is_host = c.in_ok-_host.ensures.host;
   is_name = c.in_ok-name.ensures.word;
   spelt = c.in_ok-line.ensures.found ∙ ap (λ l. codes "GET /" ++ l) (c.in_ok-name.ensures.found ∙ ap (λ l. c.in_ok-name.name.now ++ l) (c.in_ok-field.ensures.found
-    ∙ ap (λ l. before_host ++ l) (c.in_ok-_host.ensures.found ∙ ap (λ l. c.in_ok-_host._host.now ++ l) c.in_ok-rest.ensures.found)));
+      ∙ ap (λ l. before_host ++ l) (c.in_ok-_host.ensures.found ∙ ap (λ l. c.in_ok-_host._host.now ++ l) c.in_ok-rest.ensures.found)));
   short = c.if-bytes-rest.false;
 }

@@ -1,0 +1,75 @@
+//! The program: it makes the real files, standard output and session keys, hands them to `run`, and ends with the
+//! code of its status.
+#![tactic(auto)]
+
+ghost use Rattle.std.specs.Prelude.{◌≡◌, ◌<◌};
+
+use bigwig::{Status, run};
+use bw_lang::{Memory, Text, Words};
+use bw_out::{DiskFiles, MemDoor, Quiet, RandomKeys, Steps, Writing};
+use rand_chacha::ChaCha20Rng;
+use std::alloc::Global;
+use std::io::ErrorKind;
+use std::marker::Brand;
+use std::process::ExitCode;
+use std::sync::ledger::{Blank, Ledger};
+use std::{env, io};
+
+/// The exit code where the key generator can't be seeded.
+const NO_KEYS: u8 = 14;
+
+fn main(rt: HostRuntime) -> ExitCode {
+    let generator: ChaCha20Rng = match rand::make_rng(&rt) {
+        Ok(generator) => generator,
+        Err(_) => {
+            let _ = eprintln!(rt; "no keys");
+            return ExitCode::from(NO_KEYS);
+        }
+    };
+    match command_line(&rt) {
+        Ok(words) => ExitCode::from(counted::<Brand>(rt, &words, generator, Blank::new(1)).code()),
+        Err(Memory) => ExitCode::from(Status::Memory.code()),
+    }
+}
+
+/// The words behind the program's own name. Where one of them isn't UTF-8 there are none, so that they are refused.
+fn command_line(rt: &HostRuntime) -> Result<Words, Memory> {
+    let mut words = Words::new(rt.alloc());
+    match env::args(rt) {
+        Ok(args) => {
+            for word in args.skip(1) {
+                words.push(Text::from_string(word))?;
+            }
+        }
+        Err(error) => {
+            if error.kind() == ErrorKind::OutOfMemory {
+                return Err(Memory);
+            }
+        }
+    }
+    Ok(words)
+}
+
+/// Runs the program over the real things, with a count of steps that nobody reads.
+fn counted<L: Ledger>(
+    rt: HostRuntime,
+    words: &Words,
+    generator: ChaCha20Rng,
+    blank: Blank,
+) -> Status
+    requires name { blank.name ≡ L.name }
+    requires parts { blank.parts ≡ L.parts }
+    requires some { 0 < blank.parts }
+{
+    let alloc: Global = rt.alloc();
+    let Ok(mut door) = MemDoor::new(alloc, Vec::new(alloc)) else {
+        return Status::Memory;
+    };
+    let mut steps: Steps<L> = Steps::new(blank);
+    let mut out = Writing::new(io::writer(&rt));
+    let mut files = DiskFiles::new(&rt);
+    let mut keys = RandomKeys::new(generator);
+    run(
+        alloc, words, &mut files, &mut door, &mut keys, &mut out, &Quiet, &mut steps,
+    )
+}
