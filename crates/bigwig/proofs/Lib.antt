@@ -1,7 +1,10 @@
 pub mod Asking
 pub mod Coming
+pub mod Follows
 pub mod Fronts
+pub mod Intakes
 pub mod Messages
 pub mod OneOutcome
 pub mod Runs
 pub mod Streams
+pub mod Taking

@@ -1,9 +1,9 @@
 -- The bytes of a message, put together from the parts that are written.
-use Rattle.std.proofs.Common.{◌≡◌, ℕ, List, [], ◌++◌, codes, length, ap, sym, ◌∙◌, append_assoc, append-nil, subst, Result}
+use Rattle.std.proofs.Common.{◌≡◌, ℕ, List, [], ◌++◌, codes, length, ap, ◌∙◌, append_assoc, append-nil, subst, Result}
 use Rattle.std.specs.Prelude.{decimal}
 use Rattle.std.specs.declared.option.Option.{Option}
 use Rattle.bw_out.specs.Writes.{Writes}
-use Rattle.bigwig.specs.Replies.{Reply, message, length_field, bytes_of, html_type, text_type, final}
+use Rattle.bigwig.specs.Replies.{message, length_field}
 
 abbrev pub head_end : List ℕ
 head_end = codes "\r\nCache-Control: no-store\r\nConnection: close\r\n\r\n"

@@ -1,11 +1,10 @@
 -- Laws of outcomes and of runs.
-use Rattle.std.specs.Prelude.{◌≡◌, ◌⊎◌, ℕ, List, ◌++◌}
+use Rattle.std.specs.Prelude.{◌≡◌, ◌⊎◌, ℕ, List}
 use Rattle.bw_lang.specs.declared.service.Service.{Service}
 use Rattle.bw_out.specs.Told.{Disk}
 use Rattle.bigwig.specs.Outcomes.{Due, Comes}
-use Rattle.bigwig.specs.Replies.{memory, bytes_of}
-use Rattle.bigwig.specs.Requests.{Asks}
-use Rattle.bigwig.specs.Runs.{Ends, Run}
+use Rattle.bigwig.specs.Requests.{Path, Asks}
+use Rattle.bigwig.specs.Runs.{Run, WantsMemory}
 use Rattle.bigwig.specs.declared.status.Status.{Status}
 use Rattle.bigwig.specs.declared.status.Status.TheVariants.{ReadFault, WriteFault, Memory}
 
@@ -17,23 +16,20 @@ OneStatusIsDue =
 -- the program comes to the status that is due, unless a count rose or there was no memory
 abbrev pub ComesWhereDue : Type 0
 ComesWhereDue =
-    (words : List (List ℕ)) (disk : Disk) (keys : List ℕ) (s t : Status) (left bytes later others : List ℕ) → Due words disk keys s left bytes → Comes (Due words disk keys) keys t later others
+    (words : List (List ℕ)) (disk : Disk) (keys : List ℕ) (s t : Status) (left bytes later others : List ℕ) → Due words disk keys s left bytes → Comes words disk keys t later others
     → (t ≡ s) ⊎ ((t ≡ ReadFault) ⊎ ((t ≡ WriteFault) ⊎ (t ≡ Memory)))
 
 -- a request is at the front of its bytes in one way
 abbrev pub AsksOnce : Type 0
-AsksOnce = (bytes name rest other more : List ℕ) → Asks bytes name rest → Asks bytes other more → (name ≡ other) × (rest ≡ more)
+AsksOnce = (bytes rest more : List ℕ) (path other : Path) → Asks bytes path rest → Asks bytes other more → (path ≡ other) × (rest ≡ more)
 
 -- a stream leaves the same keys however it is answered
 abbrev pub LeavesOnce : Type 0
-LeavesOnce = (service : Service) (stream keys left all later others : List ℕ) → Run service stream keys left all → Run service stream keys later others → left ≡ later
+LeavesOnce =
+    (service : Service) (stream keys left all later others : List ℕ) (most : ℕ) → Run service stream keys most left all → Run service stream keys most later others → left ≡ later
 
--- one of the two answers says that there was no memory for the page
-abbrev pub WantsMemory : List ℕ → List ℕ → List ℕ → Type 0
-WantsMemory stream all others =
-    (name rest more : List ℕ) × Asks stream name rest × Ends rest more × ((all ≡ bytes_of memory ++ more) ⊎ (others ≡ bytes_of memory ++ more))
-
--- and it is answered by the same bytes, unless there was no memory for a page
+-- and it is answered by the same bytes, unless there was no memory for a reply
 abbrev pub AnswersOnce : Type 0
 AnswersOnce =
-    (service : Service) (stream keys left all later others : List ℕ) → Run service stream keys left all → Run service stream keys later others → (all ≡ others) ⊎ WantsMemory stream all others
+    (service : Service) (stream keys left all later others : List ℕ) (most : ℕ) (one : Run service stream keys most left all) (other : Run service stream keys most later others)
+    → (all ≡ others) ⊎ (WantsMemory one ⊎ WantsMemory other)

@@ -8,3 +8,4 @@ pub mod Runs
 pub mod Sent
 pub mod Stops
 pub mod Streams
+pub mod Takes

@@ -1,5 +1,5 @@
--- What a service answers to a request for a name.
-use Rattle.std.specs.Prelude.{ℕ, List, [], ◌∷◌, bytes_eq, if◌then◌else◌}
+-- What a service answers to a request for a path.
+use Rattle.std.specs.Prelude.{ℕ, List, [], ◌∷◌, ◌++◌, bytes_eq, if◌then◌else◌}
 use Rattle.bw_lang.specs.declared.service.Service.{Service}
 use Rattle.bw_lang.specs.declared.service.Template.{Template}
 use Rattle.bw_lang.specs.declared.service.Session.{Session}
@@ -10,7 +10,9 @@ use Rattle.bw_lang.specs.declared.service.Expr.TheVariants.{Name}
 use Rattle.bw_lang.specs.Forest.{Forest, none}
 use Rattle.bw_lang.specs.Print.{print}
 use Rattle.bw_page.specs.Pages.{exit_page}
+use Rattle.bigwig.specs.Replies as replies
 use Rattle.bigwig.specs.Replies.{Reply, final, no_such}
+use Rattle.bigwig.specs.Requests.{Path, index, start}
 
 -- the document of the template of this name (and an empty one where there is none, which no service has that is read)
 abbrev pub template_of : List Template → List ℕ → Forest
@@ -35,6 +37,12 @@ abbrev pub reply_among : Service → List Session → List ℕ → Reply
 reply_among service [] name = no_such
 reply_among service (s ∷ sessions) name = if bytes_eq s.name name then final (last_page service s.body) else reply_among service sessions name
 
--- the reply to a request for a name
-abbrev pub reply_to : Service → List ℕ → Reply
-reply_to service name = reply_among service service.sessions name
+-- the names of the sessions in source order, each with the end of a line
+abbrev pub names_of : List Session → List ℕ
+names_of [] = []
+names_of (s ∷ sessions) = (s.name ++ 10 ∷ []) ++ names_of sessions
+
+-- the reply to a request for a path
+abbrev pub reply_to : Service → Path → Reply
+reply_to service index = replies.index (names_of service.sessions)
+reply_to service (start name) = reply_among service service.sessions name

@@ -1,5 +1,5 @@
 -- What the program comes to: its status, the keys that it leaves, and what it prints.
-use Rattle.std.specs.Prelude.{◌≡◌, ◌⊎◌, ℕ, List, [], ◌∷◌, ◌++◌, None, Some, IfSome, codes}
+use Rattle.std.specs.Prelude.{◌≡◌, ◌≢◌, ◌⊎◌, ℕ, List, [], ◌∷◌, ◌++◌, None, Some, IfSome, codes}
 use Rattle.std.specs.declared.option.Option.{Option}
 use Rattle.std.specs.Io.KnownBytes.{Appends}
 use Rattle.bw_lang.specs.declared.service.Service.{Service}
@@ -7,7 +7,7 @@ use Rattle.bw_out.specs.Causes.{Rose}
 use Rattle.bw_out.specs.Told.{Disk}
 use Rattle.bw_syntax.specs.Reads.{Reads, ReadsNothing}
 use Rattle.bigwig.specs.Commands.{command_of, replay}
-use Rattle.bigwig.specs.Runs.{Run}
+use Rattle.bigwig.specs.Runs.{Run, IsCutShort, IsBroken}
 use Rattle.bigwig.specs.declared.status.Status.{Status}
 use Rattle.bigwig.specs.declared.status.Status.TheVariants.{Done, Usage, ServiceRefused, ReadFault, WriteFault, Memory, NoFile}
 
@@ -24,6 +24,16 @@ not_yet_line = line (codes "not yet")
 abbrev pub no_file_line : List ℕ → List ℕ
 no_file_line name = codes "no file " ++ line name
 
+-- the words name a file that reads as this service, and a file of these requests
+pub record Replays (words : List (List ℕ)) (disk : Disk) (tree : Service) (stream : List ℕ) : Type 0 where
+  pub service : List ℕ
+  pub requests : List ℕ
+  pub content : List ℕ
+  pub asked : command_of words ≡ Some (replay service requests)
+  pub found : disk service ≡ Some content
+  pub reads : Reads content tree
+  pub given : disk requests ≡ Some stream
+
 -- What is due by the words, the files and the keys to come: a status, the keys that are left, and the bytes printed.
 -- One case for each row of the table of outcomes, in the order in which they are decided.
 pub data Due (words : List (List ℕ)) (disk : Disk) (keys : List ℕ) : Status → List ℕ → List ℕ → Type 0 where
@@ -34,16 +44,22 @@ pub data Due (words : List (List ℕ)) (disk : Disk) (keys : List ℕ) : Status 
       → disk service ≡ Some content → ReadsNothing content → left ≡ keys → bytes ≡ not_yet_line → Due words disk keys ServiceRefused left bytes
   no_requests : {left bytes : List ℕ} (service requests content : List ℕ) (tree : Service) → command_of words ≡ Some (replay service requests)
       → disk service ≡ Some content → Reads content tree → disk requests ≡ None → left ≡ keys → bytes ≡ no_file_line requests → Due words disk keys NoFile left bytes
-  served : {left bytes : List ℕ} (service requests content stream : List ℕ) (tree : Service) → command_of words ≡ Some (replay service requests)
-      → disk service ≡ Some content → Reads content tree → disk requests ≡ Some stream → Run tree stream keys left bytes → Due words disk keys Done left bytes
+  served : {left bytes : List ℕ} (tree : Service) (stream : List ℕ) → Replays words disk tree stream → Run tree stream keys 1000000 left bytes
+      → Due words disk keys Done left bytes
 
--- What comes of what is due: the whole of it; a read fault or want of memory, with nothing printed and no key drawn;
--- or a write fault, with a first part of what was due printed.
-pub data Comes (due : Status → List ℕ → List ℕ → Type 0) (keys : List ℕ) : Status → List ℕ → List ℕ → Type 0 where
-  whole : {status : Status} {left bytes : List ℕ} → due status left bytes → Comes due keys status left bytes
-  read_fault : {left bytes : List ℕ} → left ≡ keys → bytes ≡ [] → Comes due keys ReadFault left bytes
-  write_fault : {left bytes : List ℕ} (status : Status) (all rest : List ℕ) → due status left all → bytes ++ rest ≡ all → Comes due keys WriteFault left bytes
-  memory : {left bytes : List ℕ} → left ≡ keys → bytes ≡ [] → Comes due keys Memory left bytes
+-- What comes of what is due: the whole of it; a read fault or want of memory, with nothing printed and no key drawn; a
+-- write fault, with a first part of a line printed; or a fault in the midst of the requests, where each request before
+-- it was answered whole.
+pub data Comes (words : List (List ℕ)) (disk : Disk) (keys : List ℕ) : Status → List ℕ → List ℕ → Type 0 where
+  whole : {status : Status} {left bytes : List ℕ} → Due words disk keys status left bytes → Comes words disk keys status left bytes
+  read_fault : {left bytes : List ℕ} → left ≡ keys → bytes ≡ [] → Comes words disk keys ReadFault left bytes
+  cut_short : {left bytes : List ℕ} (tree : Service) (stream rest : List ℕ) → Replays words disk tree stream → IsCutShort tree stream keys 1000000 rest left bytes
+      → Comes words disk keys ReadFault left bytes
+  write_fault : {left bytes : List ℕ} (status : Status) (all rest : List ℕ) → status ≢ Done → Due words disk keys status left all → bytes ++ rest ≡ all
+      → Comes words disk keys WriteFault left bytes
+  broken : {left bytes : List ℕ} (tree : Service) (stream : List ℕ) → Replays words disk tree stream → IsBroken tree stream keys 1000000 left bytes
+      → Comes words disk keys WriteFault left bytes
+  memory : {left bytes : List ℕ} → left ≡ keys → bytes ≡ [] → Comes words disk keys Memory left bytes
 
 -- the keys that are left, and the bytes that were appended to what was held, are so related
 abbrev pub Leaves : Option (List ℕ) → Option (List ℕ) → Option (List ℕ) → (List ℕ → List ℕ → Type 0) → Type 0
@@ -57,7 +73,7 @@ Prints held now status text result =
 -- what a run comes to by these words, where the files and the keys tell
 abbrev pub ComesBy : Option Disk → Option (List ℕ) → Option (List ℕ) → Option (List ℕ) → Option (List ℕ) → List (List ℕ) → Status → Type 0
 ComesBy told coming later held now words status =
-    IfSome told (λ disk. IfSome coming (λ keys. Leaves later held now (Comes (Due words disk keys) keys status)))
+    IfSome told (λ disk. IfSome coming (λ keys. Leaves later held now (Comes words disk keys status)))
 
 -- a fact shows as a rise of a count, and without it the count stands
 pub record Shows (fact : Type 0) (before now : ℕ) : Type 0 where

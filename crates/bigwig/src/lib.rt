@@ -2,6 +2,7 @@
 #![tactic(auto)]
 
 mod command;
+mod intake;
 mod laws;
 mod program;
 mod reply;

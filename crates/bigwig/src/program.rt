@@ -1,26 +1,30 @@
 //! All that the program does.
-ghost use Rattle.std.specs.Prelude.{◌≡◌, ◌≢◌, ◌⊎◌, ◌++◌, ℕ, List, None, Some, IfOk, IfErr, IfSome, IsErrOf, take, vec_len};
+ghost use Rattle.std.specs.Prelude.{◌≡◌, ◌≢◌, ◌⊎◌, ◌++◌, ℕ, List, None, Some, IfOk, IfErr, IfSome, IsErrOf, take};
 ghost use Rattle.bw_out.specs.Causes.{HasCause};
 ghost use Rattle.bw_out.specs.Writes.{Writes};
 ghost use Rattle.bw_syntax.specs.Reads.{Reads};
 ghost use Rattle.bigwig.specs.Commands.{command_of, replay};
-ghost use Rattle.bigwig.specs.Outcomes.{Due, Comes, ComesBy, Leaves, Shows, Prints, line};
+ghost use Rattle.bigwig.specs.Outcomes.{Comes, ComesBy, Leaves, Shows, Prints, line};
 ghost use Rattle.bigwig.specs.Stops.{Stops};
 
 use crate::command::command_of;
+use crate::intake::Intake;
 use crate::status::Status;
-use crate::stream::{FRONT, StreamEnd, answer_source};
+use crate::stream::{StreamEnd, answer_source};
 use bw_lang::{Service, Words};
 use bw_out::{
     Door, Failed, Files, Keys, Pulse, ReadStop, Sink, Steps, WriteFault, read_up_to, write_all,
     write_parts,
 };
 use bw_syntax::{SyntaxFault, read_service};
-use std::alloc::{AllocError, Global};
+use std::alloc::Global;
 use std::sync::ledger::Ledger;
 
 /// One byte more than a service file may have.
 const SERVICE_FRONT: usize = 1_048_577;
+
+/// The greatest number of requests that are answered.
+const REQUESTS_MOST: u32 = 1_000_000;
 
 /// Why a file isn't loaded.
 #[derive(Clone, Copy, Debug, PartialEq, Eq)]
@@ -39,9 +43,10 @@ pub enum Stop {
 /// prints on `out`.
 ///
 /// Where the files, the keys and `out` tell what they have, what `out` holds more and the keys that are left are
-/// those that are due for the status by the table of outcomes, or a first part of it after a write fault. `ReadFault`,
-/// `WriteFault` and `DoorFault` come exactly where the count of `files`, `out` or `door` rose in this call, and
-/// `Memory`, with nothing printed, only before the first request.
+/// those that are due for the status by the table of outcomes. At most 1,000,000 requests are answered. `ReadFault`,
+/// `WriteFault` and `DoorFault` come exactly where the count of `files`, `out` or `door` rose in this call; after the
+/// first two each request before the fault was answered whole. `Memory` comes, with nothing printed, only before the
+/// first request.
 pub fn run<F: Files, D: Door, K: Keys, W: Sink, P: Pulse, L: Ledger>(
     alloc: Global,
     words: &Words,
@@ -53,7 +58,7 @@ pub fn run<F: Files, D: Door, K: Keys, W: Sink, P: Pulse, L: Ledger>(
     _steps: &mut Steps<L>,
 ) -> Status
     ensures comes { IfSome (F.told files.old) (λ disk. IfSome (K.coming keys.old) (λ ks.
-        Leaves (K.coming keys.new) (W.held out.old) (W.held out.new) (Comes (Due words.now disk ks) ks result))) }
+        Leaves (K.coming keys.new) (W.held out.old) (W.held out.new) (Comes words.now disk ks result))) }
     ensures usage { command_of words.now ≡ None → (result ≡ Status.Usage) ⊎ (result ≡ Status.WriteFault) }
     ensures usage_only { result ≡ Status.Usage → command_of words.now ≡ None }
     ensures read_fault { Shows (result ≡ Status.ReadFault) (F.faults files.old) (F.faults files.new) }
@@ -137,13 +142,6 @@ fn fetch_bytes<F: Files>(
     }
 }
 
-/// So many zeros.
-fn zeros(alloc: Global, count: usize) -> Result<Vec<u8>, AllocError>
-    ensures { IfOk result (λ bytes. vec_len bytes ≡ count) }
-{
-    vec![in alloc; 0u8; count]
-}
-
 /// Answers the requests of a file, which is closed again. The memory for reading them is taken first.
 fn serve_file<F: Files, K: Keys, W: Sink>(
     alloc: Global,
@@ -161,14 +159,22 @@ fn serve_file<F: Files, K: Keys, W: Sink>(
     ensures read_fault { Shows (result ≡ Status.ReadFault) (F.faults files.old) (F.faults files.new) }
     ensures write_fault { Shows (result ≡ Status.WriteFault) (W.write_faults out.old) (W.write_faults out.new) }
 {
-    let Ok(mut buffer) = zeros(alloc, FRONT) else {
+    let Ok(mut intake) = Intake::new(alloc) else {
         return Status::Memory;
     };
     match files.fetch(name) {
         Err(Failed) => Status::ReadFault,
         Ok(None) => print_line(out, Status::NoFile, b"no file ", name.as_bytes()),
         Ok(Some(mut file)) => {
-            let end = answer_source(alloc, tree, &mut buffer, &mut file, keys, out);
+            let end = answer_source(
+                alloc,
+                tree,
+                &mut intake,
+                &mut file,
+                keys,
+                out,
+                REQUESTS_MOST,
+            );
             files.close(file);
             match end {
                 StreamEnd::Ended => Status::Done,

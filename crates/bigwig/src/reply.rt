@@ -5,6 +5,7 @@ ghost use Rattle.bw_out.specs.Writes.{Writes};
 ghost use Rattle.bigwig.specs.Replies.{message, length_field, text_type, bytes_of};
 ghost use Rattle.bigwig.specs.Sent.{stands_for};
 
+use bw_lang::Text;
 use bw_out::{Sink, WriteFault, write_parts};
 use bw_page::Sheet;
 use itoa::Buffer;
@@ -12,13 +13,15 @@ use itoa::Buffer;
 /// What a request is answered by.
 #[derive(Debug, Drop)]
 pub enum Reply {
+    /// 200: the names of the sessions, each with the end of a line.
+    Index(Text),
     /// 200: the last page of a session.
     Final(Sheet),
     /// 404: no session has that name.
     NoSuch,
     /// 400: the bytes are no request. The stream ends behind it.
     Bad,
-    /// 503: there was no memory for the page.
+    /// 503: there was no memory for the reply.
     Memory,
 }
 
@@ -32,6 +35,7 @@ pub fn write_reply<W: Sink>(reply: &Reply, sink: &mut W) -> Result<(), WriteFaul
     ensures same { W.same sink.old sink.new }
 {
     match reply {
+        Reply::Index(names) => write_text(b"200 OK", names.as_bytes(), sink),
         Reply::Final(sheet) => {
             write_message(
                 b"200 OK",

@@ -2,14 +2,23 @@
 ghost use Rattle.std.specs.Prelude.{◌≡◌, ◌≤◌, ◌<◌, ◌++◌, true, false, List, ℕ, IsTrue, IfNone, IfSome, length};
 ghost use Rattle.std.specs.List.{prefix_len};
 ghost use Rattle.bigwig.specs.Requests as spec;
-ghost use Rattle.bigwig.specs.Requests.{Asks, IsWord, IsHost, is_word_byte, is_host_byte, begins};
-ghost use Rattle.bigwig.specs.Runs.{AsksNothing};
+ghost use Rattle.bigwig.specs.Requests.{Asks, AsksNothing, IsPath, IsWord, IsHost, spelling, is_word_byte, is_host_byte, begins};
+ghost use Rattle.bigwig.specs.Sent.{path_of};
 
 /// The greatest number of bytes of a request.
 pub const MOST: usize = 16_384;
 
 /// The greatest number of bytes of a name.
 const WORD_MOST: usize = 64;
+
+/// What a request asks for.
+#[derive(Clone, Copy, Debug)]
+pub enum Path<'a> {
+    /// `/`: the index of the sessions.
+    Index,
+    /// `/NAME`: the start of the session of this name, a word of at most 64 bytes.
+    Start(&'a [u8]),
+}
 
 fn is_letter(b: u8) -> bool
     ensures { result ≡ spec.is_letter b }
@@ -81,6 +90,20 @@ fn word_at(bytes: &[u8]) -> Option<(&[u8], &[u8])>
     Some((word, rest))
 }
 
+/// The path at the front, as long as can be, and what follows it.
+fn path_at(bytes: &[u8]) -> Option<(Path<'_>, &[u8])>
+    ensures found { IfSome result (λ x. bytes.now ≡ spelling (path_of x.0) ++ x.1.now) }
+    ensures path { IfSome result (λ x. IsPath (path_of x.0)) }
+    ensures whole { IfSome result (λ x. begins spec.is_word_byte x.1.now ≡ false) }
+    ensures none { IfNone result ((path : spec.Path) (rest : List ℕ) → IsPath path → begins spec.is_word_byte rest ≡ false → bytes.now ≡ spelling path ++ rest → ⊥) }
+{
+    if word_length(bytes) == 0 {
+        return Some((Path::Index, bytes));
+    }
+    let (name, rest) = word_at(bytes)?;
+    Some((Path::Start(name), rest))
+}
+
 fn begins_host(bytes: &[u8]) -> bool
     ensures { result ≡ begins spec.is_host_byte bytes.now }
 {
@@ -104,19 +127,19 @@ fn host_at(bytes: &[u8]) -> Option<(&[u8], &[u8])>
     Some((host, rest))
 }
 
-/// The name that the request at the front asks for, and what follows the request; none where the bytes begin with
+/// The path that the request at the front asks for, and what follows the request; none where the bytes begin with
 /// no request.
-pub fn request_at(bytes: &[u8]) -> Option<(&[u8], &[u8])>
-    ensures found { IfSome result (λ x. Asks bytes.now x.0.now x.1.now) }
+pub fn request_at(bytes: &[u8]) -> Option<(Path<'_>, &[u8])>
+    ensures found { IfSome result (λ x. Asks bytes.now (path_of x.0) x.1.now) }
     ensures none { IfNone result (AsksNothing bytes.now) }
 {
     let line = after(b"GET /", bytes)?;
-    let (name, version) = word_at(line)?;
+    let (path, version) = path_at(line)?;
     let field = after(b" HTTP/1.1\r\nHost: ", version)?;
     let (_host, end) = host_at(field)?;
     let rest = after(b"\r\n\r\n", end)?;
     if bytes.len() > MOST + rest.len() {
         return None;
     }
-    Some((name, rest))
+    Some((path, rest))
 }

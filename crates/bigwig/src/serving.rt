@@ -1,12 +1,14 @@
-//! What a service answers to a request for a name.
-ghost use Rattle.std.specs.Prelude.{◌≡◌, ◌⊎◌, IfOk, MatchOption};
+//! What a service answers to a request for a path.
+ghost use Rattle.std.specs.Prelude.{◌≡◌, IfOk, MatchOption};
 ghost use Rattle.bw_lang.specs.Forest.{none};
 ghost use Rattle.bigwig.specs.Meaning as spec;
-ghost use Rattle.bigwig.specs.Replies.{memory};
-ghost use Rattle.bigwig.specs.Sent.{stands_for};
+ghost use Rattle.bigwig.specs.Replies.{Sends};
+ghost use Rattle.bigwig.specs.Requests.{start};
+ghost use Rattle.bigwig.specs.Sent.{path_of, stands_for};
 
 use crate::reply::Reply;
-use bw_lang::{Block, Expr, Items, Memory, Name, Service, Stmt, Template, Tree};
+use crate::request::Path;
+use bw_lang::{Block, Expr, Items, Memory, Name, Service, Stmt, Template, Text, Tree};
 use bw_page::{Sheet, wrap_exit};
 use std::alloc::Global;
 
@@ -57,9 +59,21 @@ fn last_page(alloc: Global, service: &Service, body: &Block) -> Result<Sheet, Me
     Sheet::of(alloc, &page)
 }
 
-/// The reply to a request for this name.
-pub fn handle(alloc: Global, service: &Service, name: &[u8]) -> Reply
-    ensures { (stands_for result ≡ spec.reply_to service.now name.now) ⊎ (stands_for result ≡ memory) }
+/// The names of the sessions in source order, each with the end of a line.
+fn names_of(alloc: Global, service: &Service) -> Result<Text, Memory>
+    ensures { IfOk result (λ names. names ≡ spec.names_of service.now.sessions) }
+{
+    let mut names = String::new(alloc);
+    for session in service.sessions.as_slice() {
+        names.push_str(session.name.as_str())?;
+        names.push('\n')?;
+    }
+    Ok(Text::from_string(names))
+}
+
+/// The reply to a request for the session of this name.
+fn start(alloc: Global, service: &Service, name: &[u8]) -> Reply
+    ensures { Sends (spec.reply_to service.now (start name.now)) (stands_for result) }
 {
     for session in service.sessions.as_slice() {
         if session.name.as_bytes() == name {
@@ -70,4 +84,17 @@ pub fn handle(alloc: Global, service: &Service, name: &[u8]) -> Reply
         }
     }
     Reply::NoSuch
+}
+
+/// The reply to a request for this path.
+pub fn handle(alloc: Global, service: &Service, path: Path) -> Reply
+    ensures { Sends (spec.reply_to service.now (path_of path.entry)) (stands_for result) }
+{
+    match path {
+        Path::Index => match names_of(alloc, service) {
+            Ok(names) => Reply::Index(names),
+            Err(Memory) => Reply::Memory,
+        },
+        Path::Start(name) => start(alloc, service, name),
+    }
 }

@@ -1,33 +1,84 @@
 //! Streams of requests, and their answers.
-ghost use Rattle.std.specs.Prelude.{◌≡◌, ◌≢◌, IfSome, length};
+ghost use Rattle.std.specs.Prelude.{◌≡◌, ◌≢◌, ◌++◌, IfNone, IfSome, Err};
+ghost use Rattle.bw_out.specs.Causes.{HasCause};
 ghost use Rattle.bigwig.specs.Outcomes.{Shows};
-ghost use Rattle.bigwig.specs.Runs.{Ends, AsksNothing};
-ghost use Rattle.bigwig.specs.Streams.{Answered, Serves};
+ghost use Rattle.bigwig.specs.Requests.{AsksNothing};
+ghost use Rattle.bigwig.specs.Runs.{Ends};
+ghost use Rattle.bigwig.specs.Streams.{RepliesTo, Reaches, Appended, Turns, Serves};
 
+use crate::intake::Intake;
 use crate::reply::{Reply, write_reply};
-use crate::request::{MOST, request_at};
+use crate::request::request_at;
 use crate::serving::handle;
 use bw_lang::Service;
-use bw_out::{Failed, Keys, Pair, Sink, Source, WriteFault, read_front};
+use bw_out::{Failed, Keys, Pair, Sink, Source, WriteFault};
 use std::alloc::Global;
-
-/// How many bytes of a stream are looked at: one more than a request has.
-pub const FRONT: usize = MOST + 1;
 
 /// How a stream ends.
 #[derive(Clone, Copy, Debug, PartialEq, Eq)]
 pub enum StreamEnd {
-    /// The stream was answered.
+    /// The stream was answered, or as many of its requests as were to be.
     Ended,
-    /// A read failed. Nothing was answered.
+    /// A read failed. Each request that was whole in the bytes taken was answered before.
     ReadFault,
-    /// A write failed. A first part of the answer was written.
+    /// A write failed. Each earlier reply was written whole, and a first part of this one.
     WriteFault,
 }
 
-/// Answers what follows a request, or what is none: by nothing where there are no bytes, and else by a refusal.
-fn refuse_more<W: Sink>(bytes: &[u8], sink: &mut W) -> StreamEnd
-    ensures served { Answered (W.held sink.old) (W.held sink.new) (Ends bytes.now) result }
+/// What came of one turn.
+#[derive(Clone, Copy)]
+enum Turn {
+    /// A request was answered, and the stream may go on.
+    Answered,
+    /// The stream is over.
+    Over(StreamEnd),
+}
+
+/// The reply to the request at the front of the intake, which is taken out of it; none where no request is whole.
+fn take_reply(alloc: Global, service: &Service, intake: &mut Intake) -> Option<Reply>
+    ensures found { IfSome result (λ reply. RepliesTo service.now intake.old intake.new reply) }
+    ensures none { IfNone result (AsksNothing intake.old) }
+    ensures kept { IfNone result (intake.new ≡ intake.old) }
+{
+    let bytes = intake.bytes();
+    let (path, rest) = request_at(bytes)?;
+    let reply = handle(alloc, service, path);
+    let count = bytes.len() - rest.len();
+    intake.consume(count);
+    Some(reply)
+}
+
+/// The reply to the next request, which is taken out of the intake. The source is read only while no request is whole
+/// in the intake; none comes where the intake is full or the source has ended.
+fn next_reply<S: Source>(
+    alloc: Global,
+    service: &Service,
+    intake: &mut Intake,
+    source: &mut S,
+) -> Result<Option<Reply>, Failed>
+    ensures reaches { Reaches service.now (S.left source.old) (S.left source.new) intake.old intake.new result }
+    ensures cause { HasCause (S.read_faults source.old) (S.read_faults source.new) result }
+    ensures held { S.held source.new ≡ S.held source.old }
+    ensures write_faults { S.write_faults source.new ≡ S.write_faults source.old }
+    ensures same { S.same source.old source.new }
+{
+    'more: loop {
+        if let Some(reply) = take_reply(alloc, service, intake) {
+            return Ok(Some(reply));
+        }
+        if intake.is_full() {
+            return Ok(None);
+        }
+        let count = intake.fill(source)?;
+        if count == 0 {
+            return Ok(None);
+        }
+    }
+}
+
+/// Answers bytes that begin with no request: by nothing where there are none, and else by a refusal.
+fn refuse_rest<W: Sink>(bytes: &[u8], sink: &mut W) -> StreamEnd
+    ensures appended { Appended (W.held sink.old) (W.held sink.new) (Ends bytes.now) result }
     ensures write_fault { Shows (result ≡ StreamEnd.WriteFault) (W.write_faults sink.old) (W.write_faults sink.new) }
     ensures not_read { result ≢ StreamEnd.ReadFault }
     ensures left { W.left sink.new ≡ W.left sink.old }
@@ -43,72 +94,77 @@ fn refuse_more<W: Sink>(bytes: &[u8], sink: &mut W) -> StreamEnd
     }
 }
 
-/// Answers a stream by its front, the first `FRONT` bytes or all of it.
-fn answer_front<W: Sink, K: Keys>(
+/// Answers the next request of a link, or what is none.
+fn answer_next<C: Source + Sink, K: Keys>(
     alloc: Global,
     service: &Service,
-    front: &[u8],
-    sink: &mut W,
+    intake: &mut Intake,
+    link: &mut C,
     keys: &mut K,
-) -> StreamEnd
-    ensures served { IfSome (K.coming keys.old) (λ ks. Serves service.now front.now ks (K.coming keys.new) (W.held sink.old) (W.held sink.new) result) }
-    ensures write_fault { Shows (result ≡ StreamEnd.WriteFault) (W.write_faults sink.old) (W.write_faults sink.new) }
-    ensures not_read { result ≢ StreamEnd.ReadFault }
-    ensures left { W.left sink.new ≡ W.left sink.old }
-    ensures read_faults { W.read_faults sink.new ≡ W.read_faults sink.old }
-    ensures same { W.same sink.old sink.new }
+) -> Turn
+    ensures turns { IfSome (C.left link.old) (λ stream. IfSome (K.coming keys.old) (λ ks.
+        Turns service.now (intake.old ++ stream) ks (K.coming keys.new) (C.held link.old) (C.held link.new) intake.new (C.left link.new) result)) }
+    ensures read_fault { Shows (result ≡ Turn.Over StreamEnd.ReadFault) (C.read_faults link.old) (C.read_faults link.new) }
+    ensures write_fault { Shows (result ≡ Turn.Over StreamEnd.WriteFault) (C.write_faults link.old) (C.write_faults link.new) }
+    ensures same { C.same link.old link.new }
 {
-    match request_at(front) {
-        None => refuse_more(front, sink),
-        Some((name, rest)) => {
+    match next_reply(alloc, service, intake, link) {
+        Err(Failed) => Turn::Over(StreamEnd::ReadFault),
+        Ok(None) => Turn::Over(refuse_rest(intake.bytes(), link)),
+        Ok(Some(reply)) => {
             let _key = keys.draw();
-            let reply = handle(alloc, service, name);
-            match write_reply(&reply, sink) {
-                Ok(()) => refuse_more(rest, sink),
-                Err(WriteFault) => StreamEnd::WriteFault,
+            match write_reply(&reply, link) {
+                Ok(()) => Turn::Answered,
+                Err(WriteFault) => Turn::Over(StreamEnd::WriteFault),
             }
         }
     }
 }
 
-/// Answers the stream of a link, whose front is read into the buffer.
+/// Answers up to `most` requests of a link, whose bytes are taken into the intake. A request that is whole in the bytes
+/// taken is answered before more are read, and each reply is written before the next request is looked at.
 ///
-/// `ReadFault` and `WriteFault` come only where the count of that side of the link rose.
+/// It ends where `most` requests were answered, where the link has ended, or behind the refusal of what is no request.
+/// `ReadFault` and `WriteFault` come only where the count of that side of the link rose. After `ReadFault` no request
+/// is whole in the bytes that were taken and not handled.
 pub fn answer<C: Source + Sink, K: Keys>(
     alloc: Global,
     service: &Service,
-    buffer: &mut [u8],
+    intake: &mut Intake,
     link: &mut C,
     keys: &mut K,
+    most: u32,
 ) -> StreamEnd
-    requires { length buffer.old ≡ FRONT }
     ensures served { IfSome (C.left link.old) (λ stream. IfSome (K.coming keys.old) (λ ks.
-        Serves service.now stream ks (K.coming keys.new) (C.held link.old) (C.held link.new) result)) }
+        Serves service.now (intake.old ++ stream) ks most (K.coming keys.new) (C.held link.old) (C.held link.new) intake.new (C.left link.new) result)) }
     ensures read_fault { Shows (result ≡ StreamEnd.ReadFault) (C.read_faults link.old) (C.read_faults link.new) }
     ensures write_fault { Shows (result ≡ StreamEnd.WriteFault) (C.write_faults link.old) (C.write_faults link.new) }
     ensures same { C.same link.old link.new }
 {
-    match read_front(link, buffer) {
-        Err(Failed) => StreamEnd::ReadFault,
-        Ok(count) => answer_front(alloc, service, &buffer[..count], link, keys),
+    'requests: for turn in 0..most {
+        match answer_next(alloc, service, intake, link, keys) {
+            Turn::Answered => {}
+            Turn::Over(end) => return end,
+        }
     }
+    StreamEnd::Ended
 }
 
-/// Answers the stream of a source into a sink.
+/// Answers up to `most` requests of a source into a sink, as `answer` does those of a link.
 pub fn answer_source<S: Source, K: Keys, W: Sink>(
     alloc: Global,
     service: &Service,
-    buffer: &mut [u8],
+    intake: &mut Intake,
     source: &mut S,
     keys: &mut K,
     out: &mut W,
+    most: u32,
 ) -> StreamEnd
-    requires { length buffer.old ≡ FRONT }
     ensures served { IfSome (S.left source.old) (λ stream. IfSome (K.coming keys.old) (λ ks.
-        Serves service.now stream ks (K.coming keys.new) (W.held out.old) (W.held out.new) result)) }
+        Serves service.now (intake.old ++ stream) ks most (K.coming keys.new) (W.held out.old) (W.held out.new) intake.new (S.left source.new) result)) }
     ensures read_fault { Shows (result ≡ StreamEnd.ReadFault) (S.read_faults source.old) (S.read_faults source.new) }
     ensures write_fault { Shows (result ≡ StreamEnd.WriteFault) (W.write_faults out.old) (W.write_faults out.new) }
 {
     let mut link = Pair { source, sink: out };
-    answer(alloc, service, buffer, &mut link, keys)
+    answer(alloc, service, intake, &mut link, keys, most)
 }

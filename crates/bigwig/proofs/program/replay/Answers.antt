@@ -1,7 +1,6 @@
 use Rattle.std.proofs.Common.{subst, sym, IfSome}
 use Rattle.bigwig.specs.Outcomes.{Prints, ComesBy, no_file_line}
 use Rattle.bigwig.specs.Stops.{Stops}
-use Rattle.bigwig.specs.declared.program.Stop.TheVariants as stop
 use Rattle.bigwig.specs.declared.status.Status.TheVariants as status
 use Rattle.bigwig.proofs.Coming.{IsLoaded, no_memory_comes, read_fault_comes, no_service_comes, refused_comes}
 use Rattle.bigwig.proofs.program.replay.Goals as goal

@@ -1,9 +1,9 @@
-use Rattle.std.proofs.Common.{None, Some, subst, ap}
+use Rattle.std.proofs.Common.{refl, subst}
 use Rattle.bw_out.specs.Told.{Finds}
 use Rattle.bigwig.specs.Outcomes.{Prints, no_file_line}
 use Rattle.bigwig.specs.declared.status.Status.TheVariants as status
 use Rattle.bigwig.specs.declared.stream.StreamEnd.TheVariants as end
-use Rattle.bigwig.proofs.Coming.{no_memory_comes, read_fault_comes, no_requests_comes, served_comes, ended_comes}
+use Rattle.bigwig.proofs.Coming.{no_memory_comes, read_fault_comes, no_requests_comes, served_comes}
 use Rattle.bigwig.proofs.program.serve_file.Goals as goal
 
 pub returns-in_default-clause-comes : goal.returns-in_default-clause-comes
@@ -20,12 +20,12 @@ returns-in-Ok-None-clause-comes g c = λ words service e loaded.
 
 pub returns-in-Ended-clause-comes : goal.returns-in-Ended-clause-comes
 returns-in-Ended-clause-comes g c = λ words service e loaded.
-    ended_comes g.F.File.Channel.left _ c.in-Ok-Some.file _ _ _ _ _ words service c.args.name.now c.args.tree.now _ end.Ended e loaded c.in-Ok-Some.field-0-is c.in-Ok-Some.ensures.found c.in-Ended.is c.answer_source-end.ensures.served
+    served_comes g.F.File.Channel.left _ c.in-Ok-Some.file _ _ _ _ _ _ _ _ _ words service c.args.name.now c.args.tree.now _ end.Ended e loaded c.in-Ok-Some.field-0-is c.in-Ok-Some.ensures.found c.in-Ended.is c.in-Ok.ensures refl c.answer_source-end.ensures.served
 
 pub returns-in-ReadFault-clause-comes : goal.returns-in-ReadFault-clause-comes
 returns-in-ReadFault-clause-comes g c = λ words service e loaded.
-    ended_comes g.F.File.Channel.left _ c.in-Ok-Some.file _ _ _ _ _ words service c.args.name.now c.args.tree.now _ end.ReadFault e loaded c.in-Ok-Some.field-0-is c.in-Ok-Some.ensures.found c.in-ReadFault.is c.answer_source-end.ensures.served
+    served_comes g.F.File.Channel.left _ c.in-Ok-Some.file _ _ _ _ _ _ _ _ _ words service c.args.name.now c.args.tree.now _ end.ReadFault e loaded c.in-Ok-Some.field-0-is c.in-Ok-Some.ensures.found c.in-ReadFault.is c.in-Ok.ensures refl c.answer_source-end.ensures.served
 
 pub returns-clause-comes : goal.returns-clause-comes
 returns-clause-comes g c = λ words service e loaded.
-    ended_comes g.F.File.Channel.left _ c.in-Ok-Some.file _ _ _ _ _ words service c.args.name.now c.args.tree.now _ end.WriteFault e loaded c.in-Ok-Some.field-0-is c.in-Ok-Some.ensures.found c.in-WriteFault.is c.answer_source-end.ensures.served
+    served_comes g.F.File.Channel.left _ c.in-Ok-Some.file _ _ _ _ _ _ _ _ _ words service c.args.name.now c.args.tree.now _ end.WriteFault e loaded c.in-Ok-Some.field-0-is c.in-Ok-Some.ensures.found c.in-WriteFault.is c.in-Ok.ensures refl c.answer_source-end.ensures.served
