@@ -2,3 +2,4 @@ pub mod Forests
 pub mod ClosingLaws
 pub mod PrintLaws
 pub mod TableLaws
+pub mod Terms

@@ -1,3 +1,7 @@
+pub mod Code
+pub mod CodeCode
+pub mod CodeFalls
+pub mod CodeView
 pub mod Documents
 pub mod Falls
 pub mod Forest
@@ -8,4 +12,9 @@ pub mod Lexemes
 pub mod Markup
 pub mod Names
 pub mod Print
+pub mod Stored
+pub mod Term
+pub mod TermCode
+pub mod TermFalls
+pub mod TermView
 pub mod View

@@ -3,24 +3,27 @@
 #![tactic(auto)]
 
 mod closing;
+pub mod expr;
 pub mod items;
 pub mod keywords;
 pub mod laws;
 pub mod markup;
 pub mod names;
 pub mod service;
+pub mod stmt;
 pub mod text;
 pub mod token;
 pub mod tree;
 
+pub use expr::{Expr, Fun, Op, Pair, Pairs, Part};
 pub use items::{Attr, AttrValue, Attrs, Element, GapId, Item, Items};
 pub use keywords::is_keyword;
 pub use markup::is_void;
 pub use names::{GapNames, NameTable};
 pub use service::{
-    Block, Expr, Kind, Literal, Service, Session, Sessions, Shared, Shareds, Stmt, Template,
-    Templates,
+    Literal, Service, Session, Sessions, Shared, Shareds, Template, Templates,
 };
+pub use stmt::{Block, Kind, Receive, Receives, Stmt};
 pub use text::{Memory, Name, Text, Words};
 pub use token::{Token, TokenKind, Tokens};
 pub use tree::Tree;
