@@ -3,6 +3,7 @@
 #![tactic(auto)]
 
 mod closing;
+pub mod declaration;
 pub mod expr;
 pub mod items;
 pub mod keywords;
@@ -15,6 +16,7 @@ pub mod text;
 pub mod token;
 pub mod tree;
 
+pub use declaration::{Declaration, Written};
 pub use expr::{Expr, Fun, Op, Pair, Pairs, Part};
 pub use items::{Attr, AttrValue, Attrs, Element, GapId, Item, Items};
 pub use keywords::is_keyword;

@@ -1,0 +1,65 @@
+-- Declarations whose templates aren't read yet, and the tokens that a service is written with.
+use Rattle.std.specs.Prelude.{◌≡◌, ℕ, pos, neg_ℤ, ◌<◌, ◌^◌, List, [], ◌∷◌, codes}
+use Rattle.bw_lang.specs.declared.stmt.Kind.{Kind}
+use Rattle.bw_lang.specs.declared.declaration.Written.{Written}
+use Rattle.bw_lang.specs.declared.declaration.Written.TheVariants as written
+use Rattle.bw_lang.specs.declared.service.Literal.{Literal}
+use Rattle.bw_lang.specs.declared.service.Literal.TheVariants as literals
+use Rattle.bw_lang.specs.Lexemes as lexeme
+use Rattle.bw_lang.specs.Lexemes.{Lexeme, word, sign}
+use Rattle.bw_lang.specs.Code.{Code}
+use Rattle.bw_lang.specs.Spelling.{spell_code, IsCode}
+use Rattle.bw_lang.specs.Words.{truth_word, kind_word, IsName}
+
+-- a template's name and the bytes inside it; a shared variable's kind, name and literal; a session's name and body
+pub data Draft : Type 0 where
+  template : List ℕ → List ℕ → Draft
+  shared : Kind → List ℕ → Written → Draft
+  session : List ℕ → Code → Draft
+
+-- the literal that is written so
+abbrev pub literal_of : Written → Literal
+literal_of (written.Plus n) = literals.Int (pos n)
+literal_of (written.Minus n) = literals.Int (neg_ℤ (pos n))
+literal_of (written.Bool b) = literals.Bool b
+literal_of (written.Str s) = literals.Str s
+literal_of (written.Name w) = literals.Tmpl w
+
+-- numbers are below 2^63, and names are no keywords
+abbrev pub IsWritten : Written → Type 0
+IsWritten (written.Plus n) = n < 2 ^ 63
+IsWritten (written.Minus n) = n < 2 ^ 63
+IsWritten (written.Bool b) = Unit {0}
+IsWritten (written.Str s) = Unit {0}
+IsWritten (written.Name w) = IsName w
+
+abbrev pub spell_literal : Written → List Lexeme → List Lexeme
+spell_literal (written.Plus n) k = lexeme.number n ∷ k
+spell_literal (written.Minus n) k = sign (codes "-") ∷ (lexeme.number n ∷ k)
+spell_literal (written.Bool b) k = word (truth_word b) ∷ k
+spell_literal (written.Str s) k = lexeme.string s ∷ k
+spell_literal (written.Name w) k = word w ∷ k
+
+abbrev pub spell_draft : Draft → List Lexeme → List Lexeme
+spell_draft (template name inside) k = word (codes "html") ∷ (word name ∷ (sign (codes "=") ∷ (lexeme.template inside ∷ (sign (codes ";") ∷ k))))
+spell_draft (shared kind name init) k = word (codes "shared") ∷ (word (kind_word kind) ∷ (word name ∷ (sign (codes "=") ∷ spell_literal init (sign (codes ";") ∷ k))))
+spell_draft (session name body) k =
+    word (codes "session") ∷ (word name ∷ (sign (codes "(") ∷ (sign (codes ")") ∷ (sign (codes "{") ∷ spell_code body (sign (codes "}") ∷ k)))))
+
+abbrev pub spell_drafts : List Draft → List Lexeme → List Lexeme
+spell_drafts [] k = k
+spell_drafts (d ∷ ds) k = spell_draft d (spell_drafts ds k)
+
+-- all the tokens of a service
+abbrev pub spell_service : List ℕ → List Draft → List Lexeme
+spell_service name drafts = word (codes "service") ∷ (word name ∷ (sign (codes "{") ∷ spell_drafts drafts (sign (codes "}") ∷ [])))
+
+-- names are no keywords, expressions are levelled, and numbers can be written
+abbrev pub IsFormed : Draft → Type 0
+IsFormed (template name inside) = IsName name
+IsFormed (shared kind name init) = IsName name × IsWritten init
+IsFormed (session name body) = IsName name × IsCode body
+
+abbrev pub AreFormed : List Draft → Type 0
+AreFormed [] = Unit {0}
+AreFormed (d ∷ ds) = IsFormed d × AreFormed ds
