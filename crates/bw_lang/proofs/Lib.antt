@@ -3,3 +3,4 @@ pub mod ClosingLaws
 pub mod PrintLaws
 pub mod TableLaws
 pub mod Terms
+pub mod Codes

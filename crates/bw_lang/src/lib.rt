@@ -26,6 +26,6 @@ pub use service::{
     Literal, Service, Session, Sessions, Shared, Shareds, Template, Templates,
 };
 pub use stmt::{Block, Kind, Receive, Receives, Stmt};
-pub use text::{Memory, Name, Text, Words};
-pub use token::{Token, TokenKind, Tokens};
+pub use text::{Bytes, Memory, Name, Text, Words};
+pub use token::{Lexeme, Token, TokenKind, Tokens};
 pub use tree::Tree;

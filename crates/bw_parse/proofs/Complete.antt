@@ -8,8 +8,8 @@ use Rattle.bw_lang.specs.declared.expr.Op.TheVariants.{Or, And, Eq, Ne, Lt, Le, 
 use Rattle.bw_lang.specs.declared.expr.Fun.{Fun}
 use Rattle.bw_lang.specs.declared.expr.Fun.TheVariants as funs
 use Rattle.bw_lang.specs.Keywords.{is, is_keyword}
-use Rattle.bw_lang.specs.Lexemes as lex
-use Rattle.bw_lang.specs.Lexemes.{Lexeme}
+use Rattle.bw_lang.specs.declared.token.Lexeme.{Lexeme}
+use Rattle.bw_lang.specs.declared.token.Lexeme.TheVariants as lex
 use Rattle.bw_lang.specs.Levels.{op_level, left_level, level, Levelled, AreLevelled, IsSome, IsWritable}
 use Rattle.bw_lang.specs.Spelling.{spell, spell_pairs}
 use Rattle.bw_lang.specs.Term.{Term, int, truth, string, name, paren, not, neg, binary, call, plug, Fillings, no_more, filling, append_fillings}
@@ -46,7 +46,7 @@ later {A = A} p x m h = record { from = suc m; gives = go }
 no_operator : (n : ℕ) (k : List Lexeme) → binds k < n → operator n k ≡ None
 unfolding operator
 no_operator n [] h = refl
-no_operator n (lex.sign s ∷ ts) h = go (op_of s) h
+no_operator n (lex.Sign s ∷ ts) h = go (op_of s) h
   where
     go : (o : Option Op) → op_binds o (if is s (codes "<[") then 8 else 0) < n → (o >>= if_level n ts) ≡ None
     go None lt = refl
@@ -56,7 +56,7 @@ no_operator n (t ∷ ts) h = refl
 no_plug : (k : List Lexeme) → binds k < 8 → behind (codes "<[") k ≡ None
 unfolding behind
 no_plug [] h = refl
-no_plug (lex.sign s ∷ ts) h = go (is s (codes "<[")) (is_same s (codes "<[")) h
+no_plug (lex.Sign s ∷ ts) h = go (is s (codes "<[")) (is_same s (codes "<[")) h
   where
     go : (b : Bool) → (b ≡ true → s ≡ codes "<[") → op_binds (op_of s) (if b then 8 else 0) < 8 → cond b (Some ts) None ≡ None
     go true p lt = let q = subst (λ r. op_binds (op_of r) 8 < 8) (p refl) lt in absurd (omega arith)
@@ -64,7 +64,7 @@ no_plug (lex.sign s ∷ ts) h = go (is s (codes "<[")) (is_same s (codes "<[")) 
 no_plug (t ∷ ts) h = refl
 
 -- an operator at the front
-the_operator : (op : Op) (ts : List Lexeme) → operator (op_level op) (lex.sign (op_sign op) ∷ ts) ≡ Some (op, ts)
+the_operator : (op : Op) (ts : List Lexeme) → operator (op_level op) (lex.Sign (op_sign op) ∷ ts) ≡ Some (op, ts)
 unfolding operator
 the_operator Or ts = refl
 the_operator And ts = refl
@@ -80,7 +80,7 @@ the_operator Mul ts = refl
 the_operator Div ts = refl
 the_operator Rem ts = refl
 
-op_binds_is : (op : Op) (ts : List Lexeme) → binds (lex.sign (op_sign op) ∷ ts) ≡ op_level op
+op_binds_is : (op : Op) (ts : List Lexeme) → binds (lex.Sign (op_sign op) ∷ ts) ≡ op_level op
 op_binds_is Or ts = refl
 op_binds_is And ts = refl
 op_binds_is Eq ts = refl
@@ -126,7 +126,7 @@ no_prefix (call f e) k l v = record { bang = refl; minus = refl }
 no_prefix (not e) k l v = absurd (omega arith)
 no_prefix (neg e) k l v = absurd (omega arith)
 no_prefix (binary op a b) k l v = absurd (omega (arith, op_small op))
-no_prefix (plug base pairs) k l v = no_prefix base (spell_pairs (codes "<[") pairs (lex.sign (codes "]") ∷ k)) v.0 v.2
+no_prefix (plug base pairs) k l v = no_prefix base (spell_pairs (codes "<[") pairs (lex.Sign (codes "]") ∷ k)) v.0 v.2
 
 -- ---- each way to go on
 
@@ -233,19 +233,19 @@ whole_prefix e l seven =
     }
 
 -- one operator more
-binary_more : (op : Op) (l r : Term) (k : List Lexeme) (x : Got) → left_level (op_level op) ≡ op_level op → AtLevel (op_level op + 1) r → binds k ≤ op_level op → Gives (λ f. more f (op_level op) (binary op l r) k) x → Gives (λ f. more f (op_level op) l (lex.sign (op_sign op) ∷ spell r k)) x
+binary_more : (op : Op) (l r : Term) (k : List Lexeme) (x : Got) → left_level (op_level op) ≡ op_level op → AtLevel (op_level op + 1) r → binds k ≤ op_level op → Gives (λ f. more f (op_level op) (binary op l r) k) x → Gives (λ f. more f (op_level op) l (lex.Sign (op_sign op) ∷ spell r k)) x
 unfolding AtLevel expr
 binary_more op l r k x c a h b =
     let g = a k (omega arith) in
-    later (λ f. more f (op_level op) l (lex.sign (op_sign op) ∷ spell r k)) x (g.from + b.from)
+    later (λ f. more f (op_level op) l (lex.Sign (op_sign op) ∷ spell r k)) x (g.from + b.from)
     (λ f le. rw (the_operator op (spell r k)) (rw (g.gives f (omega arith)) (rw (eq-eqb (left_level (op_level op)) (op_level op) c) (b.gives f (omega arith)))))
 
-binary_last : (op : Op) (l r : Term) (k : List Lexeme) → AtLevel (op_level op + 1) r → binds k < op_level op → Gives (λ f. more f (op_level op) l (lex.sign (op_sign op) ∷ spell r k)) (binary op l r, k)
+binary_last : (op : Op) (l r : Term) (k : List Lexeme) → AtLevel (op_level op + 1) r → binds k < op_level op → Gives (λ f. more f (op_level op) l (lex.Sign (op_sign op) ∷ spell r k)) (binary op l r, k)
 unfolding AtLevel expr
 binary_last op l r k a h =
     let g = a k (omega arith) in
     let m = more_stops (op_level op) (binary op l r) k h in
-    later (λ f. more f (op_level op) l (lex.sign (op_sign op) ∷ spell r k)) (binary op l r, k) (g.from + m.from)
+    later (λ f. more f (op_level op) l (lex.Sign (op_sign op) ∷ spell r k)) (binary op l r, k) (g.from + m.from)
     (λ f le. rw (the_operator op (spell r k)) (rw (g.gives f (omega arith)) (both (left_level (op_level op) == op_level op) _ _ _ (m.gives f (omega arith)) refl)))
   where
     both : (b : Bool) (x y z : Read Term) → x ≡ z → y ≡ z → cond b x y ≡ z
@@ -260,7 +260,7 @@ whole_binary op l r ll lr wl wr =
     let right = wr.at (m + 1) (omega arith) (omega arith) in
     let start : First m l = wl.first m small ll in
     let here : AtLevel m (binary op l r) =
-    λ k h. start (lex.sign (op_sign op) ∷ spell r k) (binary op l r, k) (omega (arith, op_binds_is op (spell r k))) (binary_last op l r k right h) in
+    λ k h. start (lex.Sign (op_sign op) ∷ spell r k) (binary op l r, k) (omega (arith, op_binds_is op (spell r k))) (binary_last op l r k right h) in
     let at = λ (n : ℕ) (le : n ≤ m). climb m n (binary op l r) (omega arith) le here in
     record {
       at = λ n le k. at n le;
@@ -269,7 +269,7 @@ whole_binary op l r ll lr wl wr =
         | inr ge ↦
             let same : m ≡ n = omega (arith, le_left n, h) in
             subst (λ j. First j (binary op l r)) same
-            (λ k x b g. start (lex.sign (op_sign op) ∷ spell r k) x (omega (arith, op_binds_is op (spell r k))) (binary_more op l r k x (omega (arith, le_left m, subst (λ j. left_level j ≤ m) (sym same) h)) right b g))
+            (λ k x b g. start (lex.Sign (op_sign op) ∷ spell r k) x (omega (arith, op_binds_is op (spell r k))) (binary_more op l r k x (omega (arith, le_left m, subst (λ j. left_level j ≤ m) (sym same) h)) right b g))
       ];
       base = λ h. absurd (omega arith);
     }
@@ -278,11 +278,11 @@ whole_binary op l r ll lr wl wr =
     le_left n = grind (arith, nat_tests)
 
 -- an expression in parentheses
-inside_gives : (e : Term) (k : List Lexeme) → AtLevel 1 e → Gives (λ f. inside f (spell e (lex.sign (codes ")") ∷ k))) (e, k)
+inside_gives : (e : Term) (k : List Lexeme) → AtLevel 1 e → Gives (λ f. inside f (spell e (lex.Sign (codes ")") ∷ k))) (e, k)
 unfolding AtLevel expr behind
 inside_gives e k a =
-    let g = a (lex.sign (codes ")") ∷ k) (omega arith) in
-    later (λ f. inside f (spell e (lex.sign (codes ")") ∷ k))) (e, k) g.from (λ f le. rw (g.gives f (omega arith)) refl)
+    let g = a (lex.Sign (codes ")") ∷ k) (omega arith) in
+    later (λ f. inside f (spell e (lex.Sign (codes ")") ∷ k))) (e, k) g.from (λ f le. rw (g.gives f (omega arith)) refl)
 
 paren_atom : (e : Term) → AtLevel 1 e → Atom (paren e)
 unfolding Atom expr behind
@@ -301,16 +301,16 @@ unfolding meaning
 bool_meaning true = refl
 bool_meaning false = refl
 
-word_atom : (w : List ℕ) (m : Meaning) (ts : List Lexeme) (x : Got) → meaning w ≡ m → Gives (λ f. by_meaning f w m ts) x → Gives (λ f. atom f (lex.word w ∷ ts)) x
+word_atom : (w : List ℕ) (m : Meaning) (ts : List Lexeme) (x : Got) → meaning w ≡ m → Gives (λ f. by_meaning f w m ts) x → Gives (λ f. atom f (lex.Word w ∷ ts)) x
 unfolding expr
-word_atom w m ts x e g = later (λ f. atom f (lex.word w ∷ ts)) x g.from (λ f le. ap (λ j. by_meaning f w j ts) e ∙ g.gives f (omega arith))
+word_atom w m ts x e g = later (λ f. atom f (lex.Word w ∷ ts)) x g.from (λ f le. ap (λ j. by_meaning f w j ts) e ∙ g.gives f (omega arith))
 
 call_atom : (g : Fun) (e : Term) → AtLevel 1 e → Atom (call g e)
 unfolding Atom expr behind
 call_atom g e a k =
     let i = inside_gives e k a in
     word_atom (fun_word g) (Function g) _ (call g e, k) (fun_meaning g)
-    (later (λ f. by_meaning f (fun_word g) (Function g) (lex.sign (codes "(") ∷ spell e (lex.sign (codes ")") ∷ k))) (call g e, k) i.from (λ f le. rw (i.gives f (omega arith)) refl))
+    (later (λ f. by_meaning f (fun_word g) (Function g) (lex.Sign (codes "(") ∷ spell e (lex.Sign (codes ")") ∷ k))) (call g e, k) i.from (λ f le. rw (i.gives f (omega arith)) refl))
 
 name_atom : (w : List ℕ) → is_keyword w ≡ false → Atom (name w)
 unfolding Atom expr
@@ -322,11 +322,11 @@ bool_atom b k = word_atom (truth_word b) (Truth b) k (truth b, k) (bool_meaning 
 
 int_atom : (n : ℕ) → n < 2 ^ 63 → Atom (int (pos n))
 unfolding Atom expr
-int_atom n v k = later (λ f. atom f (lex.number n ∷ k)) (int (pos n), k) 0 (λ f le. rw (lt-ltb n 9223372036854775808 v) refl)
+int_atom n v k = later (λ f. atom f (lex.Number n ∷ k)) (int (pos n), k) 0 (λ f le. rw (lt-ltb n 9223372036854775808 v) refl)
 
 str_atom : (s : List ℕ) → Atom (string s)
 unfolding Atom expr
-str_atom s k = later (λ f. atom f (lex.string s ∷ k)) (string s, k) 0 (λ f le. refl)
+str_atom s k = later (λ f. atom f (lex.Str s ∷ k)) (string s, k) 0 (λ f le. refl)
 
 whole_atom : (e : Term) → level e ≡ 9 → Levelled e → Atom e → Whole e
 whole_atom e l v a = whole_tight e (omega arith) v (base_from e a)
@@ -361,31 +361,31 @@ one_le (plug b p) = omega arith
 -- ---- pairs
 
 abbrev pub tail_of : List ℕ → Term → Fillings → List Lexeme → List Lexeme
-tail_of w e ps k = lex.word w ∷ lex.sign (codes "=") ∷ spell e (spell_pairs (codes ",") ps (lex.sign (codes "]") ∷ k))
+tail_of w e ps k = lex.Word w ∷ lex.Sign (codes "=") ∷ spell e (spell_pairs (codes ",") ps (lex.Sign (codes "]") ∷ k))
 
 unfoldable pub Pairs : Fillings → Type 0
-Pairs ps = (front : Fillings) (w : List ℕ) (e : Term) (k : List Lexeme) → AtLevel 1 e → Comes (Fillings × List Lexeme) (λ f. pairs f front (tail_of w e ps k)) (append_fillings front (filling w e ps), lex.sign (codes "]") ∷ k)
+Pairs ps = (front : Fillings) (w : List ℕ) (e : Term) (k : List Lexeme) → AtLevel 1 e → Comes (Fillings × List Lexeme) (λ f. pairs f front (tail_of w e ps k)) (append_fillings front (filling w e ps), lex.Sign (codes "]") ∷ k)
 
 pairs_end : Pairs no_more
 unfolding Pairs AtLevel expr behind word
 pairs_end front w e k a =
-    let g = a (lex.sign (codes "]") ∷ k) (omega arith) in
+    let g = a (lex.Sign (codes "]") ∷ k) (omega arith) in
     later (λ f. pairs f front (tail_of w e no_more k)) _ g.from (λ f le. rw (g.gives f (omega arith)) refl)
 
 pairs_more : (v : List ℕ) (d : Term) (ps : Fillings) → AtLevel 1 d → Pairs ps → Pairs (filling v d ps)
 unfolding Pairs AtLevel expr behind word
 pairs_more v d ps ad rest front w e k a =
-    let g = a (spell_pairs (codes ",") (filling v d ps) (lex.sign (codes "]") ∷ k)) (omega arith) in
+    let g = a (spell_pairs (codes ",") (filling v d ps) (lex.Sign (codes "]") ∷ k)) (omega arith) in
     let r = rest (append_fillings front (filling w e no_more)) v d k ad in
     later (λ f. pairs f front (tail_of w e (filling v d ps) k)) _ (g.from + r.from)
-    (λ f le. rw (g.gives f (omega arith)) (r.gives f (omega arith) ∙ ap (λ y. Some (y, lex.sign (codes "]") ∷ k)) (append_fillings_assoc front (filling w e no_more) (filling v d ps))))
+    (λ f le. rw (g.gives f (omega arith)) (r.gives f (omega arith) ∙ ap (λ y. Some (y, lex.Sign (codes "]") ∷ k)) (append_fillings_assoc front (filling w e no_more) (filling v d ps))))
 
 plug_base : (base : Term) (w : List ℕ) (e : Term) (ps : Fillings) → Base base → AtLevel 1 e → Pairs ps → Base (plug base (filling w e ps))
 unfolding Base Pairs expr behind
 plug_base base w e ps b a p k x g =
     let r = p no_more w e k a in
-    b (spell_pairs (codes "<[") (filling w e ps) (lex.sign (codes "]") ∷ k)) x
-    (later (λ f. plugs f base (lex.sign (codes "<[") ∷ tail_of w e ps k)) x (r.from + g.from) (λ f le. rw (r.gives f (omega arith)) (g.gives f (omega arith))))
+    b (spell_pairs (codes "<[") (filling w e ps) (lex.Sign (codes "]") ∷ k)) x
+    (later (λ f. plugs f base (lex.Sign (codes "<[") ∷ tail_of w e ps k)) x (r.from + g.from) (λ f le. rw (r.gives f (omega arith)) (g.gives f (omega arith))))
 
 mutual
   pub complete : (e : Term) → Levelled e → Whole e

@@ -12,8 +12,8 @@ use Rattle.bw_lang.specs.declared.stmt.Kind.{Kind}
 use Rattle.bw_lang.specs.declared.stmt.Kind.TheVariants as kinds
 use Rattle.bw_lang.specs.Keywords.{is, is_keyword}
 use Rattle.bw_lang.specs.Levels.{op_level}
-use Rattle.bw_lang.specs.Lexemes as lex
-use Rattle.bw_lang.specs.Lexemes.{Lexeme}
+use Rattle.bw_lang.specs.declared.token.Lexeme.{Lexeme}
+use Rattle.bw_lang.specs.declared.token.Lexeme.TheVariants as lex
 use Rattle.bw_lang.specs.Words.{op_sign, truth_word, fun_word, kind_word}
 use Rattle.bw_parse.specs.declared.lexemes.Meaning.{Meaning}
 use Rattle.bw_parse.specs.declared.lexemes.Meaning.TheVariants.{Truth, Function, Other, Free}
@@ -53,47 +53,47 @@ not_keyword w v n y = go (is w v) (is_same w v)
     go true h = let e = ap is_keyword (h refl) in absurd cc
     go false h = refl
 
-pub behind_is : (s : List ℕ) (ts k : List Lexeme) → behind s ts ≡ Some k → ts ≡ lex.sign s ∷ k
+pub behind_is : (s : List ℕ) (ts k : List Lexeme) → behind s ts ≡ Some k → ts ≡ lex.Sign s ∷ k
 unfolding behind
 behind_is s [] k e = absurd cc
-behind_is s (lex.sign t ∷ ts) k e =
+behind_is s (lex.Sign t ∷ ts) k e =
     elim (chosen (is t s) (Some ts) None (Some k) e) [
       | inl h ↦ let p : t ≡ s = is_same t s h.0 in let q = h.1 in cc
       | inr h ↦ let q = h.1 in absurd cc
     ]
 behind_is s (t ∷ ts) k e = absurd cc
 
-pub behind_self : (s : List ℕ) (k : List Lexeme) → behind s (lex.sign s ∷ k) ≡ Some k
+pub behind_self : (s : List ℕ) (k : List Lexeme) → behind s (lex.Sign s ∷ k) ≡ Some k
 unfolding behind
 behind_self s k = rw (is_self s) refl
 
-pub keyword_is : (v : List ℕ) (ts k : List Lexeme) → keyword v ts ≡ Some k → ts ≡ lex.word v ∷ k
+pub keyword_is : (v : List ℕ) (ts k : List Lexeme) → keyword v ts ≡ Some k → ts ≡ lex.Word v ∷ k
 unfolding keyword
 keyword_is v [] k e = absurd cc
-keyword_is v (lex.word w ∷ ts) k e =
+keyword_is v (lex.Word w ∷ ts) k e =
     elim (chosen (is w v) (Some ts) None (Some k) e) [
       | inl h ↦ let p : w ≡ v = is_same w v h.0 in let q = h.1 in cc
       | inr h ↦ let q = h.1 in absurd cc
     ]
 keyword_is v (t ∷ ts) k e = absurd cc
 
-pub no_keyword : (v w : List ℕ) (ts : List Lexeme) → is_keyword w ≡ false → is_keyword v ≡ true → keyword v (lex.word w ∷ ts) ≡ None
+pub no_keyword : (v w : List ℕ) (ts : List Lexeme) → is_keyword w ≡ false → is_keyword v ≡ true → keyword v (lex.Word w ∷ ts) ≡ None
 unfolding keyword
 no_keyword v w ts n y = rw (not_keyword w v n y) refl
 
-pub word_is : (ts : List Lexeme) (x : List ℕ × List Lexeme) → word ts ≡ Some x → ts ≡ lex.word x.0 ∷ x.1
+pub word_is : (ts : List Lexeme) (x : List ℕ × List Lexeme) → word ts ≡ Some x → ts ≡ lex.Word x.0 ∷ x.1
 unfolding word
 word_is [] x e = absurd cc
-word_is (lex.word w ∷ ts) x e = let p : (w, ts) ≡ x = cc in ap (λ (y : List ℕ × List Lexeme). lex.word y.0 ∷ y.1) p
+word_is (lex.Word w ∷ ts) x e = let p : (w, ts) ≡ x = cc in ap (λ (y : List ℕ × List Lexeme). lex.Word y.0 ∷ y.1) p
 word_is (t ∷ ts) x e = absurd cc
 
-pub named_is : (ts : List Lexeme) (x : List ℕ × List Lexeme) → named ts ≡ Some x → (ts ≡ lex.word x.0 ∷ x.1) × (is_keyword x.0 ≡ false)
+pub named_is : (ts : List Lexeme) (x : List ℕ × List Lexeme) → named ts ≡ Some x → (ts ≡ lex.Word x.0 ∷ x.1) × (is_keyword x.0 ≡ false)
 unfolding named
 named_is ts x e =
     let w = bind_some (word ts) (λ w. if is_keyword w.0 then None else Some w) x e in
     elim (chosen (is_keyword w.0.0) None (Some w.0) (Some x) w.2) [
       | inl h ↦ let q = h.1 in absurd cc
-      | inr h ↦ let p = some_is w.0 x h.1 in (word_is ts w.0 w.1 ∙ ap (λ (y : List ℕ × List Lexeme). lex.word y.0 ∷ y.1) p, sym (ap (λ (y : List ℕ × List Lexeme). is_keyword y.0) p) ∙ h.0)
+      | inr h ↦ let p = some_is w.0 x h.1 in (word_is ts w.0 w.1 ∙ ap (λ (y : List ℕ × List Lexeme). lex.Word y.0 ∷ y.1) p, sym (ap (λ (y : List ℕ × List Lexeme). is_keyword y.0) p) ∙ h.0)
     ]
 
 -- ---- operators
@@ -123,14 +123,14 @@ if_level_is n ts op x e =
       | inr h ↦ let q = h.1 in absurd cc
     ]
 
-pub operator_is : (n : ℕ) (ts : List Lexeme) (x : Op × List Lexeme) → operator n ts ≡ Some x → (ts ≡ lex.sign (op_sign x.0) ∷ x.1) × (op_level x.0 ≡ n)
+pub operator_is : (n : ℕ) (ts : List Lexeme) (x : Op × List Lexeme) → operator n ts ≡ Some x → (ts ≡ lex.Sign (op_sign x.0) ∷ x.1) × (op_level x.0 ≡ n)
 unfolding operator
 operator_is n [] x e = absurd cc
-operator_is n (lex.sign s ∷ ts) x e =
+operator_is n (lex.Sign s ∷ ts) x e =
     let h = bind_some (op_of s) (if_level n ts) x e in
     let p = if_level_is n ts h.0 x h.2 in
     let a : s ≡ op_sign x.0 = op_of_is s h.0 h.1 ∙ ap op_sign p.0 in
-    (λ i. lex.sign (a i) ∷ p.1 i, sym (ap op_level p.0) ∙ p.2)
+    (λ i. lex.Sign (a i) ∷ p.1 i, sym (ap op_level p.0) ∙ p.2)
 operator_is n (t ∷ ts) x e = absurd cc
 
 -- ---- what words mean
@@ -186,15 +186,15 @@ kind_of_is w t e =
     test w (codes "int") kinds.Int _ t kind_word refl e λ e. test w (codes "bool") kinds.Bool _ t kind_word refl e λ e.
     test w (codes "string") kinds.Str _ t kind_word refl e λ e. test w (codes "html") kinds.Html _ t kind_word refl e λ e. absurd cc
 
-pub kind_is : (ts : List Lexeme) (x : Kind × List Lexeme) → kind ts ≡ Some x → ts ≡ lex.word (kind_word x.0) ∷ x.1
+pub kind_is : (ts : List Lexeme) (x : Kind × List Lexeme) → kind ts ≡ Some x → ts ≡ lex.Word (kind_word x.0) ∷ x.1
 unfolding kind
 kind_is ts x e =
     let w = bind_some (word ts) _ x e in
     let t = bind_some (kind_of w.0.0) (λ t. Some (t, w.0.1)) x w.2 in
     let p = some_is (t.0, w.0.1) x t.2 in
-    word_is ts w.0 w.1 ∙ ap (λ v. lex.word v ∷ w.0.1) (kind_of_is w.0.0 t.0 t.1) ∙ ap (λ (y : Kind × List Lexeme). lex.word (kind_word y.0) ∷ y.1) p
+    word_is ts w.0 w.1 ∙ ap (λ v. lex.Word v ∷ w.0.1) (kind_of_is w.0.0 t.0 t.1) ∙ ap (λ (y : Kind × List Lexeme). lex.Word (kind_word y.0) ∷ y.1) p
 
-pub kind_self : (t : Kind) (k : List Lexeme) → kind (lex.word (kind_word t) ∷ k) ≡ Some (t, k)
+pub kind_self : (t : Kind) (k : List Lexeme) → kind (lex.Word (kind_word t) ∷ k) ≡ Some (t, k)
 unfolding kind word
 kind_self kinds.Int k = refl
 kind_self kinds.Bool k = refl
@@ -202,6 +202,6 @@ kind_self kinds.Str k = refl
 kind_self kinds.Html k = refl
 
 -- a name is no kind
-pub no_kind : (w : List ℕ) (ts : List Lexeme) → is_keyword w ≡ false → kind (lex.word w ∷ ts) ≡ None
+pub no_kind : (w : List ℕ) (ts : List Lexeme) → is_keyword w ≡ false → kind (lex.Word w ∷ ts) ≡ None
 unfolding kind word
 no_kind w ts n = rw (not_keyword w (codes "int") n refl, not_keyword w (codes "bool") n refl, not_keyword w (codes "string") n refl, not_keyword w (codes "html") n refl) refl

@@ -1,5 +1,9 @@
+pub mod CodeSound
+pub mod CodeSteps
 pub mod Complete
 pub mod FrontLaws
+pub mod Receives
+pub mod ReceiveSteps
 pub mod Sound
 pub mod Steps
 pub mod Whole

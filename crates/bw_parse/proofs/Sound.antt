@@ -8,8 +8,8 @@ use Rattle.bw_lang.specs.declared.expr.Op.TheVariants.{Or, And, Eq, Ne, Lt, Le, 
 use Rattle.bw_lang.specs.declared.expr.Fun.{Fun}
 use Rattle.bw_lang.specs.declared.expr.Fun.TheVariants as funs
 use Rattle.bw_lang.specs.Keywords.{is, is_keyword}
-use Rattle.bw_lang.specs.Lexemes as lex
-use Rattle.bw_lang.specs.Lexemes.{Lexeme}
+use Rattle.bw_lang.specs.declared.token.Lexeme.{Lexeme}
+use Rattle.bw_lang.specs.declared.token.Lexeme.TheVariants as lex
 use Rattle.bw_lang.specs.Levels.{op_level, left_level, level, Levelled, AreLevelled, IsSome, IsWritable}
 use Rattle.bw_lang.specs.Spelling.{spell, spell_pairs}
 use Rattle.bw_lang.specs.Term.{Term, int, truth, string, name, paren, not, neg, binary, call, plug, Fillings, no_more, filling, append_fillings}
@@ -33,7 +33,7 @@ pub record ReadsPairs (front : Fillings) (ts : List Lexeme) (all : Fillings) (k 
   pub is : all ≡ append_fillings front rest
   pub some : IsSome rest
   pub levelled : AreLevelled rest
-  pub spelled : (s : List ℕ) → lex.sign s ∷ ts ≡ spell_pairs s rest k
+  pub spelled : (s : List ℕ) → lex.Sign s ∷ ts ≡ spell_pairs s rest k
 
 pairs_is : (x y : Fillings × List Lexeme) → some x ≡ some y → x ≡ y
 pairs_is x y e = cc
@@ -79,7 +79,7 @@ mutual
             let right = sound_expr f (n + 1) h.0.1 q.0 (omega arith) q.1 in
             let all : Reads n ts (binary h.0.0 left q.0.0) q.0.1 =
             record {
-              spelled = r.spelled ∙ ap (spell left) (o.0 ∙ ap (λ t. lex.sign (op_sign h.0.0) ∷ t) right.spelled);
+              spelled = r.spelled ∙ ap (spell left) (o.0 ∙ ap (λ t. lex.Sign (op_sign h.0.0) ∷ t) right.spelled);
               levelled = (rw o.1 l, omega (arith, right.level, o.1), r.levelled, right.levelled);
               level = omega (arith, o.1);
             } in
@@ -98,14 +98,14 @@ mutual
             let p = behind_is (codes "!") ts h.0 h.1 in
             let q = bind_some (expr f 7 h.0) (λ y. Some (not y.0, y.1)) x h.2 in
             let r = sound_expr f 7 h.0 q.0 (omega arith) q.1 in
-            got (not q.0.0) q.0.1 x (record { spelled = p ∙ ap (λ t. lex.sign (codes "!") ∷ t) r.spelled; levelled = (r.level, r.levelled); level = omega arith }) q.2
+            got (not q.0.0) q.0.1 x (record { spelled = p ∙ ap (λ t. lex.Sign (codes "!") ∷ t) r.spelled; levelled = (r.level, r.levelled); level = omega arith }) q.2
         | inr h ↦
             elim (where_cases (behind (codes "-") ts) (λ k. expr f 7 k >>= λ y. Some (neg y.0, y.1)) (expr f 8 ts) (Some x) h.1) [
               | inl g ↦
                   let p = behind_is (codes "-") ts g.0 g.1 in
                   let q = bind_some (expr f 7 g.0) (λ y. Some (neg y.0, y.1)) x g.2 in
                   let r = sound_expr f 7 g.0 q.0 (omega arith) q.1 in
-                  got (neg q.0.0) q.0.1 x (record { spelled = p ∙ ap (λ t. lex.sign (codes "-") ∷ t) r.spelled; levelled = (r.level, r.levelled); level = omega arith }) q.2
+                  got (neg q.0.0) q.0.1 x (record { spelled = p ∙ ap (λ t. lex.Sign (codes "-") ∷ t) r.spelled; levelled = (r.level, r.levelled); level = omega arith }) q.2
               | inr g ↦ let r = sound_expr f 8 ts x (omega arith) g.1 in record { spelled = r.spelled; levelled = r.levelled; level = omega (arith, r.level) }
             ]
       ]
@@ -140,8 +140,8 @@ mutual
       let q = bind_some (expr f 1 k.0) _ x k.2 in
       let r = sound_expr f 1 k.0 q.0 (omega arith) q.1 in
       let all = append_fillings front (filling w.0.0 q.0.0 no_more) in
-      let head : (s : List ℕ) → lex.sign s ∷ ts ≡ lex.sign s ∷ lex.word w.0.0 ∷ lex.sign (codes "=") ∷ spell q.0.0 q.0.1 =
-      λ s. ap (λ t. lex.sign s ∷ t) (wi ∙ ap (λ t. lex.word w.0.0 ∷ t) (ki ∙ ap (λ t. lex.sign (codes "=") ∷ t) r.spelled)) in
+      let head : (s : List ℕ) → lex.Sign s ∷ ts ≡ lex.Sign s ∷ lex.Word w.0.0 ∷ lex.Sign (codes "=") ∷ spell q.0.0 q.0.1 =
+      λ s. ap (λ t. lex.Sign s ∷ t) (wi ∙ ap (λ t. lex.Word w.0.0 ∷ t) (ki ∙ ap (λ t. lex.Sign (codes "=") ∷ t) r.spelled)) in
       elim (where_cases (behind (codes ",") q.0.1) (λ j. pairs f all j) (Some (all, q.0.1)) (Some x) q.2) [
         | inl h ↦
             let c = behind_is (codes ",") q.0.1 h.0 h.1 in
@@ -151,7 +151,7 @@ mutual
               is = o.is ∙ append_fillings_assoc front (filling w.0.0 q.0.0 no_more) o.rest;
               some = tt;
               levelled = (r.levelled, o.levelled);
-              spelled = λ s. head s ∙ ap (λ t. lex.sign s ∷ lex.word w.0.0 ∷ lex.sign (codes "=") ∷ spell q.0.0 t) (c ∙ o.spelled (codes ","));
+              spelled = λ s. head s ∙ ap (λ t. lex.Sign s ∷ lex.Word w.0.0 ∷ lex.Sign (codes "=") ∷ spell q.0.0 t) (c ∙ o.spelled (codes ","));
             }
         | inr h ↦
             subst (λ (y : Fillings × List Lexeme). ReadsPairs front ts y.0 y.1) (pairs_is (all, q.0.1) x h.1)
@@ -161,40 +161,40 @@ mutual
   pub sound_atom : (f : ℕ) (ts : List Lexeme) (x : Term × List Lexeme) → atom f ts ≡ Some x → Reads 9 ts x.0 x.1
   sound_atom zero ts x e = absurd cc
   sound_atom (suc f) [] x e = absurd cc
-  sound_atom (suc f) (lex.number n ∷ ts) x e =
+  sound_atom (suc f) (lex.Number n ∷ ts) x e =
       elim (chosen (nat_lt n 9223372036854775808) (Some (int (pos n), ts)) None (Some x) e) [
         | inl h ↦ got (int (pos n)) ts x (record { spelled = refl; levelled = ltb-true n 9223372036854775808 h.0; level = omega arith }) h.1
         | inr h ↦ let q = h.1 in absurd cc
       ]
-  sound_atom (suc f) (lex.string s ∷ ts) x e = got (string s) ts x (record { spelled = refl; levelled = tt; level = omega arith }) e
-  sound_atom (suc f) (lex.template t ∷ ts) x e = absurd cc
-  sound_atom (suc f) (lex.sign s ∷ ts) x e =
-      let h = bind_some (behind (codes "(") (lex.sign s ∷ ts)) (λ k. inside f k >>= λ y. Some (paren y.0, y.1)) x e in
-      let p = behind_is (codes "(") (lex.sign s ∷ ts) h.0 h.1 in
+  sound_atom (suc f) (lex.Str s ∷ ts) x e = got (string s) ts x (record { spelled = refl; levelled = tt; level = omega arith }) e
+  sound_atom (suc f) (lex.Template t ∷ ts) x e = absurd cc
+  sound_atom (suc f) (lex.Sign s ∷ ts) x e =
+      let h = bind_some (behind (codes "(") (lex.Sign s ∷ ts)) (λ k. inside f k >>= λ y. Some (paren y.0, y.1)) x e in
+      let p = behind_is (codes "(") (lex.Sign s ∷ ts) h.0 h.1 in
       let q = bind_some (inside f h.0) (λ y. Some (paren y.0, y.1)) x h.2 in
       let r = sound_inside f h.0 q.0 q.1 in
-      got (paren q.0.0) q.0.1 x (record { spelled = p ∙ ap (λ t. lex.sign (codes "(") ∷ t) r.0; levelled = r.1; level = omega arith }) q.2
-  sound_atom (suc f) (lex.word w ∷ ts) x e = sound_meaning f w (meaning w) ts x refl e
+      got (paren q.0.0) q.0.1 x (record { spelled = p ∙ ap (λ t. lex.Sign (codes "(") ∷ t) r.0; levelled = r.1; level = omega arith }) q.2
+  sound_atom (suc f) (lex.Word w ∷ ts) x e = sound_meaning f w (meaning w) ts x refl e
 
-  pub sound_inside : (f : ℕ) (ts : List Lexeme) (x : Term × List Lexeme) → inside f ts ≡ Some x → (ts ≡ spell x.0 (lex.sign (codes ")") ∷ x.1)) × Levelled x.0
+  pub sound_inside : (f : ℕ) (ts : List Lexeme) (x : Term × List Lexeme) → inside f ts ≡ Some x → (ts ≡ spell x.0 (lex.Sign (codes ")") ∷ x.1)) × Levelled x.0
   sound_inside zero ts x e = absurd cc
   sound_inside (suc f) ts x e =
       let q = bind_some (expr f 1 ts) (λ y. behind (codes ")") y.1 >>= λ r. Some (y.0, r)) x e in
       let c = bind_some (behind (codes ")") q.0.1) (λ r. Some (q.0.0, r)) x q.2 in
       let z = behind_is (codes ")") q.0.1 c.0 c.1 in
       let r = sound_expr f 1 ts q.0 (omega arith) q.1 in
-      subst (λ (y : Term × List Lexeme). (ts ≡ spell y.0 (lex.sign (codes ")") ∷ y.1)) × Levelled y.0) (some_is (q.0.0, c.0) x c.2) (r.spelled ∙ ap (spell q.0.0) z, r.levelled)
+      subst (λ (y : Term × List Lexeme). (ts ≡ spell y.0 (lex.Sign (codes ")") ∷ y.1)) × Levelled y.0) (some_is (q.0.0, c.0) x c.2) (r.spelled ∙ ap (spell q.0.0) z, r.levelled)
 
-  pub sound_meaning : (f : ℕ) (w : List ℕ) (m : Meaning) (ts : List Lexeme) (x : Term × List Lexeme) → meaning w ≡ m → by_meaning f w m ts ≡ Some x → Reads 9 (lex.word w ∷ ts) x.0 x.1
+  pub sound_meaning : (f : ℕ) (w : List ℕ) (m : Meaning) (ts : List Lexeme) (x : Term × List Lexeme) → meaning w ≡ m → by_meaning f w m ts ≡ Some x → Reads 9 (lex.Word w ∷ ts) x.0 x.1
   sound_meaning zero w m ts x i e = absurd cc
-  sound_meaning (suc f) w (Truth b) ts x i e = got (truth b) ts x (record { spelled = ap (λ v. lex.word v ∷ ts) (truth_is w b i); levelled = tt; level = omega arith }) e
+  sound_meaning (suc f) w (Truth b) ts x i e = got (truth b) ts x (record { spelled = ap (λ v. lex.Word v ∷ ts) (truth_is w b i); levelled = tt; level = omega arith }) e
   sound_meaning (suc f) w (Function g) ts x i e =
       let h = bind_some (behind (codes "(") ts) (λ k. inside f k >>= λ y. Some (call g y.0, y.1)) x e in
       let p = behind_is (codes "(") ts h.0 h.1 in
       let q = bind_some (inside f h.0) (λ y. Some (call g y.0, y.1)) x h.2 in
       let r = sound_inside f h.0 q.0 q.1 in
       let n = function_is w g i in
-      let t = p ∙ ap (λ t. lex.sign (codes "(") ∷ t) r.0 in
-      got (call g q.0.0) q.0.1 x (record { spelled = λ j. lex.word (n j) ∷ t j; levelled = r.1; level = omega arith }) q.2
+      let t = p ∙ ap (λ t. lex.Sign (codes "(") ∷ t) r.0 in
+      got (call g q.0.0) q.0.1 x (record { spelled = λ j. lex.Word (n j) ∷ t j; levelled = r.1; level = omega arith }) q.2
   sound_meaning (suc f) w Other ts x i e = absurd cc
   sound_meaning (suc f) w Free ts x i e = got (name w) ts x (record { spelled = refl; levelled = free_is w i; level = omega arith }) e

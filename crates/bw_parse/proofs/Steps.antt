@@ -8,8 +8,8 @@ use Rattle.bw_lang.specs.declared.expr.Op.TheVariants.{Or, And, Eq, Ne, Lt, Le, 
 use Rattle.bw_lang.specs.declared.expr.Fun.{Fun}
 use Rattle.bw_lang.specs.declared.expr.Fun.TheVariants as funs
 use Rattle.bw_lang.specs.Keywords.{is, is_keyword}
-use Rattle.bw_lang.specs.Lexemes as lex
-use Rattle.bw_lang.specs.Lexemes.{Lexeme}
+use Rattle.bw_lang.specs.declared.token.Lexeme.{Lexeme}
+use Rattle.bw_lang.specs.declared.token.Lexeme.TheVariants as lex
 use Rattle.bw_lang.specs.Levels.{op_level, left_level, level, Levelled, AreLevelled, IsSome, IsWritable}
 use Rattle.bw_lang.specs.Spelling.{spell, spell_pairs}
 use Rattle.bw_lang.specs.Term.{Term, int, truth, string, name, paren, not, neg, binary, call, plug, Fillings, no_more, filling, append_fillings}
@@ -31,12 +31,12 @@ mutual
   longer (truth b) k = omega arith
   longer (string s) k = omega arith
   longer (name w) k = omega arith
-  longer (paren e) k = omega (arith, longer e (lex.sign (codes ")") ∷ k))
+  longer (paren e) k = omega (arith, longer e (lex.Sign (codes ")") ∷ k))
   longer (not e) k = omega (arith, longer e k)
   longer (neg e) k = omega (arith, longer e k)
-  longer (binary op l r) k = omega (arith, longer l (lex.sign (op_sign op) ∷ spell r k), longer r k)
-  longer (call f e) k = omega (arith, longer e (lex.sign (codes ")") ∷ k))
-  longer (plug base ps) k = omega (arith, longer base (spell_pairs (codes "<[") ps (lex.sign (codes "]") ∷ k)), pairs_longer (codes "<[") ps (lex.sign (codes "]") ∷ k))
+  longer (binary op l r) k = omega (arith, longer l (lex.Sign (op_sign op) ∷ spell r k), longer r k)
+  longer (call f e) k = omega (arith, longer e (lex.Sign (codes ")") ∷ k))
+  longer (plug base ps) k = omega (arith, longer base (spell_pairs (codes "<[") ps (lex.Sign (codes "]") ∷ k)), pairs_longer (codes "<[") ps (lex.Sign (codes "]") ∷ k))
 
   pub pairs_longer : (s : List ℕ) (ps : Fillings) (k : List Lexeme) → length k ≤ length (spell_pairs s ps k)
   pairs_longer s no_more k = omega arith
@@ -58,7 +58,7 @@ pairs_shorter f front ts x e =
     omega (arith, some_pairs (codes ",") r.rest x.1 r.some, ap length (r.spelled (codes ",")))
 
 pub inside_shorter : (f : ℕ) (ts : List Lexeme) (x : Term × List Lexeme) → inside f ts ≡ Some x → length x.1 < length ts
-inside_shorter f ts x e = let r = sound_inside f ts x e in omega (arith, longer x.0 (lex.sign (codes ")") ∷ x.1), ap length r.0)
+inside_shorter f ts x e = let r = sound_inside f ts x e in omega (arith, longer x.0 (lex.Sign (codes ")") ∷ x.1), ap length r.0)
 
 pub behind_shorter : (s : List ℕ) (ts k : List Lexeme) → behind s ts ≡ Some k → length k + 1 ≡ length ts
 behind_shorter s ts k e = omega (arith, ap length (behind_is s ts k e))
@@ -150,13 +150,13 @@ mutual
   stable_atom : (f : ℕ) (ts : List Lexeme) → 20 * length ts + 3 ≤ f → atom (suc f) ts ≡ atom f ts
   stable_atom zero ts le = absurd (omega arith)
   stable_atom (suc f) [] le = refl
-  stable_atom (suc f) (lex.number n ∷ ts) le = refl
-  stable_atom (suc f) (lex.string n ∷ ts) le = refl
-  stable_atom (suc f) (lex.template t ∷ ts) le = refl
-  stable_atom (suc f) (lex.word w ∷ ts) le = stable_word f w (meaning w) ts (omega arith)
-  stable_atom (suc f) (lex.sign s ∷ ts) le =
-      bind_same (behind (codes "(") (lex.sign s ∷ ts)) _ _ _ refl
-      (λ k p. let t = behind_shorter (codes "(") (lex.sign s ∷ ts) k p in ap (λ o. o >>= λ x. Some (paren x.0, x.1)) (stable_inside f k (omega arith)))
+  stable_atom (suc f) (lex.Number n ∷ ts) le = refl
+  stable_atom (suc f) (lex.Str n ∷ ts) le = refl
+  stable_atom (suc f) (lex.Template t ∷ ts) le = refl
+  stable_atom (suc f) (lex.Word w ∷ ts) le = stable_word f w (meaning w) ts (omega arith)
+  stable_atom (suc f) (lex.Sign s ∷ ts) le =
+      bind_same (behind (codes "(") (lex.Sign s ∷ ts)) _ _ _ refl
+      (λ k p. let t = behind_shorter (codes "(") (lex.Sign s ∷ ts) k p in ap (λ o. o >>= λ x. Some (paren x.0, x.1)) (stable_inside f k (omega arith)))
 
   stable_inside : (f : ℕ) (ts : List Lexeme) → 20 * length ts + 19 ≤ f → inside (suc f) ts ≡ inside f ts
   stable_inside zero ts le = absurd (omega arith)
@@ -308,11 +308,11 @@ parse_inside_is ts =
 -- what an atom is, by its first token
 abbrev pub atom_of : List Lexeme → Read Term
 atom_of [] = None
-atom_of (lex.number n ∷ ts) = number_at n ts
-atom_of (lex.string s ∷ ts) = Some (string s, ts)
-atom_of (lex.template t ∷ ts) = None
-atom_of (lex.sign s ∷ ts) = behind (codes "(") (lex.sign s ∷ ts) >>= λ k. parse_inside k >>= λ x. Some (paren x.0, x.1)
-atom_of (lex.word w ∷ ts) = parse_word w (meaning w) ts
+atom_of (lex.Number n ∷ ts) = number_at n ts
+atom_of (lex.Str s ∷ ts) = Some (string s, ts)
+atom_of (lex.Template t ∷ ts) = None
+atom_of (lex.Sign s ∷ ts) = behind (codes "(") (lex.Sign s ∷ ts) >>= λ k. parse_inside k >>= λ x. Some (paren x.0, x.1)
+atom_of (lex.Word w ∷ ts) = parse_word w (meaning w) ts
 
 pub parse_atom_is : (ts : List Lexeme) → parse_atom ts ≡ atom_of ts
 unfolding expr
@@ -320,13 +320,13 @@ parse_atom_is ts = sym (atom_is (suc (20 * length ts + 30)) ts (omega arith)) �
   where
     go : (ts : List Lexeme) → atom (suc (20 * length ts + 30)) ts ≡ atom_of ts
     go [] = refl
-    go (lex.number n ∷ ts) = refl
-    go (lex.string n ∷ ts) = refl
-    go (lex.template t ∷ ts) = refl
-    go (lex.word w ∷ ts) = word_is_by (20 * suc (length ts) + 30) w (meaning w) ts (omega arith)
-    go (lex.sign s ∷ ts) =
-        bind_same (behind (codes "(") (lex.sign s ∷ ts)) _ _ _ refl
-        (λ k p. let t = behind_shorter (codes "(") (lex.sign s ∷ ts) k p in ap (λ o. o >>= λ x. Some (paren x.0, x.1)) (inside_is (20 * suc (length ts) + 30) k (omega arith)))
+    go (lex.Number n ∷ ts) = refl
+    go (lex.Str n ∷ ts) = refl
+    go (lex.Template t ∷ ts) = refl
+    go (lex.Word w ∷ ts) = word_is_by (20 * suc (length ts) + 30) w (meaning w) ts (omega arith)
+    go (lex.Sign s ∷ ts) =
+        bind_same (behind (codes "(") (lex.Sign s ∷ ts)) _ _ _ refl
+        (λ k p. let t = behind_shorter (codes "(") (lex.Sign s ∷ ts) k p in ap (λ o. o >>= λ x. Some (paren x.0, x.1)) (inside_is (20 * suc (length ts) + 30) k (omega arith)))
 
 pub parse_truth : (w : List ℕ) (b : Bool) (ts : List Lexeme) → parse_word w (Truth b) ts ≡ Some (truth b, ts)
 unfolding expr
@@ -350,22 +350,22 @@ parse_function w g ts =
 pub parse_tight : (n : ℕ) (ts : List Lexeme) → 7 < n → n ≤ 8 → parse n ts ≡ (parse_atom ts >>= λ x. parse_plugs x.0 x.1)
 parse_tight n ts lt le = let e : n ≡ 8 = omega arith in ap (λ (m : ℕ). parse m ts) e ∙ parse_eight ts
 
-pub parse_number : (n : ℕ) (ts : List Lexeme) → parse_atom (lex.number n ∷ ts) ≡ number_at n ts
-parse_number n ts = parse_atom_is (lex.number n ∷ ts)
+pub parse_number : (n : ℕ) (ts : List Lexeme) → parse_atom (lex.Number n ∷ ts) ≡ number_at n ts
+parse_number n ts = parse_atom_is (lex.Number n ∷ ts)
 
-pub parse_str : (s : List ℕ) (ts : List Lexeme) → parse_atom (lex.string s ∷ ts) ≡ Some (string s, ts)
-parse_str s ts = parse_atom_is (lex.string s ∷ ts)
+pub parse_str : (s : List ℕ) (ts : List Lexeme) → parse_atom (lex.Str s ∷ ts) ≡ Some (string s, ts)
+parse_str s ts = parse_atom_is (lex.Str s ∷ ts)
 
-pub parse_sign : (s : List ℕ) (ts : List Lexeme) → parse_atom (lex.sign s ∷ ts) ≡ (behind (codes "(") (lex.sign s ∷ ts) >>= λ k. parse_inside k >>= λ x. Some (paren x.0, x.1))
-parse_sign s ts = parse_atom_is (lex.sign s ∷ ts)
+pub parse_sign : (s : List ℕ) (ts : List Lexeme) → parse_atom (lex.Sign s ∷ ts) ≡ (behind (codes "(") (lex.Sign s ∷ ts) >>= λ k. parse_inside k >>= λ x. Some (paren x.0, x.1))
+parse_sign s ts = parse_atom_is (lex.Sign s ∷ ts)
 
-pub parse_word_is : (w : List ℕ) (ts : List Lexeme) → parse_atom (lex.word w ∷ ts) ≡ parse_word w (meaning w) ts
-parse_word_is w ts = parse_atom_is (lex.word w ∷ ts)
+pub parse_word_is : (w : List ℕ) (ts : List Lexeme) → parse_atom (lex.Word w ∷ ts) ≡ parse_word w (meaning w) ts
+parse_word_is w ts = parse_atom_is (lex.Word w ∷ ts)
 
 pub parse_none : parse_atom [] ≡ None
 parse_none = parse_atom_is []
 
-pub parse_template : (t : List ℕ) (ts : List Lexeme) → parse_atom (lex.template t ∷ ts) ≡ None
-parse_template t ts = parse_atom_is (lex.template t ∷ ts)
+pub parse_template : (t : List ℕ) (ts : List Lexeme) → parse_atom (lex.Template t ∷ ts) ≡ None
+parse_template t ts = parse_atom_is (lex.Template t ∷ ts)
 
 pub ruleset equations = (parse_none, parse_template, parse_tight, parse_number, parse_str, parse_sign, parse_word_is, parse_loose, parse_seven, parse_eight, parse_more_is, parse_prefix_is, parse_plugs_is, parse_pairs_is, parse_inside_is, parse_atom_is, parse_truth, parse_other, parse_free, parse_function)

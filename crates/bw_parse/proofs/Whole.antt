@@ -1,7 +1,7 @@
 -- Of all the tokens: what is parsed is spelled so, and what is spelled so is parsed.
 use Rattle.std.proofs.Common.{◌≡◌, ℕ, ◌+◌, ◌*◌, ◌<◌, List, [], ◌∷◌, length, Option, Some, None, refl, sym, ap, ◌∙◌, subst, arith}
 use Rattle.bw_lang.specs.Levels.{Levelled}
-use Rattle.bw_lang.specs.Lexemes.{Lexeme}
+use Rattle.bw_lang.specs.declared.token.Lexeme.{Lexeme}
 use Rattle.bw_lang.specs.Spelling.{spell}
 use Rattle.bw_lang.specs.Term.{Term}
 use Rattle.bw_parse.specs.Expressions.{expr, parse, steps}

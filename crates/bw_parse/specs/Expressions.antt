@@ -1,7 +1,7 @@
 -- What the parser gives for expressions. The number at the front bounds its steps.
 use Rattle.std.specs.Prelude.{ℕ, zero, suc, pos, ◌+◌, ◌-◌, ◌*◌, Bool, true, false, nat_lt, ◌==◌, if◌then◌else◌, List, [], ◌∷◌, length, Option, Some, None, codes}
-use Rattle.bw_lang.specs.Lexemes as lex
-use Rattle.bw_lang.specs.Lexemes.{Lexeme}
+use Rattle.bw_lang.specs.declared.token.Lexeme.{Lexeme}
+use Rattle.bw_lang.specs.declared.token.Lexeme.TheVariants as lex
 use Rattle.bw_lang.specs.Levels.{left_level}
 use Rattle.bw_lang.specs.Term.{Term, int, truth, string, name, paren, not, neg, binary, call, plug, Fillings, no_more, filling, append_fillings}
 use Rattle.bw_parse.specs.declared.lexemes.Meaning.{Meaning}
@@ -53,11 +53,11 @@ unfoldable mutual
   pub atom : ℕ → List Lexeme → Read Term
   atom zero ts = None
   atom (suc f) [] = None
-  atom (suc f) (lex.number n ∷ ts) = number_at n ts
-  atom (suc f) (lex.string s ∷ ts) = Some (string s, ts)
-  atom (suc f) (lex.template t ∷ ts) = None
-  atom (suc f) (lex.sign s ∷ ts) = behind (codes "(") (lex.sign s ∷ ts) >>= λ k. inside f k >>= λ x. Some (paren x.0, x.1)
-  atom (suc f) (lex.word w ∷ ts) = by_meaning f w (meaning w) ts
+  atom (suc f) (lex.Number n ∷ ts) = number_at n ts
+  atom (suc f) (lex.Str s ∷ ts) = Some (string s, ts)
+  atom (suc f) (lex.Template t ∷ ts) = None
+  atom (suc f) (lex.Sign s ∷ ts) = behind (codes "(") (lex.Sign s ∷ ts) >>= λ k. inside f k >>= λ x. Some (paren x.0, x.1)
+  atom (suc f) (lex.Word w ∷ ts) = by_meaning f w (meaning w) ts
 
   -- an expression and the closing parenthesis
   pub inside : ℕ → List Lexeme → Read Term

@@ -8,8 +8,8 @@ use Rattle.bw_lang.specs.declared.stmt.Kind.{Kind}
 use Rattle.bw_lang.specs.declared.stmt.Kind.TheVariants as kinds
 use Rattle.bw_lang.specs.Keywords.{is, is_keyword}
 use Rattle.bw_lang.specs.Levels.{op_level}
-use Rattle.bw_lang.specs.Lexemes as lex
-use Rattle.bw_lang.specs.Lexemes.{Lexeme}
+use Rattle.bw_lang.specs.declared.token.Lexeme.{Lexeme}
+use Rattle.bw_lang.specs.declared.token.Lexeme.TheVariants as lex
 use Rattle.bw_parse.specs.declared.lexemes.Meaning.{Meaning}
 use Rattle.bw_parse.specs.declared.lexemes.Meaning.TheVariants.{Truth, Function, Other, Free}
 
@@ -30,19 +30,19 @@ where_some None f d = d
 -- what follows this sign
 unfoldable pub behind : List ℕ → List Lexeme → Option (List Lexeme)
 behind s [] = None
-behind s (lex.sign t ∷ ts) = if is t s then Some ts else None
+behind s (lex.Sign t ∷ ts) = if is t s then Some ts else None
 behind s (t ∷ ts) = None
 
 -- what follows this word
 unfoldable pub keyword : List ℕ → List Lexeme → Option (List Lexeme)
 keyword v [] = None
-keyword v (lex.word w ∷ ts) = if is w v then Some ts else None
+keyword v (lex.Word w ∷ ts) = if is w v then Some ts else None
 keyword v (t ∷ ts) = None
 
 -- a word
 unfoldable pub word : List Lexeme → Read (List ℕ)
 word [] = None
-word (lex.word w ∷ ts) = Some (w, ts)
+word (lex.Word w ∷ ts) = Some (w, ts)
 word (t ∷ ts) = None
 
 -- a word that is no keyword
@@ -66,7 +66,7 @@ if_level n ts op = if op_level op == n then Some (op, ts) else None
 -- an operator of this level
 unfoldable pub operator : ℕ → List Lexeme → Read Op
 operator n [] = None
-operator n (lex.sign s ∷ ts) = op_of s >>= if_level n ts
+operator n (lex.Sign s ∷ ts) = op_of s >>= if_level n ts
 operator n (t ∷ ts) = None
 
 -- what a word means where an expression may stand

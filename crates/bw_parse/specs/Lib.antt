@@ -4,4 +4,3 @@ pub mod Fronts
 pub mod Gives
 pub mod Services
 pub mod Statements
-pub mod View

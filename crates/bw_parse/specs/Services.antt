@@ -3,8 +3,8 @@ use Rattle.std.specs.Prelude.{ℕ, zero, suc, ◌+◌, length, nat_lt, if◌then
 use Rattle.bw_lang.specs.declared.declaration.Written.{Written}
 use Rattle.bw_lang.specs.declared.declaration.Written.TheVariants as written
 use Rattle.bw_lang.specs.Drafts.{Draft, template, shared, session}
-use Rattle.bw_lang.specs.Lexemes as lex
-use Rattle.bw_lang.specs.Lexemes.{Lexeme}
+use Rattle.bw_lang.specs.declared.token.Lexeme.{Lexeme}
+use Rattle.bw_lang.specs.declared.token.Lexeme.TheVariants as lex
 use Rattle.bw_parse.specs.declared.lexemes.Meaning.{Meaning}
 use Rattle.bw_parse.specs.declared.lexemes.Meaning.TheVariants.{Truth, Function, Other, Free}
 use Rattle.bw_parse.specs.Fronts.{Read, ◌>>=◌, where_some, behind, keyword, named, kind, meaning}
@@ -13,13 +13,13 @@ use Rattle.bw_parse.specs.Statements.{parse_code}
 -- the inside of a template
 unfoldable pub template_token : List Lexeme → Read (List ℕ)
 template_token [] = None
-template_token (lex.template t ∷ ts) = Some (t, ts)
+template_token (lex.Template t ∷ ts) = Some (t, ts)
 template_token (t ∷ ts) = None
 
 -- a number that a text may have
 unfoldable pub number_token : List Lexeme → Read ℕ
 number_token [] = None
-number_token (lex.number n ∷ ts) = if nat_lt n 9223372036854775808 then Some (n, ts) else None
+number_token (lex.Number n ∷ ts) = if nat_lt n 9223372036854775808 then Some (n, ts) else None
 number_token (t ∷ ts) = None
 
 -- the literal that a word of this meaning is
@@ -32,9 +32,9 @@ word_literal w Free = Some (written.Name w)
 -- a literal without `-` in front
 unfoldable pub plain_literal : List Lexeme → Read Written
 plain_literal [] = None
-plain_literal (lex.number n ∷ ts) = if nat_lt n 9223372036854775808 then Some (written.Plus n, ts) else None
-plain_literal (lex.string s ∷ ts) = Some (written.Str s, ts)
-plain_literal (lex.word w ∷ ts) = word_literal w (meaning w) >>= λ l. Some (l, ts)
+plain_literal (lex.Number n ∷ ts) = if nat_lt n 9223372036854775808 then Some (written.Plus n, ts) else None
+plain_literal (lex.Str s ∷ ts) = Some (written.Str s, ts)
+plain_literal (lex.Word w ∷ ts) = word_literal w (meaning w) >>= λ l. Some (l, ts)
 plain_literal (t ∷ ts) = None
 
 unfoldable pub literal : List Lexeme → Read Written

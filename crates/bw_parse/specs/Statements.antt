@@ -3,7 +3,7 @@ use Rattle.std.specs.Prelude.{ℕ, zero, suc, ◌+◌, ◌*◌, length, List, []
 use Rattle.bw_lang.specs.declared.stmt.Kind.{Kind}
 use Rattle.bw_lang.specs.declared.stmt.Receive.{Receive}
 use Rattle.bw_lang.specs.Code.{Code, done, declare, assign, if_then, if_else, while_loop, block, show, exit, append}
-use Rattle.bw_lang.specs.Lexemes.{Lexeme}
+use Rattle.bw_lang.specs.declared.token.Lexeme.{Lexeme}
 use Rattle.bw_lang.specs.Term.{Term}
 use Rattle.bw_parse.specs.Expressions.{parse, parse_inside}
 use Rattle.bw_parse.specs.Fronts.{Read, ◌>>=◌, where_some, behind, keyword, word, named, kind}

@@ -4,24 +4,23 @@ ghost use Rattle.bw_lang.specs.Levels.{left_level};
 ghost use Rattle.bw_lang.specs.TermView.{term};
 ghost use Rattle.bw_parse.specs.Expressions.{parse, parse_more, parse_prefix, parse_plugs, parse_pairs, parse_atom, parse_inside, parse_word, number_at};
 ghost use Rattle.bw_parse.specs.Gives.{Gives};
-ghost use Rattle.bw_parse.specs.View.{says};
 
 use crate::fault::ParseFault;
-use crate::lexemes::{Lexeme, Meaning, after, first, meaning_of, operator, word};
-use bw_lang::{Expr, Name, Pair, Pairs, Part, Text};
+use crate::lexemes::{Meaning, after, first, meaning_of, operator, word};
+use bw_lang::{Expr, Lexeme, Name, Pair, Pairs, Part};
 use std::alloc::Global;
 
 /// An expression of the level or of a tighter one, and what follows it. The levels are those of docs/LANGUAGE.md;
 /// here 8 stands for 9 too.
 #[cycle(expression)]
 #[tactic(auto, using(crate::proofs::Steps::equations))]
-pub(crate) fn expr<'a, 'b>(
+pub(crate) fn expr(
     alloc: Global,
     level: u8,
-    lexemes: &'b [Lexeme<'a>],
-) -> Result<(Expr, &'b [Lexeme<'a>]), ParseFault>
+    lexemes: &[Lexeme],
+) -> Result<(Expr, &[Lexeme]), ParseFault>
     requires { level ≤ 8 }
-    ensures value { Gives (λ x. (term x.0, says x.1.now)) result (parse level (says lexemes.now)) }
+    ensures value { Gives (λ x. (term x.0, x.1.now)) result (parse level lexemes.now) }
     ensures shorter { IfOk result (λ x. length x.1.now < length lexemes.now) }
 {
     if level < 7 {
@@ -38,14 +37,14 @@ pub(crate) fn expr<'a, 'b>(
 /// The operators of the level behind a left operand, with their right operands.
 #[cycle(expression)]
 #[tactic(auto, using(crate::proofs::Steps::equations))]
-fn more<'a, 'b>(
+fn more(
     alloc: Global,
     level: u8,
     left: Expr,
-    lexemes: &'b [Lexeme<'a>],
-) -> Result<(Expr, &'b [Lexeme<'a>]), ParseFault>
+    lexemes: &[Lexeme],
+) -> Result<(Expr, &[Lexeme]), ParseFault>
     requires { level < 7 }
-    ensures value { Gives (λ x. (term x.0, says x.1.now)) result (parse_more level (term left) (says lexemes.now)) }
+    ensures value { Gives (λ x. (term x.0, x.1.now)) result (parse_more level (term left) lexemes.now) }
     ensures shorter { IfOk result (λ x. length x.1.now ≤ length lexemes.now) }
 {
     match operator(level, lexemes) {
@@ -76,11 +75,11 @@ fn groups(level: u8) -> bool
 /// `!` or `-` and its operand, or an expression that binds tighter.
 #[cycle(expression)]
 #[tactic(auto, using(crate::proofs::Steps::equations))]
-fn prefix<'a, 'b>(
+fn prefix(
     alloc: Global,
-    lexemes: &'b [Lexeme<'a>],
-) -> Result<(Expr, &'b [Lexeme<'a>]), ParseFault>
-    ensures value { Gives (λ x. (term x.0, says x.1.now)) result (parse_prefix (says lexemes.now)) }
+    lexemes: &[Lexeme],
+) -> Result<(Expr, &[Lexeme]), ParseFault>
+    ensures value { Gives (λ x. (term x.0, x.1.now)) result (parse_prefix lexemes.now) }
     ensures shorter { IfOk result (λ x. length x.1.now < length lexemes.now) }
 {
     if let Some(rest) = after(b"!", lexemes) {
@@ -97,12 +96,12 @@ fn prefix<'a, 'b>(
 /// The plugs behind a base.
 #[cycle(expression)]
 #[tactic(auto, using(crate::proofs::Steps::equations))]
-fn plugs<'a, 'b>(
+fn plugs(
     alloc: Global,
     base: Expr,
-    lexemes: &'b [Lexeme<'a>],
-) -> Result<(Expr, &'b [Lexeme<'a>]), ParseFault>
-    ensures value { Gives (λ x. (term x.0, says x.1.now)) result (parse_plugs (term base) (says lexemes.now)) }
+    lexemes: &[Lexeme],
+) -> Result<(Expr, &[Lexeme]), ParseFault>
+    ensures value { Gives (λ x. (term x.0, x.1.now)) result (parse_plugs (term base) lexemes.now) }
     ensures shorter { IfOk result (λ x. length x.1.now ≤ length lexemes.now) }
 {
     match after(b"<[", lexemes) {
@@ -126,12 +125,12 @@ fn plugs<'a, 'b>(
 /// Pairs with commas between them, behind those that are there.
 #[cycle(expression)]
 #[tactic(auto, using(crate::proofs::Steps::equations))]
-fn pairs<'a, 'b>(
+fn pairs(
     alloc: Global,
     mut front: Pairs,
-    lexemes: &'b [Lexeme<'a>],
-) -> Result<(Pairs, &'b [Lexeme<'a>]), ParseFault>
-    ensures value { Gives (λ x. (x.0, says x.1.now)) result (parse_pairs front (says lexemes.now)) }
+    lexemes: &[Lexeme],
+) -> Result<(Pairs, &[Lexeme]), ParseFault>
+    ensures value { Gives (λ x. (x.0, x.1.now)) result (parse_pairs front lexemes.now) }
     ensures shorter { IfOk result (λ x. length x.1.now < length lexemes.now) }
 {
     let Some((gap, rest)) = word(lexemes) else {
@@ -141,7 +140,7 @@ fn pairs<'a, 'b>(
         return Err(ParseFault::Syntax(rest.len()));
     };
     let (value, rest) = expr(alloc, 1, rest)?;
-    let gap = Name::of(alloc, gap)?;
+    let gap = gap.copy()?;
     front.push(Pair { gap, value })?;
     match after(b",", rest) {
         Some(rest) => pairs(alloc, front, rest),
@@ -152,20 +151,20 @@ fn pairs<'a, 'b>(
 /// An expression that no operator opens.
 #[cycle(expression)]
 #[tactic(auto, using(crate::proofs::Steps::equations))]
-fn atom<'a, 'b>(
+fn atom(
     alloc: Global,
-    lexemes: &'b [Lexeme<'a>],
-) -> Result<(Expr, &'b [Lexeme<'a>]), ParseFault>
-    ensures value { Gives (λ x. (term x.0, says x.1.now)) result (parse_atom (says lexemes.now)) }
+    lexemes: &[Lexeme],
+) -> Result<(Expr, &[Lexeme]), ParseFault>
+    ensures value { Gives (λ x. (term x.0, x.1.now)) result (parse_atom lexemes.now) }
     ensures shorter { IfOk result (λ x. length x.1.now < length lexemes.now) }
 {
     let Some((lexeme, rest)) = first(lexemes) else {
         return Err(ParseFault::Syntax(0));
     };
     match lexeme {
-        Lexeme::Number(number) => whole(number, rest),
-        Lexeme::Str(text) => Ok((Expr::Str(Text::of(alloc, text)?), rest)),
-        Lexeme::Word(word) => by_meaning(alloc, word, meaning_of(word), rest),
+        Lexeme::Number(number) => whole(*number, rest),
+        Lexeme::Str(text) => Ok((Expr::Str(text.copy()?), rest)),
+        Lexeme::Word(word) => by_meaning(alloc, word, meaning_of(word.as_str()), rest),
         Lexeme::Template(_) => Err(ParseFault::Syntax(lexemes.len())),
         Lexeme::Sign(_) => match after(b"(", lexemes) {
             None => Err(ParseFault::Syntax(lexemes.len())),
@@ -178,11 +177,11 @@ fn atom<'a, 'b>(
 }
 
 /// A number, which is below 2^63 in every text.
-fn whole<'a, 'b>(
+fn whole(
     number: u64,
-    rest: &'b [Lexeme<'a>],
-) -> Result<(Expr, &'b [Lexeme<'a>]), ParseFault>
-    ensures value { Gives (λ x. (term x.0, says x.1.now)) result (number_at number (says rest.now)) }
+    rest: &[Lexeme],
+) -> Result<(Expr, &[Lexeme]), ParseFault>
+    ensures value { Gives (λ x. (term x.0, x.1.now)) result (number_at number rest.now) }
     ensures rest { IfOk result (λ x. x.1.now ≡ rest.now) }
 {
     if number < 9_223_372_036_854_775_808 {
@@ -195,11 +194,11 @@ fn whole<'a, 'b>(
 /// An expression and the closing parenthesis.
 #[cycle(expression)]
 #[tactic(auto, using(crate::proofs::Steps::equations))]
-pub(crate) fn inside<'a, 'b>(
+pub(crate) fn inside(
     alloc: Global,
-    lexemes: &'b [Lexeme<'a>],
-) -> Result<(Expr, &'b [Lexeme<'a>]), ParseFault>
-    ensures value { Gives (λ x. (term x.0, says x.1.now)) result (parse_inside (says lexemes.now)) }
+    lexemes: &[Lexeme],
+) -> Result<(Expr, &[Lexeme]), ParseFault>
+    ensures value { Gives (λ x. (term x.0, x.1.now)) result (parse_inside lexemes.now) }
     ensures shorter { IfOk result (λ x. length x.1.now < length lexemes.now) }
 {
     let (inner, rest) = expr(alloc, 1, lexemes)?;
@@ -212,19 +211,19 @@ pub(crate) fn inside<'a, 'b>(
 /// What a word of this meaning begins.
 #[cycle(expression)]
 #[tactic(auto, using(crate::proofs::Steps::equations))]
-fn by_meaning<'a, 'b>(
+fn by_meaning<'a>(
     alloc: Global,
-    word: &str,
+    word: &Name,
     meaning: Meaning,
-    rest: &'b [Lexeme<'a>],
-) -> Result<(Expr, &'b [Lexeme<'a>]), ParseFault>
-    ensures value { Gives (λ x. (term x.0, says x.1.now)) result (parse_word word.now meaning (says rest.now)) }
+    rest: &'a [Lexeme],
+) -> Result<(Expr, &'a [Lexeme]), ParseFault>
+    ensures value { Gives (λ x. (term x.0, x.1.now)) result (parse_word word.now meaning rest.now) }
     ensures shorter { IfOk result (λ x. length x.1.now ≤ length rest.now) }
 {
     match meaning {
         Meaning::Truth(truth) => Ok((Expr::Bool(truth), rest)),
         Meaning::Other => Err(ParseFault::Syntax(rest.len())),
-        Meaning::Free => Ok((Expr::Name(Name::of(alloc, word)?), rest)),
+        Meaning::Free => Ok((Expr::Name(word.copy()?), rest)),
         Meaning::Function(fun) => match after(b"(", rest) {
             None => Err(ParseFault::Syntax(rest.len())),
             Some(rest) => {

@@ -5,21 +5,8 @@ ghost use Rattle.bw_lang.specs.Words.{op_sign};
 ghost use Rattle.bw_lang.specs.Levels.{op_level};
 ghost use Rattle.bw_parse.specs.Fronts as front;
 ghost use Rattle.bw_parse.specs.Gives.{Finds};
-ghost use Rattle.bw_parse.specs.View.{said, says};
 
-use bw_lang::{Fun, Kind, Op, is_keyword};
-
-/// What a token says, borrowed from the text and its tokens.
-#[derive(Clone, Copy, Debug)]
-pub enum Lexeme<'a> {
-    Word(&'a str),
-    Number(u64),
-    /// The text that a string stands for.
-    Str(&'a str),
-    /// What stands between `<html>` and `</html>`.
-    Template(&'a [u8]),
-    Sign(&'a [u8]),
-}
+use bw_lang::{Fun, Kind, Lexeme, Name, Op, is_keyword};
 
 /// What a word means where an expression may stand.
 #[derive(Clone, Copy, Debug, PartialEq, Eq)]
@@ -129,82 +116,84 @@ fn kind_of(word: &str) -> Option<Kind>
 }
 
 /// The first lexeme, and those that follow it.
-pub(crate) fn first<'a, 'b>(lexemes: &'b [Lexeme<'a>]) -> Option<(Lexeme<'a>, &'b [Lexeme<'a>])>
-    ensures value { MatchOption result (lexemes.now ≡ []) (λ x. lexemes.now ≡ x.0 ∷ x.1.now) }
-    ensures says { MatchOption result (says lexemes.now ≡ []) (λ x. says lexemes.now ≡ said x.0 ∷ says x.1.now) }
-    ensures shorter { IfSome result (λ x. length x.1.now < length lexemes.now) }
+pub(crate) fn first(lexemes: &[Lexeme]) -> Option<(&Lexeme, &[Lexeme])>
+    ensures { MatchOption result (lexemes.now ≡ []) (λ x. lexemes.now ≡ x.0.now ∷ x.1.now) }
 {
     match lexemes {
         [] => None,
-        [lexeme, rest @ ..] => Some((*lexeme, rest)),
+        [lexeme, rest @ ..] => Some((lexeme, rest)),
     }
 }
 
 /// What follows this sign.
 #[tactic(auto, unfolding(crate::specs::Fronts::behind))]
-pub(crate) fn after<'a, 'b>(sign: &[u8], lexemes: &'b [Lexeme<'a>]) -> Option<&'b [Lexeme<'a>]>
-    ensures value { Finds (λ k. says k.now) result (front.behind sign.now (says lexemes.now)) }
+pub(crate) fn after<'a>(sign: &[u8], lexemes: &'a [Lexeme]) -> Option<&'a [Lexeme]>
+    ensures value { Finds (λ k. k.now) result (front.behind sign.now lexemes.now) }
     ensures shorter { IfSome result (λ k. length k.now < length lexemes.now) }
 {
     match lexemes {
-        [Lexeme::Sign(other), rest @ ..] => { if is_sign(other, sign) { Some(rest) } else { None } }
+        [Lexeme::Sign(other), rest @ ..] => { if is_sign(other.as_slice(), sign) { Some(rest) } else { None } }
         _ => None,
     }
 }
 
 /// What follows this keyword.
 #[tactic(auto, unfolding(crate::specs::Fronts::keyword))]
-pub(crate) fn keyword<'a, 'b>(word: &str, lexemes: &'b [Lexeme<'a>]) -> Option<&'b [Lexeme<'a>]>
-    ensures value { Finds (λ k. says k.now) result (front.keyword word.now (says lexemes.now)) }
+pub(crate) fn keyword<'a>(word: &str, lexemes: &'a [Lexeme]) -> Option<&'a [Lexeme]>
+    ensures value { Finds (λ k. k.now) result (front.keyword word.now lexemes.now) }
     ensures shorter { IfSome result (λ k. length k.now < length lexemes.now) }
 {
     match lexemes {
-        [Lexeme::Word(other), rest @ ..] => { if is_word(other, word) { Some(rest) } else { None } }
+        [Lexeme::Word(other), rest @ ..] => { if is_word(other.as_str(), word) { Some(rest) } else { None } }
         _ => None,
     }
 }
 
 /// A word, and what follows it.
 #[tactic(auto, unfolding(crate::specs::Fronts::word))]
-pub(crate) fn word<'a, 'b>(lexemes: &'b [Lexeme<'a>]) -> Option<(&'a str, &'b [Lexeme<'a>])>
-    ensures value { Finds (λ x. (x.0.now, says x.1.now)) result (front.word (says lexemes.now)) }
+pub(crate) fn word(lexemes: &[Lexeme]) -> Option<(&Name, &[Lexeme])>
+    ensures value { Finds (λ x. (x.0.now, x.1.now)) result (front.word lexemes.now) }
     ensures shorter { IfSome result (λ x. length x.1.now < length lexemes.now) }
 {
     match lexemes {
-        [Lexeme::Word(word), rest @ ..] => Some((*word, rest)),
+        [Lexeme::Word(word), rest @ ..] => Some((word, rest)),
         _ => None,
     }
 }
 
 /// A word that is no keyword, and what follows it.
 #[tactic(auto, unfolding(crate::specs::Fronts::named))]
-pub(crate) fn name<'a, 'b>(lexemes: &'b [Lexeme<'a>]) -> Option<(&'a str, &'b [Lexeme<'a>])>
-    ensures value { Finds (λ x. (x.0.now, says x.1.now)) result (front.named (says lexemes.now)) }
+pub(crate) fn name(lexemes: &[Lexeme]) -> Option<(&Name, &[Lexeme])>
+    ensures value { Finds (λ x. (x.0.now, x.1.now)) result (front.named lexemes.now) }
     ensures shorter { IfSome result (λ x. length x.1.now < length lexemes.now) }
 {
     let (word, rest) = word(lexemes)?;
-    if is_keyword(word) { None } else { Some((word, rest)) }
+    if is_keyword(word.as_str()) {
+        None
+    } else {
+        Some((word, rest))
+    }
 }
 
 /// A kind, and what follows it.
 #[tactic(auto, unfolding(crate::specs::Fronts::kind))]
-pub(crate) fn kind<'a, 'b>(lexemes: &'b [Lexeme<'a>]) -> Option<(Kind, &'b [Lexeme<'a>])>
-    ensures value { Finds (λ x. (x.0, says x.1.now)) result (front.kind (says lexemes.now)) }
+pub(crate) fn kind(lexemes: &[Lexeme]) -> Option<(Kind, &[Lexeme])>
+    ensures value { Finds (λ x. (x.0, x.1.now)) result (front.kind lexemes.now) }
     ensures shorter { IfSome result (λ x. length x.1.now < length lexemes.now) }
 {
     let (word, rest) = word(lexemes)?;
-    let kind = kind_of(word)?;
+    let kind = kind_of(word.as_str())?;
     Some((kind, rest))
 }
 
 /// An operator of this level, and what follows it.
 #[tactic(auto, unfolding(crate::specs::Fronts::operator))]
-pub(crate) fn operator<'a, 'b>(level: u8, lexemes: &'b [Lexeme<'a>]) -> Option<(Op, &'b [Lexeme<'a>])>
-    ensures value { Finds (λ x. (x.0, says x.1.now)) result (front.operator level (says lexemes.now)) }
+pub(crate) fn operator(level: u8, lexemes: &[Lexeme]) -> Option<(Op, &[Lexeme])>
+    ensures value { Finds (λ x. (x.0, x.1.now)) result (front.operator level lexemes.now) }
     ensures shorter { IfSome result (λ x. length x.1.now < length lexemes.now) }
 {
     match lexemes {
-        [Lexeme::Sign(sign), rest @ ..] => match op_of(sign) {
+        [Lexeme::Sign(sign), rest @ ..] => match op_of(sign.as_slice()) {
             Some(op) => { if level_of(op) == level { Some((op, rest)) } else { None } }
             None => None,
         },

@@ -6,7 +6,7 @@ mod expressions;
 mod fault;
 mod lexemes;
 mod services;
+mod statements;
 
 pub use fault::ParseFault;
-pub use lexemes::Lexeme;
 pub use services::Draft;
