@@ -1,21 +1,15 @@
 -- Declarations whose templates aren't read yet, and the tokens that a service is written with.
 use Rattle.std.specs.Prelude.{◌≡◌, ℕ, pos, neg_ℤ, ◌<◌, ◌^◌, List, [], ◌∷◌, codes}
-use Rattle.bw_lang.specs.declared.stmt.Kind.{Kind}
+use Rattle.bw_lang.specs.declared.declaration.Draft.{Draft}
+use Rattle.bw_lang.specs.declared.declaration.Draft.TheVariants as drafts
 use Rattle.bw_lang.specs.declared.declaration.Written.{Written}
 use Rattle.bw_lang.specs.declared.declaration.Written.TheVariants as written
 use Rattle.bw_lang.specs.declared.service.Literal.{Literal}
 use Rattle.bw_lang.specs.declared.service.Literal.TheVariants as literals
 use Rattle.bw_lang.specs.declared.token.Lexeme.{Lexeme}
 use Rattle.bw_lang.specs.declared.token.Lexeme.TheVariants as lex
-use Rattle.bw_lang.specs.Code.{Code}
 use Rattle.bw_lang.specs.Spelling.{spell_code, IsCode}
 use Rattle.bw_lang.specs.Words.{truth_word, kind_word, IsName}
-
--- a template's name and the bytes inside it; a shared variable's kind, name and literal; a session's name and body
-pub data Draft : Type 0 where
-  template : List ℕ → List ℕ → Draft
-  shared : Kind → List ℕ → Written → Draft
-  session : List ℕ → Code → Draft
 
 -- the literal that is written so
 abbrev pub literal_of : Written → Literal
@@ -41,10 +35,10 @@ spell_literal (written.Str s) k = lex.Str s ∷ k
 spell_literal (written.Name w) k = lex.Word w ∷ k
 
 abbrev pub spell_draft : Draft → List Lexeme → List Lexeme
-spell_draft (template name inside) k = lex.Word (codes "html") ∷ (lex.Word name ∷ (lex.Sign (codes "=") ∷ (lex.Template inside ∷ (lex.Sign (codes ";") ∷ k))))
-spell_draft (shared kind name init) k = lex.Word (codes "shared") ∷ (lex.Word (kind_word kind) ∷ (lex.Word name ∷ (lex.Sign (codes "=") ∷ spell_literal init (lex.Sign (codes ";") ∷ k))))
-spell_draft (session name body) k =
-    lex.Word (codes "session") ∷ (lex.Word name ∷ (lex.Sign (codes "(") ∷ (lex.Sign (codes ")") ∷ (lex.Sign (codes "{") ∷ spell_code body (lex.Sign (codes "}") ∷ k)))))
+spell_draft (drafts.Template name inside) k = lex.Word (codes "html") ∷ (lex.Word name ∷ (lex.Sign (codes "=") ∷ (lex.Template inside ∷ (lex.Sign (codes ";") ∷ k))))
+spell_draft (drafts.Shared kind name init) k = lex.Word (codes "shared") ∷ (lex.Word (kind_word kind) ∷ (lex.Word name ∷ (lex.Sign (codes "=") ∷ spell_literal init (lex.Sign (codes ";") ∷ k))))
+spell_draft (drafts.Session s) k =
+    lex.Word (codes "session") ∷ (lex.Word s.name ∷ (lex.Sign (codes "(") ∷ (lex.Sign (codes ")") ∷ (lex.Sign (codes "{") ∷ spell_code s.body (lex.Sign (codes "}") ∷ k)))))
 
 abbrev pub spell_drafts : List Draft → List Lexeme → List Lexeme
 spell_drafts [] k = k
@@ -56,9 +50,9 @@ spell_service name drafts = lex.Word (codes "service") ∷ (lex.Word name ∷ (l
 
 -- names are no keywords, expressions are levelled, and numbers can be written
 abbrev pub IsFormed : Draft → Type 0
-IsFormed (template name inside) = IsName name
-IsFormed (shared kind name init) = IsName name × IsWritten init
-IsFormed (session name body) = IsName name × IsCode body
+IsFormed (drafts.Template name inside) = IsName name
+IsFormed (drafts.Shared kind name init) = IsName name × IsWritten init
+IsFormed (drafts.Session s) = IsName s.name × IsCode s.body
 
 abbrev pub AreFormed : List Draft → Type 0
 AreFormed [] = Unit {0}

@@ -3,7 +3,8 @@ ghost use Rattle.std.specs.Prelude.{◌≡◌};
 ghost use Rattle.bw_lang.specs.Drafts.{IsWritten, literal_of};
 
 use crate::service::{Literal, Session, Shared, Template};
-use crate::text::{Name, Text};
+use crate::stmt::Kind;
+use crate::text::{Bytes, Name, Text};
 
 /// A literal as it is written: a number with or without `-` in front of it.
 #[derive(Debug, Drop)]
@@ -13,6 +14,19 @@ pub enum Written {
     Bool(bool),
     Str(Text),
     Name(Name),
+}
+
+/// A declaration as it is written, whose template isn't read yet.
+#[derive(Drop)]
+pub enum Draft {
+    /// A template's name, and the bytes inside it.
+    Template { name: Name, inside: Bytes },
+    Shared {
+        kind: Kind,
+        name: Name,
+        init: Written,
+    },
+    Session(Session),
 }
 
 /// A declaration of a service.

@@ -16,7 +16,7 @@ pub mod text;
 pub mod token;
 pub mod tree;
 
-pub use declaration::{Declaration, Written};
+pub use declaration::{Declaration, Draft, Written};
 pub use expr::{Expr, Fun, Op, Pair, Pairs, Part};
 pub use items::{Attr, AttrValue, Attrs, Element, GapId, Item, Items};
 pub use keywords::is_keyword;

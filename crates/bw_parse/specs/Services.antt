@@ -2,12 +2,14 @@
 use Rattle.std.specs.Prelude.{ℕ, zero, suc, ◌+◌, length, nat_lt, if◌then◌else◌, List, [], ◌∷◌, ◌++◌, Option, Some, None, codes}
 use Rattle.bw_lang.specs.declared.declaration.Written.{Written}
 use Rattle.bw_lang.specs.declared.declaration.Written.TheVariants as written
-use Rattle.bw_lang.specs.Drafts.{Draft, template, shared, session}
+use Rattle.bw_lang.specs.declared.declaration.Draft.{Draft}
+use Rattle.bw_lang.specs.declared.declaration.Draft.TheVariants as drafts
 use Rattle.bw_lang.specs.declared.token.Lexeme.{Lexeme}
 use Rattle.bw_lang.specs.declared.token.Lexeme.TheVariants as lex
 use Rattle.bw_parse.specs.declared.lexemes.Meaning.{Meaning}
 use Rattle.bw_parse.specs.declared.lexemes.Meaning.TheVariants.{Truth, Function, Other, Free}
-use Rattle.bw_parse.specs.Fronts.{Read, ◌>>=◌, where_some, behind, keyword, named, kind, meaning}
+pub use Rattle.bw_parse.specs.Fronts.{meaning}
+use Rattle.bw_parse.specs.Fronts.{Read, ◌>>=◌, where_some, behind, keyword, named, kind}
 use Rattle.bw_parse.specs.Statements.{parse_code}
 
 -- the inside of a template
@@ -44,17 +46,17 @@ literal ts = where_some (behind (codes "-") ts) (λ k. number_token k >>= λ n. 
 
 unfoldable pub parse_template : List Lexeme → Read Draft
 parse_template k =
-    named k >>= λ w. behind (codes "=") w.1 >>= λ e. template_token e >>= λ t. behind (codes ";") t.1 >>= λ z. Some (template w.0 t.0, z)
+    named k >>= λ w. behind (codes "=") w.1 >>= λ e. template_token e >>= λ t. behind (codes ";") t.1 >>= λ z. Some (drafts.Template w.0 t.0, z)
 
 unfoldable pub parse_shared : List Lexeme → Read Draft
 parse_shared k =
     kind k >>= λ t. named t.1 >>= λ w. behind (codes "=") w.1 >>= λ e. literal e >>= λ l. behind (codes ";") l.1 >>= λ z.
-    Some (shared t.0 w.0 l.0, z)
+    Some (drafts.Shared t.0 w.0 l.0, z)
 
 unfoldable pub parse_session : List Lexeme → Read Draft
 parse_session k =
     named k >>= λ w. behind (codes "(") w.1 >>= λ a. behind (codes ")") a >>= λ b. behind (codes "{") b >>= λ c.
-    parse_code c >>= λ d. Some (session w.0 d.0, d.1)
+    parse_code c >>= λ d. Some (drafts.Session (record { name = w.0; body = d.0 }), d.1)
 
 unfoldable pub draft : List Lexeme → Read Draft
 draft ts =

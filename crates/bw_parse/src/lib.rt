@@ -9,4 +9,4 @@ mod services;
 mod statements;
 
 pub use fault::ParseFault;
-pub use services::Draft;
+pub use services::{ServiceDraft, one_spelling, parse_service};
