@@ -1,3 +1,5 @@
+pub mod Bytes
+pub mod Cuts
 pub mod Documents
 pub mod Falls
 pub mod Forest
@@ -6,6 +8,15 @@ pub mod Keywords
 pub mod Laws
 pub mod Lexemes
 pub mod Markup
+pub mod MarkupBytes
+pub mod MarkupNames
 pub mod Names
+pub mod NumberedGaps
+pub mod PieceGaps
+pub mod PieceItems
+pub mod Pieces
 pub mod Print
+pub mod RepeatedAttributes
+pub mod Templates
+pub mod TokenForms
 pub mod View

@@ -8,6 +8,7 @@ pub mod keywords;
 pub mod laws;
 pub mod markup;
 pub mod names;
+pub mod pieces;
 pub mod service;
 pub mod text;
 pub mod token;

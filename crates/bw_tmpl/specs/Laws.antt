@@ -5,15 +5,16 @@ use Rattle.bw_lang.specs.Documents.{plug, plug_text, close, count}
 use Rattle.bw_lang.specs.Print.{print, joined}
 use Rattle.bw_tmpl.specs.declared.fault.TmplFault.{TmplFault}
 use Rattle.bw_tmpl.specs.declared.fault.TmplFault.TheVariants as fault
-use Rattle.bw_tmpl.specs.declared.pieces.Piece.{Piece}
-use Rattle.bw_tmpl.specs.Spelling.{Spells}
-use Rattle.bw_tmpl.specs.Reads.{ReadsAs, nesting}
-use Rattle.bw_tmpl.specs.Templates.{IsTemplate, IsRefused, IsClosedTemplate, IsClosedRefused}
+use Rattle.bw_lang.specs.declared.pieces.Piece.{Piece}
+use Rattle.bw_lang.specs.Pieces.{SpellsPieces}
+use Rattle.bw_lang.specs.PieceItems.{ReadsAs, nesting}
+use Rattle.bw_lang.specs.Templates.{IsTemplate, IsClosedTemplate}
+use Rattle.bw_tmpl.specs.Refusals.{IsRefused, IsClosedRefused}
 use Rattle.bw_tmpl.specs.Markup.{IsMarkup, IsClosedMarkup}
 
 -- bytes are one list of pieces at most
 abbrev pub OneSpelling : Type 0
-OneSpelling = (ps qs : List Piece) (bytes : List ℕ) → Spells ps bytes → Spells qs bytes → ps ≡ qs
+OneSpelling = (ps qs : List Piece) (bytes : List ℕ) → SpellsPieces ps bytes → SpellsPieces qs bytes → ps ≡ qs
 
 -- pieces read as one list of items at most
 abbrev pub OneReading : Type 0
