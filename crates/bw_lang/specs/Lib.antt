@@ -10,6 +10,7 @@ pub mod Lexemes
 pub mod Markup
 pub mod MarkupBytes
 pub mod MarkupNames
+pub mod Measures
 pub mod Names
 pub mod NumberedGaps
 pub mod PieceGaps

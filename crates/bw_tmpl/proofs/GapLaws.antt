@@ -127,7 +127,7 @@ attrs_alike names others (a ∷ attrs) h =
 abbrev Alike : List (List ℕ) → List (List ℕ) → Forest → Type 0
 Alike names others f = (ps rest : List Piece) → gap_names ps ≡ [] → ReadsPieces names f ps rest → ReadsPieces others f ps rest × (gap_names rest ≡ [])
 
-abbrev Ways : List (List ℕ) → Forest → Tag → List Piece → List Piece → Type 0
+abbrev pub Ways : List (List ℕ) → Forest → Tag → List Piece → List Piece → Type 0
 Ways names inner t ps qs = ((ps ≡ piece.Whole t ∷ qs) × (inner ≡ none)) ⊎ (((ps ≡ piece.Start t ∷ qs) × (is_void t.name ≡ true) × (inner ≡ none)) ⊎ ((mid : List Piece) × (ps ≡ piece.Start t ∷ mid) × (is_void t.name ≡ false) × ReadsPieces names inner mid (piece.End t.name ∷ qs)))
 
 element_alike : (names others : List (List ℕ)) (inner : Forest) (ps qs : List Piece) (t : Tag) → Alike names others inner → gap_names ps ≡ [] → Ways names inner t ps qs → Ways others inner t ps qs × (attr_gaps t.attrs ≡ []) × (gap_names qs ≡ [])
