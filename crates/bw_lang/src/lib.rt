@@ -10,6 +10,7 @@ pub mod keywords;
 pub mod laws;
 pub mod markup;
 pub mod names;
+pub mod pieces;
 pub mod service;
 pub mod stmt;
 pub mod text;

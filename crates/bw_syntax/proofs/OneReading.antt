@@ -1,14 +1,14 @@
 -- A file reads in one way.
-use Rattle.std.proofs.Common.{◌≡◌, ℕ, zero, suc, List, [], ◌∷◌, map, refl, sym, ap, ◌∙◌, subst}
+use Rattle.std.proofs.Common.{◌≡◌, ℕ, zero, suc, List, [], ◌∷◌, map, sym, ap, ◌∙◌, subst}
 use Rattle.bw_lang.specs.Forest.{Forest}
 use Rattle.bw_lang.specs.Lexemes.{Lexeme, word, number, string, template, sign, lexeme}
 use Rattle.bw_lang.specs.declared.token.Token.{Token}
-use Rattle.bw_lex.specs.Cuts.{AreTokens}
+use Rattle.bw_lang.specs.Cuts.{AreTokens}
 use Rattle.bw_lex.proofs.Cutting.{cut_once}
-use Rattle.bw_tmpl.specs.Templates.{IsClosedTemplate}
+use Rattle.bw_lang.specs.Templates.{IsClosedTemplate}
 use Rattle.bw_tmpl.proofs.Deciding.{one_closed_template}
 use Rattle.bw_syntax.specs.Drafts.{Parts, spell_parts}
-use Rattle.bw_syntax.specs.Reads.{Reads, ReadsOnce, ReadsNothing, IsOnePage, service_of}
+use Rattle.bw_syntax.specs.Reads.{ReadsOnce, ReadsNothing, IsOnePage, service_of}
 use Rattle.bw_syntax.proofs.Rests.{tail}
 
 -- the bytes that a lexeme has

@@ -6,8 +6,8 @@ use Rattle.bw_lang.specs.declared.service.Service.{Service}
 use Rattle.bw_lang.specs.declared.service.Stmt.TheVariants.{Exit}
 use Rattle.bw_lang.specs.declared.service.Expr.TheVariants.{Name}
 use Rattle.bw_lang.specs.declared.token.Token.{Token}
-use Rattle.bw_lex.specs.Cuts.{AreTokens}
-use Rattle.bw_tmpl.specs.Templates.{IsClosedTemplate}
+use Rattle.bw_lang.specs.Cuts.{AreTokens}
+use Rattle.bw_lang.specs.Templates.{IsClosedTemplate}
 use Rattle.bw_syntax.specs.Drafts.{Parts, HasNames, spell_parts}
 
 -- the service of these parts, whose template has these items

@@ -2,8 +2,8 @@
 ghost use Rattle.std.specs.Prelude.{◌≡◌, ◌∷◌, List, ℕ, All, map, IfNone, IfSome, IfOk};
 ghost use Rattle.bw_lang.specs.Keywords.{IsFree};
 ghost use Rattle.bw_lang.specs.Lexemes.{Lexeme as Said, word, template, sign, lexeme};
-ghost use Rattle.bw_lex.specs.Cuts.{IsWithin};
-ghost use Rattle.bw_lex.specs.Forms.{IsWord};
+ghost use Rattle.bw_lang.specs.Cuts.{IsWithin};
+ghost use Rattle.bw_lang.specs.TokenForms.{IsWord};
 ghost use Rattle.bw_syntax.specs.View.{said, says};
 
 use bw_lang::{Memory, Token, TokenKind, is_keyword};

@@ -1,13 +1,14 @@
 -- What reading answers is determined.
 use Rattle.std.proofs.Common.{◌≡◌, ℕ, true, false, List, [], Some, refl, sym, ap, subst, ◌∙◌, arith}
 use Rattle.bw_lang.specs.Forest.{Forest}
-use Rattle.bw_tmpl.specs.declared.pieces.Piece.{Piece}
+use Rattle.bw_lang.specs.declared.pieces.Piece.{Piece}
 use Rattle.bw_tmpl.specs.declared.fault.TmplFault.{TmplFault}
 use Rattle.bw_tmpl.specs.declared.fault.TmplFault.TheVariants as fault
-use Rattle.bw_tmpl.specs.Reads.{ReadsAs, nesting}
-use Rattle.bw_tmpl.specs.Repeats.{repeats}
-use Rattle.bw_tmpl.specs.Spelling.{Spells}
-use Rattle.bw_tmpl.specs.Templates.{ReadsBy, RefusedBy, SpellsClosed}
+use Rattle.bw_lang.specs.PieceItems.{ReadsAs, nesting}
+use Rattle.bw_lang.specs.RepeatedAttributes.{repeats}
+use Rattle.bw_lang.specs.Pieces.{SpellsPieces}
+use Rattle.bw_lang.specs.Templates.{ReadsBy, SpellsClosed}
+use Rattle.bw_tmpl.specs.Refusals.{RefusedBy}
 use Rattle.bw_tmpl.specs.Laws.{OneTemplate, NotBoth, OneReason, OneClosedTemplate, NotBothClosed, OneClosedReason}
 use Rattle.bw_tmpl.proofs.Inverse.{reads_once}
 use Rattle.bw_tmpl.proofs.Depths.{reads_depth}
@@ -72,13 +73,13 @@ closed_once : (ps qs : List Piece) (bytes : List ℕ) → SpellsClosed ps bytes 
 closed_once ps qs bytes p q = spelled_once ps qs bytes p.spells q.spells
 
 pub one_template : OneTemplate
-one_template = one Spells spelled_once
+one_template = one SpellsPieces spelled_once
 
 pub not_both : NotBoth
-not_both = both Spells spelled_once
+not_both = both SpellsPieces spelled_once
 
 pub one_reason : OneReason
-one_reason = reason Spells spelled_once
+one_reason = reason SpellsPieces spelled_once
 
 pub one_closed_template : OneClosedTemplate
 one_closed_template = one SpellsClosed closed_once []

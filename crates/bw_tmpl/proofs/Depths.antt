@@ -5,16 +5,16 @@ use Rattle.bw_lang.specs.declared.items.Attr.{Attr}
 use Rattle.bw_lang.specs.Forest.{Forest, none, text, gap, element}
 use Rattle.bw_lang.specs.Documents.{append}
 use Rattle.bw_lang.specs.Markup.{is_void}
-use Rattle.bw_tmpl.specs.declared.pieces.Tag.{Tag}
-use Rattle.bw_tmpl.specs.declared.pieces.Piece.{Piece}
-use Rattle.bw_tmpl.specs.declared.pieces.Piece.TheVariants as piece
+use Rattle.bw_lang.specs.declared.pieces.Tag.{Tag}
+use Rattle.bw_lang.specs.declared.pieces.Piece.{Piece}
+use Rattle.bw_lang.specs.declared.pieces.Piece.TheVariants as piece
 use Rattle.bw_tmpl.specs.declared.building.OpenElement.{OpenElement}
 use Rattle.bw_tmpl.specs.declared.nesting.OpenTags.{OpenTags}
 use Rattle.bw_lang.specs.Names.{same, number}
-use Rattle.bw_tmpl.specs.Numbers.{numbered}
+use Rattle.bw_lang.specs.NumberedGaps.{numbered}
 use Rattle.bw_tmpl.specs.Building.{empty_element, element_begun, draft_after_all, finished, built}
 use Rattle.bw_tmpl.specs.Nesting.{tags_after_all, deepest_if_closed, depth}
-use Rattle.bw_tmpl.specs.Reads.{Reads, ReadsAs, nesting}
+use Rattle.bw_lang.specs.PieceItems.{ReadsPieces, ReadsAs, nesting}
 use Rattle.bw_tmpl.proofs.Inverse.{same-refl, built_reads}
 
 abbrev at : List (List ℕ) → ℕ → Option OpenTags
@@ -24,10 +24,10 @@ deepest_is : (names : List (List ℕ)) (m n : ℕ) (ps : List Piece) → m ≡ n
 deepest_is names m n ps e = ap (λ (k : ℕ). tags_after_all (at names k) ps) e
 
 abbrev DepthAfter : List (List ℕ) → Forest → Type 0
-DepthAfter table f = (names : List (List ℕ)) (m : ℕ) (ps rest : List Piece) → length names ≤ m → Reads table f ps rest → tags_after_all (at names m) ps ≡ tags_after_all (at names (max m (length names + nesting f))) rest
+DepthAfter table f = (names : List (List ℕ)) (m : ℕ) (ps rest : List Piece) → length names ≤ m → ReadsPieces table f ps rest → tags_after_all (at names m) ps ≡ tags_after_all (at names (max m (length names + nesting f))) rest
 
 element_depth : (table : List (List ℕ)) (tag : List ℕ) (attrs : List Attr) (inner : Forest) (names : List (List ℕ)) (m : ℕ) (ps qs : List Piece) (t : Tag) → DepthAfter table inner → length names ≤ m
-    → (((ps ≡ piece.Whole t ∷ qs) × (inner ≡ none)) ⊎ (((ps ≡ piece.Start t ∷ qs) × (is_void t.name ≡ true) × (inner ≡ none)) ⊎ ((mid : List Piece) × (ps ≡ piece.Start t ∷ mid) × (is_void t.name ≡ false) × Reads table inner mid (piece.End t.name ∷ qs))))
+    → (((ps ≡ piece.Whole t ∷ qs) × (inner ≡ none)) ⊎ (((ps ≡ piece.Start t ∷ qs) × (is_void t.name ≡ true) × (inner ≡ none)) ⊎ ((mid : List Piece) × (ps ≡ piece.Start t ∷ mid) × (is_void t.name ≡ false) × ReadsPieces table inner mid (piece.End t.name ∷ qs))))
     → tags_after_all (at names m) ps ≡ tags_after_all (at names (max m (length names + suc (nesting inner)))) qs
 element_depth table tag attrs inner names m ps qs t ih le (inl w) =
     let k : nesting inner ≡ 0 = ap nesting w.1 in

@@ -2,18 +2,18 @@
 use Rattle.std.specs.Prelude.{◌≡◌, ℕ, true, false, ◌⊎◌, List, [], ◌∷◌, map, max, suc}
 use Rattle.bw_lang.specs.Forest.{Forest, none, text, gap, element}
 use Rattle.bw_lang.specs.Markup.{is_void}
-use Rattle.bw_tmpl.specs.declared.pieces.Tag.{Tag}
-use Rattle.bw_tmpl.specs.declared.pieces.Piece.{Piece}
-use Rattle.bw_tmpl.specs.declared.pieces.Piece.TheVariants as piece
+use Rattle.bw_lang.specs.declared.pieces.Tag.{Tag}
+use Rattle.bw_lang.specs.declared.pieces.Piece.{Piece}
+use Rattle.bw_lang.specs.declared.pieces.Piece.TheVariants as piece
 use Rattle.bw_lang.specs.Names.{number}
-use Rattle.bw_tmpl.specs.Numbers.{numbered}
+use Rattle.bw_lang.specs.NumberedGaps.{numbered}
 
 -- The pieces ps are those of the items, and then the pieces rest. One case for each kind of item.
-abbrev pub Reads : List (List ℕ) → Forest → List Piece → List Piece → Type 0
-Reads names none ps rest = ps ≡ rest
-Reads names (text s f) ps rest = (qs : List Piece) × (ps ≡ piece.Text s ∷ qs) × Reads names f qs rest
-Reads names (gap g f) ps rest = (qs : List Piece) × ((n : List ℕ) × (ps ≡ piece.Gap n ∷ qs) × (g ≡ number names n)) × Reads names f qs rest
-Reads names (element tag attrs inner f) ps rest =
+abbrev pub ReadsPieces : List (List ℕ) → Forest → List Piece → List Piece → Type 0
+ReadsPieces names none ps rest = ps ≡ rest
+ReadsPieces names (text s f) ps rest = (qs : List Piece) × (ps ≡ piece.Text s ∷ qs) × ReadsPieces names f qs rest
+ReadsPieces names (gap g f) ps rest = (qs : List Piece) × ((n : List ℕ) × (ps ≡ piece.Gap n ∷ qs) × (g ≡ number names n)) × ReadsPieces names f qs rest
+ReadsPieces names (element tag attrs inner f) ps rest =
     (qs : List Piece) ×
     ((t : Tag) × (tag ≡ t.name) × (attrs ≡ map (numbered names) t.attrs) ×
     -- a whole tag
@@ -21,12 +21,12 @@ Reads names (element tag attrs inner f) ps rest =
     -- a start tag of one of the six
     (((ps ≡ piece.Start t ∷ qs) × (is_void t.name ≡ true) × (inner ≡ none)) ⊎
     -- a start tag of none of the six, items, and the end tag of its name
-    ((mid : List Piece) × (ps ≡ piece.Start t ∷ mid) × (is_void t.name ≡ false) × Reads names inner mid (piece.End t.name ∷ qs)))))
-    × Reads names f qs rest
+    ((mid : List Piece) × (ps ≡ piece.Start t ∷ mid) × (is_void t.name ≡ false) × ReadsPieces names inner mid (piece.End t.name ∷ qs)))))
+    × ReadsPieces names f qs rest
 
 -- all of the pieces
 abbrev pub ReadsAs : List (List ℕ) → List Piece → Forest → Type 0
-ReadsAs names ps f = Reads names f ps []
+ReadsAs names ps f = ReadsPieces names f ps []
 
 -- how many elements stand inside one another at most
 abbrev pub nesting : Forest → ℕ
