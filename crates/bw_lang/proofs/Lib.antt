@@ -2,3 +2,6 @@ pub mod Forests
 pub mod ClosingLaws
 pub mod PrintLaws
 pub mod TableLaws
+pub mod Plugs
+pub mod Counts
+pub mod Weights

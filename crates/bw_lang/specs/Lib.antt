@@ -1,3 +1,4 @@
+pub mod Controls
 pub mod Documents
 pub mod Falls
 pub mod Forest
@@ -6,6 +7,7 @@ pub mod Keywords
 pub mod Laws
 pub mod Lexemes
 pub mod Markup
+pub mod Measures
 pub mod Names
 pub mod Print
 pub mod View
