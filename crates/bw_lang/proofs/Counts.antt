@@ -92,5 +92,21 @@ pub under_le : (a : Option ℕ) (n : ℕ) → unwrap_or a 0 ≤ n → unwrap_or 
 under_le None n p = omega arith
 under_le (Some a) n p = omega arith
 
+-- no gap stands deeper than there are elements
+pub depth_le-elements : (g : ℕ) (f : Forest) → unwrap_or (depth g f) 0 ≤ elements f
+depth_le-elements g none = omega arith
+depth_le-elements g (text s r) = depth_le-elements g r
+depth_le-elements g (gap h r) = deeper_le (here (h == g)) (depth g r) (elements r) (here_le (h == g) (elements r)) (depth_le-elements g r)
+depth_le-elements g (element t a i r) =
+    let x = here (list_any (λ v. is_hole g v.value) a) in
+    let inside = under_le (deeper x (depth g i)) (elements i) (deeper_le x (depth g i) (elements i) (here_le _ (elements i)) (depth_le-elements g i)) in
+    deeper_le (under (deeper x (depth g i))) (depth g r) (suc (elements i + elements r)) (omega (arith, inside)) (omega (arith, depth_le-elements g r))
+
+-- nor, in an element, deeper than there are in it
+pub inner_below : (b : Bool) (g : ℕ) (f : Forest) (n : ℕ) → deeper (here b) (depth g f) ≡ Some n → n ≤ elements f
+inner_below b g f n e =
+    let h : unwrap_or (deeper (here b) (depth g f)) 0 ≡ n = ap (λ (o : Option ℕ). unwrap_or o 0) e in
+    omega (arith, h, deeper_le (here b) (depth g f) (elements f) (here_le b (elements f)) (depth_le-elements g f))
+
 pub ruleset count_steps = (append-none, forest_at_read, size_at_read, count_at_read, count_room, count_le-open_gaps)
 pub ruleset depth_steps = (append-none, forest_at_read, size_at_read, depth_at_read, elements_room)

@@ -5,3 +5,4 @@ pub mod TableLaws
 pub mod Plugs
 pub mod Counts
 pub mod Weights
+pub mod Bounds
