@@ -1,7 +1,8 @@
 -- Which items a list of pieces reads as.
-use Rattle.std.specs.Prelude.{◌≡◌, ℕ, true, false, ◌⊎◌, List, [], ◌∷◌, map, max, suc}
+use Rattle.std.specs.Prelude.{◌≡◌, ℕ, true, false, ◌⊎◌, List, [], ◌∷◌, map}
 use Rattle.bw_lang.specs.Forest.{Forest, none, text, gap, element}
 use Rattle.bw_lang.specs.Markup.{is_void}
+pub use Rattle.bw_lang.specs.Measures.{nest as nesting}
 use Rattle.bw_tmpl.specs.declared.pieces.Tag.{Tag}
 use Rattle.bw_tmpl.specs.declared.pieces.Piece.{Piece}
 use Rattle.bw_tmpl.specs.declared.pieces.Piece.TheVariants as piece
@@ -27,10 +28,3 @@ Reads names (element tag attrs inner f) ps rest =
 -- all of the pieces
 abbrev pub ReadsAs : List (List ℕ) → List Piece → Forest → Type 0
 ReadsAs names ps f = Reads names f ps []
-
--- how many elements stand inside one another at most
-abbrev pub nesting : Forest → ℕ
-nesting none = 0
-nesting (text s f) = nesting f
-nesting (gap g f) = nesting f
-nesting (element tag attrs inner f) = max (suc (nesting inner)) (nesting f)
