@@ -1,2 +1,4 @@
 pub mod Printed
 pub mod Wrapped
+pub mod Listed
+pub mod Sizes
