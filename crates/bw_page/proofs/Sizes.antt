@@ -1,6 +1,5 @@
 -- How long pages are.
-use Rattle.std.proofs.Common.{◌≡◌, ℕ, ◌+◌, Bool, true, false, ◌==◌, ◌&&◌, ◌||◌, List, [], ◌∷◌, ◌++◌, length, refl, ap, sym, ◌∙◌, codes, arith, length-append, suc, ◌*◌, if◌then◌else◌}
-use Rattle.std.specs.Prelude.{not}
+use Rattle.std.proofs.Common.{◌≡◌, ℕ, ◌+◌, Bool, true, false, ◌==◌, ◌&&◌, List, [], ◌∷◌, ◌++◌, length, refl, ap, ◌∙◌, codes, arith, length-append, suc, ◌*◌, if◌then◌else◌}
 use Rattle.std.specs.List.{AllPass, list_all}
 use Rattle.std.proofs.lemmas.Bool.{eqb-true}
 use Rattle.std.proofs.lemmas.List.Sums.{list_all-from_AllPass}
@@ -9,10 +8,10 @@ use Rattle.bw_lang.specs.declared.items.AttrValue.TheVariants.{Fixed}
 use Rattle.bw_lang.specs.Forest.{Forest, none, text, element}
 use Rattle.bw_lang.specs.Documents.{append, close}
 use Rattle.bw_lang.specs.Markup.{is_void, escaped, escaped_byte}
-use Rattle.bw_lang.specs.Print.{print, printed_attr, printed_attrs, printed_element, printed_start, printed_end}
+use Rattle.bw_lang.specs.Print.{print, printed_attr, printed_attrs, printed_start, printed_end}
 use Rattle.bw_lang.proofs.PrintLaws.{escaped-append, closed_alike}
 use Rattle.bw_page.specs.Bytes.{is_plain, is_word_byte, is_digit, is_hex_digit}
-use Rattle.bw_page.specs.Pages.{page, form, button, fixed_attr, show_page, exit_page}
+use Rattle.bw_page.specs.Pages.{button, fixed_attr, show_page, exit_page}
 use Rattle.bw_page.specs.Laws.{ExitLength, ShowLength, TurnLength, turn_target}
 use Rattle.bw_page.proofs.Printed.{print-append}
 

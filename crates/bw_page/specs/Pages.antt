@@ -2,7 +2,7 @@
 use Rattle.std.specs.Prelude.{ℕ, ◌+◌, List, [], ◌∷◌, codes}
 use Rattle.bw_lang.specs.declared.items.Attr.{Attr}
 use Rattle.bw_lang.specs.declared.items.AttrValue.TheVariants.{Fixed, Hole}
-use Rattle.bw_lang.specs.Forest.{Forest, none, text, gap, element}
+use Rattle.bw_lang.specs.Forest.{Forest, none, gap, element}
 use Rattle.bw_lang.specs.Documents.{append, plug, plug_text, close}
 
 -- an element without attributes

@@ -99,7 +99,7 @@ fn form(alloc: Global, target: &Text, mut items: Items) -> Result<Item, Memory>
 
 /// The page that shows this document: closed, in a form that is sent to the target by POST (HTML 4.01, section 17.3),
 /// with a button behind it, under this title.
-#[tactic(auto, using(crate::proofs::Wrapped::wrapped))]
+#[tactic(auto, using(bw_lang::proofs::Forests::forest_steps))]
 pub fn wrap_show(title: &Name, target: &Text, doc: &Tree) -> Result<Tree, Memory>
     ensures { IfOk result (λ page. page.items ≡ show_page title.now target.now doc.now.items) }
 {
@@ -109,7 +109,7 @@ pub fn wrap_show(title: &Name, target: &Text, doc: &Tree) -> Result<Tree, Memory
 }
 
 /// The page of a session that exits with this document: closed, in a page without a form, under this title.
-#[tactic(auto, using(crate::proofs::Wrapped::wrapped))]
+#[tactic(auto, using(bw_lang::proofs::Forests::forest_steps))]
 pub fn wrap_exit(title: &Name, doc: &Tree) -> Result<Tree, Memory>
     ensures { IfOk result (λ page. page.items ≡ exit_page title.now doc.now.items) }
 {
