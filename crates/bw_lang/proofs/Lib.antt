@@ -4,3 +4,7 @@ pub mod PrintLaws
 pub mod TableLaws
 pub mod Terms
 pub mod Codes
+pub mod Plugs
+pub mod Counts
+pub mod Weights
+pub mod Bounds

@@ -3,6 +3,7 @@ pub mod Code
 pub mod CodeCode
 pub mod CodeFalls
 pub mod CodeView
+pub mod Controls
 pub mod Cuts
 pub mod Documents
 pub mod Drafts

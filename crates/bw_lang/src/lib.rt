@@ -5,24 +5,33 @@
 mod closing;
 pub mod declaration;
 pub mod expr;
+pub mod controls;
+mod counting;
 pub mod items;
 pub mod keywords;
 pub mod laws;
 pub mod markup;
+pub mod measure;
 pub mod names;
 pub mod pieces;
+pub mod numbers;
+mod plugging;
 pub mod service;
 pub mod stmt;
 pub mod text;
 pub mod token;
 pub mod tree;
+mod weighing;
 
 pub use declaration::{Declaration, Draft, Written};
 pub use expr::{Expr, Fun, Op, Pair, Pairs, Part};
+pub use controls::FieldKind;
 pub use items::{Attr, AttrValue, Attrs, Element, GapId, Item, Items};
 pub use keywords::is_keyword;
 pub use markup::is_void;
-pub use names::{GapNames, NameTable};
+pub use measure::{MAX_DEPTH, MAX_NEST, MAX_WEIGHT, Measure, MeasureFault};
+pub use names::{FieldNames, GapNames, NameTable};
+pub use numbers::{FieldId, TemplateId};
 pub use service::{
     Literal, Service, Session, Sessions, Shared, Shareds, Template, Templates,
 };

@@ -19,7 +19,8 @@ use Rattle.bw_lang.specs.declared.pieces.RawValue.{RawValue}
 use Rattle.bw_lang.specs.declared.pieces.RawValue.TheVariants as raw
 use Rattle.bw_lang.specs.declared.pieces.NameClass.TheVariants as class
 use Rattle.bw_lang.specs.NumberedGaps.{numbered, numbered_value}
-use Rattle.bw_lang.specs.PieceItems.{ReadsPieces, nesting}
+use Rattle.bw_lang.specs.Measures.{nest}
+use Rattle.bw_lang.specs.PieceItems.{ReadsPieces}
 use Rattle.bw_lang.specs.RepeatedAttributes.{repeated, attr_names, piece_repeats, repeats}
 use Rattle.bw_lang.specs.Pieces.{IsName, IsChar, Each, IsAttr, IsTag, IsPiece, is_text, begins_with_text, Apart, SpellsPieces}
 use Rattle.bw_tmpl.specs.Markup.{IsValueOf, AreAttrs, names_of, IsClosedMarkup}
@@ -293,14 +294,14 @@ joined_tidy (text x f) = text_before_tidy x (joined f) (joined_tidy f)
 joined_tidy (gap g f) = joined_tidy f
 joined_tidy (element tag attrs inner f) = (joined_tidy inner, joined_tidy f)
 
-text_before_nest : (x : List ℕ) (f : Forest) → nesting (text_before x f) ≡ nesting f
+text_before_nest : (x : List ℕ) (f : Forest) → nest (text_before x f) ≡ nest f
 text_before_nest [] f = refl
 text_before_nest (b ∷ x) none = refl
 text_before_nest (b ∷ x) (text y f) = refl
 text_before_nest (b ∷ x) (gap g f) = refl
 text_before_nest (b ∷ x) (element tag attrs inner f) = refl
 
-joined_nest : (f : Forest) → nesting (joined f) ≡ nesting f
+joined_nest : (f : Forest) → nest (joined f) ≡ nest f
 joined_nest none = refl
 joined_nest (text x f) = text_before_nest x (joined f) ∙ joined_nest f
 joined_nest (gap g f) = joined_nest f
@@ -316,5 +317,5 @@ reads_back f most s le =
     let q : Each IsPiece (written g) (print f) [] = subst (λ (l : List ℕ). Each IsPiece (written g) l []) (joined_alike f) p in
     let r : ReadsPieces [] g (written g) [] = subst (λ (l : List Piece). ReadsPieces [] g l []) (append-nil (written g)) (reads_written g sg []) in
     let spelled : SpellsPieces (written g) (print f) = record { apart = apart_written g sg (joined_tidy f); pieces = q } in
-    let n : nesting g ≤ most = subst (λ (k : ℕ). k ≤ most) (sym (joined_nest f)) le in
+    let n : nest g ≤ most = subst (λ (k : ℕ). k ≤ most) (sym (joined_nest f)) le in
     record { pieces = written g; spelled = record { spells = spelled; closed = written_gapless g sg }; once = repeats_written g sg; reads = r; nested = n }

@@ -4,7 +4,8 @@ use Rattle.bw_lang.specs.Forest.{Forest}
 use Rattle.bw_lang.specs.declared.pieces.Piece.{Piece}
 use Rattle.bw_tmpl.specs.declared.fault.TmplFault.{TmplFault}
 use Rattle.bw_tmpl.specs.declared.fault.TmplFault.TheVariants as fault
-use Rattle.bw_lang.specs.PieceItems.{ReadsAs, nesting}
+use Rattle.bw_lang.specs.Measures.{nest}
+use Rattle.bw_lang.specs.PieceItems.{ReadsAs}
 use Rattle.bw_tmpl.specs.Reading.{pieces_of, MalformedIfNone}
 use Rattle.bw_tmpl.specs.Building.{built, MismatchedIfNone}
 use Rattle.bw_tmpl.specs.Nesting.{depth}
@@ -38,7 +39,7 @@ refused S most bytes ps fault.Mismatched p h = record {
   pieces = ps;
   spelled = p;
   once = h.0;
-  no_items = λ (names : List (List ℕ)) (f : Forest) (r : ReadsAs names ps f). apart (nesting f) (depth ps) h.1 (reads_depth names ps f r);
+  no_items = λ (names : List (List ℕ)) (f : Forest) (r : ReadsAs names ps f). apart (nest f) (depth ps) h.1 (reads_depth names ps f r);
 }
 refused S most bytes ps fault.Nesting p h = let k = depth_reads [] ps h.1.0 h.1.1 in record { pieces = ps; spelled = p; once = h.0; names = []; items = k.0; reads = k.1; deeper = omega (arith, k.2, h.1.2) }
 refused S most bytes ps fault.Memory p h = tt
@@ -47,7 +48,7 @@ refused S most bytes ps fault.Memory p h = tt
 pub read : (S : List Piece → List ℕ → Type 0) (names : List (List ℕ)) (most : ℕ) (bytes : List ℕ) (ps : List Piece) (f : Forest) → S ps bytes → Passes most ps → built names ps ≡ Some f → ReadsBy S names most bytes f
 read S names most bytes ps f p h b =
     let k = built_reads names ps f b in
-    let e : h.1.0 ≡ nesting f = some_is h.1.0 (nesting f) (sym h.1.1 ∙ reads_depth names ps f k) in
+    let e : h.1.0 ≡ nest f = some_is h.1.0 (nest f) (sym h.1.1 ∙ reads_depth names ps f k) in
     record { pieces = ps; spelled = p; once = h.0; reads = k; nested = omega (arith, h.1.2) }
 
 -- what passes is refused for want of memory alone

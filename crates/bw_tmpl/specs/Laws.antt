@@ -8,7 +8,8 @@ use Rattle.bw_tmpl.specs.declared.fault.TmplFault.{TmplFault}
 use Rattle.bw_tmpl.specs.declared.fault.TmplFault.TheVariants as fault
 use Rattle.bw_lang.specs.declared.pieces.Piece.{Piece}
 use Rattle.bw_lang.specs.Pieces.{SpellsPieces}
-use Rattle.bw_lang.specs.PieceItems.{ReadsAs, nesting}
+use Rattle.bw_lang.specs.Measures.{nest}
+use Rattle.bw_lang.specs.PieceItems.{ReadsAs}
 use Rattle.bw_lang.specs.Templates.{IsTemplate, IsClosedTemplate}
 use Rattle.bw_tmpl.specs.Refusals.{IsRefused, IsClosedRefused}
 use Rattle.bw_tmpl.specs.Markup.{IsMarkup, IsClosedMarkup}
@@ -75,4 +76,4 @@ ClosesMarkup = (f : Forest) → IsMarkup f → IsClosedMarkup (close f)
 
 -- What is printed reads as the document, with neighbouring texts joined and without empty ones.
 abbrev pub ReadsBack : Type 0
-ReadsBack = (f : Forest) (most : ℕ) → IsClosedMarkup f → nesting f ≤ most → IsClosedTemplate most (print f) (joined f)
+ReadsBack = (f : Forest) (most : ℕ) → IsClosedMarkup f → nest f ≤ most → IsClosedTemplate most (print f) (joined f)

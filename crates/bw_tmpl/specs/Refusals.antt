@@ -4,7 +4,8 @@ use Rattle.bw_lang.specs.Forest.{Forest}
 use Rattle.bw_lang.specs.declared.pieces.Piece.{Piece}
 use Rattle.bw_tmpl.specs.declared.fault.TmplFault.{TmplFault}
 use Rattle.bw_tmpl.specs.declared.fault.TmplFault.TheVariants as fault
-use Rattle.bw_lang.specs.PieceItems.{ReadsAs, nesting}
+use Rattle.bw_lang.specs.Measures.{nest}
+use Rattle.bw_lang.specs.PieceItems.{ReadsAs}
 use Rattle.bw_lang.specs.Pieces.{SpellsPieces}
 use Rattle.bw_lang.specs.Templates.{SpellsClosed}
 use Rattle.bw_lang.specs.RepeatedAttributes.{repeats}
@@ -31,7 +32,7 @@ pub record NestsDeeper (Spelled : List Piece → List ℕ → Type 0) (most : �
   pub names : List (List ℕ)
   pub items : Forest
   pub reads : ReadsAs names pieces items
-  pub deeper : most < nesting items
+  pub deeper : most < nest items
 
 -- Why the bytes aren't read: the first case that holds, in this order.
 abbrev pub RefusedBy : (List Piece → List ℕ → Type 0) → ℕ → List ℕ → TmplFault → Type 0
