@@ -1,7 +1,9 @@
+pub mod Brackets
 pub mod Bytes
 pub mod Code
 pub mod CodeCode
 pub mod CodeFalls
+pub mod CodeNames
 pub mod CodeView
 pub mod Controls
 pub mod Cuts
@@ -14,6 +16,7 @@ pub mod Keywords
 pub mod Laws
 pub mod Levels
 pub mod Lexemes
+pub mod Limits
 pub mod Markup
 pub mod MarkupBytes
 pub mod MarkupNames
@@ -24,6 +27,7 @@ pub mod PieceGaps
 pub mod PieceItems
 pub mod Pieces
 pub mod Print
+pub mod Reads
 pub mod RepeatedAttributes
 pub mod Spelling
 pub mod Stored
