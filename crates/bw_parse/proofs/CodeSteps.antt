@@ -30,7 +30,7 @@ receives_longer : (rs : List Receive) (k : List Lexeme) → length k ≤ length 
 receives_longer [] k = omega arith
 receives_longer (r ∷ rs) k = omega (arith, list_longer (codes ",") rs (lex.Sign (codes "]") ∷ k))
 
-code_longer : (c : Code) (k : List Lexeme) → length k ≤ length (spell_code c k)
+pub code_longer : (c : Code) (k : List Lexeme) → length k ≤ length (spell_code c k)
 code_longer done k = omega arith
 code_longer (declare t w e r) k = omega (arith, longer e (lex.Sign (codes ";") ∷ spell_code r k), code_longer r k)
 code_longer (exit p r) k = omega (arith, longer p (lex.Sign (codes ";") ∷ spell_code r k), code_longer r k)

@@ -1,6 +1,9 @@
+pub mod CodeComplete
 pub mod CodeSound
 pub mod CodeSteps
 pub mod Complete
+pub mod Drafts
+pub mod DraftSteps
 pub mod FrontLaws
 pub mod Receives
 pub mod ReceiveSteps

@@ -235,7 +235,7 @@ pub fn parse_service(alloc: Global, lexemes: &[Lexeme]) -> Result<ServiceDraft, 
     ensures found { IfOk result (λ d. IsName d.name × AreFormed d.drafts.items × (lexemes.now ≡ spell_service d.name d.drafts.items)) }
     // What is formed and spells the lexemes is read, unless memory runs out.
     ensures only { (name : List ℕ) (drafts : List Draft_) → IsName name → AreFormed drafts → lexemes.now ≡ spell_service name drafts
-        → Gives (λ d. (d.name, d.drafts.items)) result (Some (name, drafts)) }
+        → Gives {Y = List ℕ × List Draft_} (λ d. (d.name, d.drafts.items)) result (Some (name, drafts)) }
 {
     whole_service(alloc, lexemes)
 }
