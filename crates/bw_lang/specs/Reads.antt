@@ -22,39 +22,50 @@ use Rattle.bw_lang.specs.Words.{IsName}
 abbrev pub lexemes : List ℕ → List Token → List Lexeme
 lexemes bytes tokens = map (lexeme bytes) tokens
 
+-- the bytes are a text of at most 1,048,576 bytes whose tokens say this
+pub record IsText (bytes : List ℕ) (ls : List Lexeme) : Type 0 where
+  pub short : length bytes ≤ 1048576
+  pub tokens : List Token
+  pub cut : AreTokens bytes tokens
+  pub says : ls ≡ lexemes bytes tokens
+
+-- the bytes are a text that passes no limit of its brackets and stretches, and it is written for this service
+pub record IsDraft (bytes : List ℕ) (name : List ℕ) (drafts : List Draft) : Type 0 where
+  pub lexemes : List Lexeme
+  pub text : IsText bytes lexemes
+  pub shallow : too_deep lexemes ≡ None
+  pub named : IsName name
+  pub formed : AreFormed drafts
+  pub spelled : lexemes ≡ spell_service name drafts
+
 -- A template's inside reads as these items, at most 64 elements inside one another. Its gaps have their numbers by the
 -- table `after`: the names of `before`, and then those that it has besides, in the order in which they stand.
 pub record IsInside (before : List (List ℕ)) (inside : List ℕ) (items : Forest) (after : List (List ℕ)) : Type 0 where
   pub read : IsTemplate after 64 inside items
   pub names : after ≡ with_names before (gap_names read.pieces)
 
--- The declarations are those that are drafted, with their templates read one after the other; the gaps that were seen
--- in front have these names, and in the end there are those.
-pub data AreRead : List (List ℕ) → List Draft → List Declaration → List (List ℕ) → Type 0 where
-  nothing : (gaps : List (List ℕ)) → AreRead gaps [] [] gaps
-  template : (gaps next last : List (List ℕ)) (name inside : List ℕ) (items : Forest) (ds : List Draft) (rs : List Declaration) →
-      IsInside gaps inside items next → AreRead next ds rs last →
-      AreRead gaps (drafts.Template name inside ∷ ds) (declarations.Template (record { name = name; items = items }) ∷ rs) last
-  shared : (gaps last : List (List ℕ)) (kind : _) (name : List ℕ) (init : _) (ds : List Draft) (rs : List Declaration) → AreRead gaps ds rs last →
-      AreRead gaps (drafts.Shared kind name init ∷ ds) (declarations.Shared (record { kind = kind; name = name; init = literal_of init }) ∷ rs) last
-  session : (gaps last : List (List ℕ)) (s : _) (ds : List Draft) (rs : List Declaration) → AreRead gaps ds rs last →
-      AreRead gaps (drafts.Session s ∷ ds) (declarations.Session s ∷ rs) last
+-- The declaration is the drafted one, with its template read. In front of it gaps had the names of `before`, and behind
+-- it those of `after`.
+abbrev pub IsRead : List (List ℕ) → Draft → Declaration → List (List ℕ) → Type 0
+IsRead before (drafts.Template name inside) (declarations.Template t) after = (t.name ≡ name) × IsInside before inside t.items after
+IsRead before (drafts.Shared kind name init) (declarations.Shared v) after = (v ≡ record { kind = kind; name = name; init = literal_of init }) × (after ≡ before)
+IsRead before (drafts.Session s) (declarations.Session t) after = (t ≡ s) × (after ≡ before)
+IsRead before draft declaration after = ⊥
+
+-- so for each of them, one after the other
+abbrev pub AreRead : List (List ℕ) → List Draft → List Declaration → List (List ℕ) → Type 0
+AreRead before [] [] after = after ≡ before
+AreRead before (d ∷ ds) (r ∷ rs) after = (next : List (List ℕ)) × IsRead before d r next × AreRead next ds rs after
+AreRead before ds rs after = ⊥
 
 -- the service of this name with these declarations, whose gaps have these names
 abbrev pub service_of : List ℕ → List (List ℕ) → List Declaration → Service
 service_of name gaps ds = record { name = name; gaps = gaps; templates = templates_of ds; shared = shared_of ds; sessions = sessions_of ds }
 
--- The bytes are a text of at most 1,048,576 bytes. Its tokens spell a service, whose templates read as they are written,
--- and no limit is passed.
+-- The bytes are written for a service of this name. Its templates read as they are written, and it passes no limit.
 pub record Reads (bytes : List ℕ) (service : Service) : Type 0 where
-  pub short : length bytes ≤ 1048576
-  pub tokens : List Token
-  pub cut : AreTokens bytes tokens
-  pub shallow : too_deep (lexemes bytes tokens) ≡ None
   pub drafts : List Draft
-  pub spelled : lexemes bytes tokens ≡ spell_service service.name drafts
-  pub named : IsName service.name
-  pub formed : AreFormed drafts
+  pub drafted : IsDraft bytes service.name drafts
   pub declarations : List Declaration
   pub read : AreRead [] drafts declarations service.gaps
   pub within : too_many service.name service.gaps declarations ≡ None
