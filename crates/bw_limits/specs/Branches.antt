@@ -6,5 +6,5 @@ use Rattle.bw_lang.specs.Limits.{code_lengths}
 
 -- the lengths in the first branch, and then in the second, where it is there
 abbrev pub branch_lengths : Leaf → Code → Option Code → List ℕ
-branch_lengths k yes None = code_lengths k yes
-branch_lengths k yes (Some no) = code_lengths k yes ++ code_lengths k no
+branch_lengths k y None = code_lengths k y
+branch_lengths k y (Some n) = code_lengths k y ++ code_lengths k n

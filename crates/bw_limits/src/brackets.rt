@@ -1,5 +1,5 @@
 //! The limits that are decided on the tokens of a service alone.
-ghost use Rattle.std.specs.Prelude.{◌≡◌, ◌<◌, ◌^◌, nat_lt, find};
+ghost use Rattle.std.specs.Prelude.{◌≡◌, ◌-◌, ◌<◌, ◌^◌, find, nat_lt};
 ghost use Rattle.bw_lang.specs.Keywords.{is};
 ghost use Rattle.bw_lang.specs.Brackets as spec;
 
@@ -51,6 +51,7 @@ fn depth_behind(depth: u64, lexeme: &Lexeme) -> u64
 }
 
 /// The greatest number of brackets that are open at once.
+#[tactic(auto, using(crate::proofs::BracketSteps::bracket_steps))]
 fn deepest(lexemes: &[Lexeme]) -> u64
     ensures { result ≡ spec.deepest 0 lexemes.now }
 {
@@ -77,6 +78,7 @@ fn ends_stretch(lexeme: &Lexeme) -> bool
 }
 
 /// The length of the first stretch that is longer than the longest that is read.
+#[tactic(auto, using(crate::proofs::BracketSteps::bracket_steps))]
 fn long_stretch(lexemes: &[Lexeme]) -> Option<u64>
     ensures { result ≡ find (nat_lt 500) (spec.stretches 0 lexemes.now) }
 {

@@ -13,6 +13,7 @@ use bw_lang::{Block, Declaration, FieldNames, Item, Items, Memory, Name, Receive
 use std::alloc::Global;
 
 /// Takes in the names of the controls among items, at all levels.
+#[tactic(auto, using(crate::proofs::FieldSteps::field_steps, crate::proofs::Sizes::size_steps))]
 #[cycle(controls)]
 fn take_controls(alloc: Global, items: &Items, names: &mut FieldNames) -> Result<(), Memory>
     ensures { OnOk result (names.new ≡ with_names names.old (control_names items.now)) }
@@ -23,6 +24,7 @@ fn take_controls(alloc: Global, items: &Items, names: &mut FieldNames) -> Result
     Ok(())
 }
 
+#[tactic(auto, using(crate::proofs::FieldSteps::field_steps, crate::proofs::Sizes::size_steps))]
 #[cycle(controls)]
 fn take_control(alloc: Global, item: &Item, names: &mut FieldNames) -> Result<(), Memory>
     ensures { OnOk result (names.new ≡ with_names names.old (control_names (view.before item.now none))) }
@@ -49,6 +51,7 @@ fn take_receives(receives: &Receives, names: &mut FieldNames) -> Result<(), Memo
 }
 
 /// Takes in the fields that the statements of a block receive, at all levels.
+#[tactic(auto, using(crate::proofs::FieldSteps::field_steps, crate::proofs::Sizes::size_steps))]
 #[cycle(received)]
 fn take_received(block: &Block, names: &mut FieldNames) -> Result<(), Memory>
     ensures { OnOk result (names.new ≡ with_names names.old (received_fields block.now)) }
@@ -59,6 +62,7 @@ fn take_received(block: &Block, names: &mut FieldNames) -> Result<(), Memory>
     Ok(())
 }
 
+#[tactic(auto, using(crate::proofs::FieldSteps::field_steps, crate::proofs::Sizes::size_steps))]
 #[cycle(received)]
 fn take_received_by(stmt: &Stmt, names: &mut FieldNames) -> Result<(), Memory>
     ensures { OnOk result (names.new ≡ with_names names.old (received_fields (code.before stmt.now done))) }

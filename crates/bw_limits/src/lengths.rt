@@ -43,7 +43,7 @@ impl Search {
     }
 
     /// The first length over the greatest one in an expression.
-    #[tactic(auto, using(crate::proofs::Lengths::length_steps))]
+    #[tactic(auto, using(crate::proofs::Firsts::first_steps, crate::proofs::Sizes::size_steps))]
     #[cycle(expression)]
     fn expression(self, expr: &Expr) -> Option<u64>
         ensures { result ≡ find (nat_lt self.most) (spec.term_lengths self.leaf (term expr.now)) }
@@ -65,7 +65,7 @@ impl Search {
         }
     }
 
-    #[tactic(auto, using(crate::proofs::Lengths::length_steps))]
+    #[tactic(auto, using(crate::proofs::Firsts::first_steps, crate::proofs::Sizes::size_steps))]
     #[cycle(expression)]
     fn pairs(self, pairs: &Pairs) -> Option<u64>
         ensures { result ≡ find (nat_lt self.most) (spec.pair_lengths self.leaf pairs.now) }
@@ -78,7 +78,7 @@ impl Search {
         None
     }
 
-    #[tactic(auto, using(crate::proofs::Lengths::length_steps))]
+    #[tactic(auto, using(crate::proofs::Firsts::first_steps, crate::proofs::Sizes::size_steps))]
     #[cycle(expression)]
     fn pair(self, pair: &Pair) -> Option<u64>
         ensures { result ≡ find (nat_lt self.most) (spec.name_length self.leaf pair.now.gap ++ spec.term_lengths self.leaf (term pair.now.value)) }
@@ -89,7 +89,7 @@ impl Search {
         }
     }
 
-    #[tactic(auto, using(crate::proofs::Lengths::length_steps))]
+    #[tactic(auto, using(crate::proofs::Firsts::first_steps, crate::proofs::Sizes::size_steps))]
     fn receives(self, receives: &Receives) -> Option<u64>
         ensures { result ≡ find (nat_lt self.most) (spec.receive_lengths self.leaf receives.now) }
     {
@@ -101,7 +101,7 @@ impl Search {
         None
     }
 
-    #[tactic(auto, using(crate::proofs::Lengths::length_steps))]
+    #[tactic(auto, using(crate::proofs::Firsts::first_steps, crate::proofs::Sizes::size_steps))]
     fn receive(self, receive: &Receive) -> Option<u64>
         ensures { result ≡ find (nat_lt self.most) (spec.name_length self.leaf receive.now.target ++ spec.name_length self.leaf receive.now.field) }
     {
@@ -112,7 +112,7 @@ impl Search {
     }
 
     /// The first length over the greatest one in the statements of a block.
-    #[tactic(auto, using(crate::proofs::Lengths::length_steps))]
+    #[tactic(auto, using(crate::proofs::Firsts::first_steps, crate::proofs::Sizes::size_steps))]
     #[cycle(block)]
     fn block(self, block: &Block) -> Option<u64>
         ensures { result ≡ find (nat_lt self.most) (spec.code_lengths self.leaf block.now) }
@@ -125,7 +125,7 @@ impl Search {
         None
     }
 
-    #[tactic(auto, using(crate::proofs::Lengths::length_steps))]
+    #[tactic(auto, using(crate::proofs::Firsts::first_steps, crate::proofs::Sizes::size_steps))]
     #[cycle(block)]
     fn statement(self, stmt: &Stmt) -> Option<u64>
         ensures { result ≡ find (nat_lt self.most) (spec.code_lengths self.leaf (code.before stmt.now done)) }
@@ -154,7 +154,7 @@ impl Search {
         }
     }
 
-    #[tactic(auto, using(crate::proofs::Lengths::length_steps))]
+    #[tactic(auto, using(crate::proofs::Firsts::first_steps, crate::proofs::Sizes::size_steps))]
     #[cycle(block)]
     fn branches(self, yes: &Block, no: &Option<Block>) -> Option<u64>
         ensures { result ≡ find (nat_lt self.most) (branch_lengths self.leaf yes.now no.now) }
@@ -179,7 +179,7 @@ impl Search {
     }
 
     /// The first length over the greatest one of the names of gaps and controls.
-    #[tactic(auto, using(crate::proofs::Lengths::length_steps))]
+    #[tactic(auto, using(crate::proofs::Firsts::first_steps, crate::proofs::Sizes::size_steps))]
     #[cycle(items)]
     fn items(self, gaps: &[Name], items: &Items) -> Option<u64>
         ensures { result ≡ find (nat_lt self.most) (spec.item_lengths gaps.now items.now) }
@@ -192,7 +192,7 @@ impl Search {
         None
     }
 
-    #[tactic(auto, using(crate::proofs::Lengths::length_steps))]
+    #[tactic(auto, using(crate::proofs::Firsts::first_steps, crate::proofs::Sizes::size_steps))]
     #[cycle(items)]
     fn item(self, gaps: &[Name], item: &Item) -> Option<u64>
         ensures { result ≡ find (nat_lt self.most) (spec.item_lengths gaps.now (view.before item.now none)) }
@@ -207,7 +207,7 @@ impl Search {
         }
     }
 
-    #[tactic(auto, using(crate::proofs::Lengths::length_steps))]
+    #[tactic(auto, using(crate::proofs::Firsts::first_steps, crate::proofs::Sizes::size_steps))]
     fn attributes(self, gaps: &[Name], element: &Element) -> Option<u64>
         ensures { result ≡ find (nat_lt self.most) (spec.attr_lengths gaps.now element.now.tag element.now.attrs) }
     {
@@ -235,7 +235,7 @@ impl Search {
     }
 
     /// The first length over the greatest one in a declaration.
-    #[tactic(auto, using(crate::proofs::Lengths::length_steps))]
+    #[tactic(auto, using(crate::proofs::Firsts::first_steps, crate::proofs::Sizes::size_steps))]
     fn declaration(self, gaps: &[Name], declaration: &Declaration) -> Option<u64>
         ensures { result ≡ find (nat_lt self.most) (spec.declaration_lengths self.leaf gaps.now declaration.now) }
     {
@@ -264,7 +264,7 @@ impl Search {
         }
     }
 
-    #[tactic(auto, using(crate::proofs::Lengths::length_steps))]
+    #[tactic(auto, using(crate::proofs::Firsts::first_steps, crate::proofs::Sizes::size_steps))]
     fn declarations(self, gaps: &[Name], declarations: &[Declaration]) -> Option<u64>
         ensures { result ≡ find (nat_lt self.most) (flat_map (spec.declaration_lengths self.leaf gaps.now) declarations.now) }
     {
@@ -277,7 +277,7 @@ impl Search {
     }
 
     /// The first length over the greatest one in a service of this name with these declarations.
-    #[tactic(auto, using(crate::proofs::Lengths::length_steps))]
+    #[tactic(auto, using(crate::proofs::Firsts::first_steps, crate::proofs::Sizes::size_steps))]
     pub(crate) fn service(self, name: &Name, gaps: &[Name], declarations: &[Declaration]) -> Option<u64>
         ensures { result ≡ find (nat_lt self.most) (spec.all_lengths self.leaf name.now gaps.now declarations.now) }
     {
