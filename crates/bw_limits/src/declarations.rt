@@ -1,6 +1,7 @@
 //! The limits of the declarations of a service.
 ghost use Rattle.std.specs.Prelude.{◌≡◌, ◌<◌, ◌^◌, find, length, map, nat_lt, IfOk};
 ghost use Rattle.std.specs.List.{All};
+ghost use Rattle.std.specs.Option.{IfSome, is_some, option_to_list};
 ghost use Rattle.bw_lang.specs.CodeNames.{local_names};
 ghost use Rattle.bw_lang.specs.Limits as spec;
 ghost use Rattle.bw_lang.specs.Measures.{constant_weight};
@@ -40,12 +41,30 @@ const MAX_STRING: u64 = 16_384;
 /// The greatest weight of a template.
 const MAX_TEMPLATE_WEIGHT: u64 = 262_144;
 
+fn is_template(declaration: &Declaration) -> bool
+    ensures { result ≡ is_some (spec.as_template declaration.now) }
+{
+    matches!(declaration, Declaration::Template(_))
+}
+
+fn is_session(declaration: &Declaration) -> bool
+    ensures { result ≡ is_some (spec.as_session declaration.now) }
+{
+    matches!(declaration, Declaration::Session(_))
+}
+
+fn is_shared(declaration: &Declaration) -> bool
+    ensures { result ≡ is_some (spec.as_shared declaration.now) }
+{
+    matches!(declaration, Declaration::Shared(_))
+}
+
 fn templates(declarations: &[Declaration]) -> u64
     ensures { result ≡ length (spec.templates_of declarations.now) }
 {
     declarations
         .iter()
-        .filter(|declaration| matches!(declaration, Declaration::Template(_)))
+        .filter(|declaration| is_template(declaration))
         .count() as u64
 }
 
@@ -54,7 +73,7 @@ fn sessions(declarations: &[Declaration]) -> u64
 {
     declarations
         .iter()
-        .filter(|declaration| matches!(declaration, Declaration::Session(_)))
+        .filter(|declaration| is_session(declaration))
         .count() as u64
 }
 
@@ -63,8 +82,19 @@ fn shared(declarations: &[Declaration]) -> u64
 {
     declarations
         .iter()
-        .filter(|declaration| matches!(declaration, Declaration::Shared(_)))
+        .filter(|declaration| is_shared(declaration))
         .count() as u64
+}
+
+/// The number of locals of a session, where it has too many.
+fn locals_over(declaration: &Declaration) -> Option<u64>
+    requires { IfSome (spec.as_session declaration.now) (λ s. length (local_names s.body) < 2 ^ 64) }
+    ensures { result ≡ find (nat_lt 64) (map (λ s. length (local_names s.body)) (option_to_list (spec.as_session declaration.now))) }
+{
+    match declaration {
+        Declaration::Session(session) => over(MAX_LOCALS, locals::in_block(&session.body)),
+        Declaration::Template(_) | Declaration::Shared(_) => None,
+    }
 }
 
 /// The number of locals of the first session that has too many.
@@ -73,14 +103,22 @@ fn too_many_locals(declarations: &[Declaration]) -> Option<u64>
     ensures { result ≡ find (nat_lt 64) (map (λ s. length (local_names s.body)) (spec.sessions_of declarations.now)) }
 {
     for declaration in declarations {
-        if let Declaration::Session(session) = declaration {
-            let count = locals::in_block(&session.body);
-            if count > MAX_LOCALS {
-                return Some(count);
-            }
+        if let Some(count) = locals_over(declaration) {
+            return Some(count);
         }
     }
     None
+}
+
+/// The weight of a template, where it is too heavy.
+fn weight_over(declaration: &Declaration) -> Option<u64>
+    requires { IfSome (spec.as_template declaration.now) (λ t. constant_weight t.items < 2 ^ 64) }
+    ensures { result ≡ find (nat_lt 262144) (map (λ t. constant_weight t.items) (option_to_list (spec.as_template declaration.now))) }
+{
+    match declaration {
+        Declaration::Template(template) => over(MAX_TEMPLATE_WEIGHT, template.items.weight()),
+        Declaration::Shared(_) | Declaration::Session(_) => None,
+    }
 }
 
 /// The weight of the first template that is too heavy.
@@ -89,11 +127,8 @@ fn too_heavy(declarations: &[Declaration]) -> Option<u64>
     ensures { result ≡ find (nat_lt 262144) (map (λ t. constant_weight t.items) (spec.templates_of declarations.now)) }
 {
     for declaration in declarations {
-        if let Declaration::Template(template) = declaration {
-            let weight = template.items.weight();
-            if weight > MAX_TEMPLATE_WEIGHT {
-                return Some(weight);
-            }
+        if let Some(weight) = weight_over(declaration) {
+            return Some(weight);
         }
     }
     None
@@ -110,6 +145,7 @@ fn too_many_declared(gaps: &[Name], declarations: &[Declaration]) -> Option<(Lim
 }
 
 /// The first of the limits on locals, lengths and weights that is passed.
+#[tactic(auto, using(crate::proofs::Options::or_assoc))]
 fn too_large(name: &Name, gaps: &[Name], declarations: &[Declaration]) -> Option<(Limit, u64)>
     requires locals { All (λ s. length (local_names s.body) < 2 ^ 64) (spec.sessions_of declarations.now) }
     requires weights { All (λ t. constant_weight t.items < 2 ^ 64) (spec.templates_of declarations.now) }

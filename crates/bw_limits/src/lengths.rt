@@ -8,7 +8,6 @@ ghost use Rattle.bw_lang.specs.Limits as spec;
 ghost use Rattle.bw_lang.specs.Names.{same};
 ghost use Rattle.bw_lang.specs.TermView.{term};
 ghost use Rattle.bw_lang.specs.View as view;
-ghost use Rattle.bw_limits.specs.Branches.{branch_lengths};
 
 use crate::passing::over;
 use bw_lang::{
@@ -137,12 +136,17 @@ impl Search {
                     found => found,
                 }
             }
-            Stmt::If { test, yes, no } => match self.expression(test) {
-                None => self.branches(yes, no),
-                found => found,
-            },
-            Stmt::While { test, body } => match self.expression(test) {
-                None => self.block(body),
+            Stmt::If { test, yes: body, no: None } | Stmt::While { test, body } => {
+                match self.expression(test) {
+                    None => self.block(body),
+                    found => found,
+                }
+            }
+            Stmt::If { test, yes, no: Some(no) } => match self.expression(test) {
+                None => match self.block(yes) {
+                    None => self.block(no),
+                    found => found,
+                },
                 found => found,
             },
             Stmt::Block(body) => self.block(body),
@@ -151,20 +155,6 @@ impl Search {
                 found => found,
             },
             Stmt::Exit { page } => self.expression(page),
-        }
-    }
-
-    #[tactic(auto, using(crate::proofs::Firsts::first_steps, crate::proofs::Sizes::size_steps))]
-    #[cycle(block)]
-    fn branches(self, yes: &Block, no: &Option<Block>) -> Option<u64>
-        ensures { result ≡ find (nat_lt self.most) (branch_lengths self.leaf yes.now no.now) }
-    {
-        match self.block(yes) {
-            None => match no {
-                Some(no) => self.block(no),
-                None => None,
-            },
-            found => found,
         }
     }
 
