@@ -1,16 +1,14 @@
 -- Laws of taking in the names of fields.
 use Rattle.std.proofs.Common.{◌≡◌, ℕ, ◌+◌, ◌<◌, List, [], ◌∷◌, ◌++◌, length, get_or, take, map, flat_map, refl, sym, ap, ◌∙◌, append_assoc, append-nil}
 use Rattle.std.proofs.lemmas.List.{take_more, map-append}
-use Rattle.std.specs.Option.{option_to_list}
 use Rattle.bw_lang.specs.declared.items.Item.{Item}
-use Rattle.bw_lang.specs.declared.stmt.Receive.{Receive}
 use Rattle.bw_lang.specs.declared.stmt.Stmt.{Stmt}
 use Rattle.bw_lang.specs.Code.{Code, done, declare, assign, if_then, if_else, while_loop, block, show, exit}
 use Rattle.bw_lang.specs.Code as codes
 use Rattle.bw_lang.specs.CodeNames.{received_fields}
 use Rattle.bw_lang.specs.CodeView.{code}
 use Rattle.bw_lang.specs.CodeView as code_view
-use Rattle.bw_lang.specs.Controls.{control_names, control_name}
+use Rattle.bw_lang.specs.Controls.{control_names}
 use Rattle.bw_lang.specs.Documents as doc
 use Rattle.bw_lang.specs.Forest.{Forest, none, text, gap, element}
 use Rattle.bw_lang.specs.Names.{with_name, with_names}

@@ -5,7 +5,7 @@ use Rattle.bw_lang.specs.declared.stmt.Stmt.{Stmt}
 use Rattle.bw_lang.specs.Code.{Code, done, declare, assign, if_then, if_else, while_loop, block, show, exit, append}
 use Rattle.bw_lang.specs.CodeView.{code, before}
 use Rattle.bw_lang.specs.CodeNames.{local_names}
-use Rattle.bw_lang.proofs.Codes.{code-append, append_done}
+use Rattle.bw_lang.proofs.Codes.{code-append}
 use Rattle.bw_limits.proofs.Statements.{statements_take}
 
 local_names-append : (a b : Code) → local_names (append a b) ≡ local_names a ++ local_names b

@@ -101,5 +101,7 @@ fn long_stretch(lexemes: &[Lexeme]) -> Option<u64>
 pub fn too_deep(lexemes: &[Lexeme]) -> Option<(Limit, u64)>
     ensures { result ≡ spec.too_deep lexemes.now }
 {
-    passed(Limit::Nesting, over(MAX_NESTING, deepest(lexemes))).or(passed(Limit::Stretch, long_stretch(lexemes)))
+    let nesting = over(MAX_NESTING, deepest(lexemes));
+    let stretch = long_stretch(lexemes);
+    passed(Limit::Nesting, nesting).or(passed(Limit::Stretch, stretch))
 }

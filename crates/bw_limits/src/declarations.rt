@@ -138,25 +138,38 @@ fn too_heavy(declarations: &[Declaration]) -> Option<u64>
 fn too_many_declared(gaps: &[Name], declarations: &[Declaration]) -> Option<(Limit, u64)>
     ensures { result ≡ declared_limit gaps.now declarations.now }
 {
-    passed(Limit::Templates, over(MAX_TEMPLATES, templates(declarations)))
-        .or(passed(Limit::Sessions, over(MAX_SESSIONS, sessions(declarations))))
-        .or(passed(Limit::Shared, over(MAX_SHARED, shared(declarations))))
-        .or(passed(Limit::Gaps, over(MAX_GAPS, gaps.len() as u64)))
+    let templates = over(MAX_TEMPLATES, templates(declarations));
+    let sessions = over(MAX_SESSIONS, sessions(declarations));
+    let shared = over(MAX_SHARED, shared(declarations));
+    let gaps = over(MAX_GAPS, gaps.len() as u64);
+    passed(Limit::Templates, templates)
+        .or(passed(Limit::Sessions, sessions))
+        .or(passed(Limit::Shared, shared))
+        .or(passed(Limit::Gaps, gaps))
 }
 
 /// The first of the limits on locals, lengths and weights that is passed.
-#[tactic(auto, using(crate::proofs::Options::or_assoc))]
 fn too_large(name: &Name, gaps: &[Name], declarations: &[Declaration]) -> Option<(Limit, u64)>
     requires locals { All (λ s. length (local_names s.body) < 2 ^ 64) (spec.sessions_of declarations.now) }
     requires weights { All (λ t. constant_weight t.items < 2 ^ 64) (spec.templates_of declarations.now) }
     ensures { result ≡ size_limit name.now gaps.now declarations.now }
 {
-    let names = Search { leaf: Leaf::Name, most: MAX_NAME };
-    let strings = Search { leaf: Leaf::Text, most: MAX_STRING };
-    passed(Limit::Locals, too_many_locals(declarations))
-        .or(passed(Limit::NameBytes, names.service(name, gaps, declarations)))
-        .or(passed(Limit::StringBytes, strings.service(name, gaps, declarations)))
-        .or(passed(Limit::Weight, too_heavy(declarations)))
+    let names = Search {
+        leaf: Leaf::Name,
+        most: MAX_NAME,
+    };
+    let strings = Search {
+        leaf: Leaf::Text,
+        most: MAX_STRING,
+    };
+    let locals = too_many_locals(declarations);
+    let name_bytes = names.service(name, gaps, declarations);
+    let string_bytes = strings.service(name, gaps, declarations);
+    let weight = too_heavy(declarations);
+    passed(Limit::Locals, locals)
+        .or(passed(Limit::NameBytes, name_bytes))
+        .or(passed(Limit::StringBytes, string_bytes))
+        .or(passed(Limit::Weight, weight))
 }
 
 /// The first limit that the declarations of a service pass, with the first number in source order that does. In this

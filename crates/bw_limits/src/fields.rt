@@ -68,18 +68,32 @@ fn take_received_by(stmt: &Stmt, names: &mut FieldNames) -> Result<(), Memory>
     ensures { OnOk result (names.new ≡ with_names names.old (received_fields (code.before stmt.now done))) }
 {
     match stmt {
-        Stmt::If { yes, no: Some(no), .. } => {
+        Stmt::If {
+            yes,
+            no: Some(no),
+            ..
+        } => {
             take_received(yes, names)?;
             take_received(no, names)
         }
-        Stmt::If { yes: body, no: None, .. } | Stmt::While { body, .. } | Stmt::Block(body) => { take_received(body, names) }
+        Stmt::If {
+            yes: body,
+            no: None,
+            ..
+        }
+        | Stmt::While { body, .. }
+        | Stmt::Block(body) => { take_received(body, names) }
         Stmt::Show { receives, .. } => take_receives(receives, names),
         Stmt::Declare { .. } | Stmt::Assign { .. } | Stmt::Exit { .. } => Ok(()),
     }
 }
 
 /// Takes in the fields that a declaration has controls for or receives.
-fn take_declared(alloc: Global, declaration: &Declaration, names: &mut FieldNames) -> Result<(), Memory>
+fn take_declared(
+    alloc: Global,
+    declaration: &Declaration,
+    names: &mut FieldNames,
+) -> Result<(), Memory>
     ensures { OnOk result (names.new ≡ with_names names.old (spec.declared_fields declaration.now)) }
 {
     match declaration {

@@ -16,7 +16,7 @@ use bw_lang::{
 };
 
 /// A search for the first name, or the first string's text, of more than so many bytes.
-#[derive(Clone, Copy, Debug, PartialEq, Eq)]
+#[derive(Clone, Copy)]
 pub(crate) struct Search {
     pub leaf: Leaf,
     pub most: u64,
@@ -136,13 +136,22 @@ impl Search {
                     found => found,
                 }
             }
-            Stmt::If { test, yes: body, no: None } | Stmt::While { test, body } => {
+            Stmt::If {
+                test,
+                yes: body,
+                no: None,
+            }
+            | Stmt::While { test, body } => {
                 match self.expression(test) {
                     None => self.block(body),
                     found => found,
                 }
             }
-            Stmt::If { test, yes, no: Some(no) } => match self.expression(test) {
+            Stmt::If {
+                test,
+                yes,
+                no: Some(no),
+            } => match self.expression(test) {
                 None => match self.block(yes) {
                     None => self.block(no),
                     found => found,
@@ -268,7 +277,12 @@ impl Search {
 
     /// The first length over the greatest one in a service of this name with these declarations.
     #[tactic(auto, using(crate::proofs::Firsts::first_steps, crate::proofs::Sizes::size_steps))]
-    pub(crate) fn service(self, name: &Name, gaps: &[Name], declarations: &[Declaration]) -> Option<u64>
+    pub(crate) fn service(
+        self,
+        name: &Name,
+        gaps: &[Name],
+        declarations: &[Declaration],
+    ) -> Option<u64>
         ensures { result ≡ find (nat_lt self.most) (spec.all_lengths self.leaf name.now gaps.now declarations.now) }
     {
         match self.name(name) {

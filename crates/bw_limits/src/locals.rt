@@ -28,8 +28,18 @@ fn in_statement(stmt: &Stmt) -> u64
 {
     match stmt {
         Stmt::Declare { .. } => 1,
-        Stmt::If { yes, no: Some(no), .. } => in_block(yes) + in_block(no),
-        Stmt::If { yes: body, no: None, .. } | Stmt::While { body, .. } | Stmt::Block(body) => in_block(body),
+        Stmt::If {
+            yes,
+            no: Some(no),
+            ..
+        } => in_block(yes) + in_block(no),
+        Stmt::If {
+            yes: body,
+            no: None,
+            ..
+        }
+        | Stmt::While { body, .. }
+        | Stmt::Block(body) => in_block(body),
         Stmt::Assign { .. } | Stmt::Show { .. } | Stmt::Exit { .. } => 0,
     }
 }
