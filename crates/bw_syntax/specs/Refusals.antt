@@ -1,5 +1,5 @@
 -- Why bytes read as no service.
-use Rattle.std.specs.Prelude.{◌≡◌, ◌≢◌, ◌≤◌, ◌<◌, ◌⊎◌, ℕ, List, [], ◌∷◌, length, Option, Some, None, ⊤}
+use Rattle.std.specs.Prelude.{◌≡◌, ◌≢◌, ◌≤◌, ◌<◌, ◌⊎◌, ℕ, List, [], ◌∷◌, length, Option, Some, None, Result, Ok, Err, ⊤}
 use Rattle.bw_lang.specs.declared.declaration.Declaration.{Declaration}
 use Rattle.bw_lang.specs.declared.declaration.Draft.{Draft}
 use Rattle.bw_lang.specs.declared.declaration.Draft.TheVariants as drafts
@@ -77,3 +77,9 @@ Refuses bytes faults.Memory = ⊤
 abbrev pub IsSameFault : SyntaxFault → SyntaxFault → Type 0
 IsSameFault (faults.Syntax at) (faults.Syntax other) = ⊤
 IsSameFault fault other = fault ≡ other
+
+-- the answer is this reason; or there was no memory
+abbrev pub IsSameAnswer : {A : Type 0} → Result A SyntaxFault → SyntaxFault → Type 0
+IsSameAnswer (Err faults.Memory) fault = ⊤
+IsSameAnswer (Err answer) fault = (fault ≡ faults.Memory) ⊎ IsSameFault answer fault
+IsSameAnswer (Ok x) fault = fault ≡ faults.Memory

@@ -1,0 +1,128 @@
+//! From the bytes of a file to a service.
+ghost use Rattle.std.specs.Prelude.{◌≡◌, ◌≤◌, ◌⊎◌, Ok, Err, None, IfOk, IfErr, length};
+ghost use Rattle.bw_lang.specs.Brackets.{too_deep};
+ghost use Rattle.bw_lang.specs.declared.service.Service.{Service as Service_};
+ghost use Rattle.bw_lang.specs.Drafts.{AreFormed};
+ghost use Rattle.bw_lang.specs.Reads.{Reads, IsText};
+ghost use Rattle.bw_syntax.specs.declared.fault.SyntaxFault.{SyntaxFault as Fault_};
+ghost use Rattle.bw_syntax.specs.Refusals.{Refuses, IsSameAnswer};
+ghost use Rattle.bw_syntax.specs.Stages.{IsUntold, IsUnparsed, IsParsed, IsRefusedDraft, IsServiceOf, AreBounded};
+
+use crate::fault::SyntaxFault;
+use crate::lexemes::lexemes_of;
+use crate::templates::read_all;
+use bw_lang::{Lexeme, Service, Token, Tokens};
+use bw_lex::{LexFault, lex};
+use bw_limits::{too_deep, too_many};
+use bw_parse::{ParseFault, ServiceDraft, parse_service};
+use std::alloc::Global;
+
+/// The greatest number of bytes of a service file.
+const FILE_MOST: usize = 1_048_576;
+
+/// The tokens of a text, and what they say.
+#[derive(Drop)]
+struct Told {
+    tokens: Tokens,
+    lexemes: Vec<Lexeme>,
+}
+
+/// The tokens of a text that isn't too long.
+fn tell(alloc: Global, bytes: &[u8]) -> Result<Told, SyntaxFault>
+    ensures told { IfOk result (λ t. IsText bytes.now t.lexemes.items) }
+    ensures untold { IfErr result (IsUntold bytes.now) }
+{
+    if bytes.len() > FILE_MOST {
+        return Err(SyntaxFault::TooLong);
+    }
+    match lex(alloc, bytes) {
+        Ok(tokens) => match lexemes_of(alloc, bytes, tokens.as_slice()) {
+            Ok(lexemes) => Ok(Told { tokens, lexemes }),
+            Err(_) => Err(SyntaxFault::Memory),
+        },
+        Err(LexFault::Memory) => Err(SyntaxFault::Memory),
+        Err(fault) => Err(SyntaxFault::Lex(fault)),
+    }
+}
+
+/// The place of the first of the last `left` tokens, within a text of `len` bytes; its end, where none is left.
+fn place(tokens: &[Token], left: usize, len: usize) -> usize
+    ensures { result ≤ len }
+{
+    match tokens.len().checked_sub(left) {
+        None => 0,
+        Some(at) => match tokens.get(at) {
+            None => len,
+            Some(token) => len.min(token.start),
+        },
+    }
+}
+
+/// The service that the tokens of a text of `len` bytes are written for, with its templates unread.
+fn parse(alloc: Global, told: &Told, len: usize) -> Result<ServiceDraft, SyntaxFault>
+    ensures parsed { IfOk result (λ d. IsParsed told.now.lexemes.items d.name d.drafts.items) }
+    ensures unparsed { IfErr result (IsUnparsed told.now.lexemes.items len) }
+{
+    match too_deep(&told.lexemes) {
+        Some((limit, number)) => Err(SyntaxFault::TooMany(limit, number)),
+        None => match parse_service(alloc, &told.lexemes) {
+            Ok(draft) => Ok(draft),
+            Err(ParseFault::Memory) => Err(SyntaxFault::Memory),
+            Err(ParseFault::Syntax(left)) => {
+                let at = place(told.tokens.as_slice(), left, len);
+                Err(SyntaxFault::Syntax(at))
+            }
+        },
+    }
+}
+
+/// The service of a draft, once its templates are read.
+fn finish(alloc: Global, draft: ServiceDraft) -> Result<Service, SyntaxFault>
+    requires formed { AreFormed draft.drafts.items }
+    requires bounded { AreBounded draft.drafts.items }
+    ensures read { IfOk result (IsServiceOf draft.name draft.drafts.items) }
+    ensures refused { IfErr result (IsRefusedDraft draft.name draft.drafts.items) }
+{
+    let ServiceDraft { name, drafts } = draft;
+    let declared = match read_all(alloc, drafts) {
+        Ok(declared) => declared,
+        Err(fault) => return Err(fault),
+    };
+    match too_many(alloc, &name, &declared.gaps, &declared.declarations) {
+        Err(_) => Err(SyntaxFault::Memory),
+        Ok(Some((limit, number))) => Err(SyntaxFault::TooMany(limit, number)),
+        Ok(None) => match Service::of(alloc, name, declared.gaps, declared.declarations) {
+            Ok(service) => Ok(service),
+            Err(_) => Err(SyntaxFault::Memory),
+        },
+    }
+}
+
+fn read(alloc: Global, bytes: &[u8]) -> Result<Service, SyntaxFault>
+    ensures read { IfOk result (Reads bytes.now) }
+    ensures refused { IfErr result (Refuses bytes.now) }
+{
+    let told = match tell(alloc, bytes) {
+        Ok(told) => told,
+        Err(fault) => return Err(fault),
+    };
+    let draft = match parse(alloc, &told, bytes.len()) {
+        Ok(draft) => draft,
+        Err(fault) => return Err(fault),
+    };
+    finish(alloc, draft)
+}
+
+/// The service that the bytes of a file read as.
+///
+/// It is answered exactly where the bytes read as one, and else the reason why they read as none ([`SyntaxFault`]): the
+/// first that holds. `Memory` may come anywhere. It takes time that grows with the number of the bytes, and its depth is
+/// bounded by the limits on brackets and stretches.
+pub fn read_service(alloc: Global, bytes: &[u8]) -> Result<Service, SyntaxFault>
+    ensures read { IfOk result (Reads bytes.now) }
+    ensures only { (service : Service_) → Reads bytes.now service → (result ≡ Err Fault_.Memory) ⊎ (result ≡ Ok service) }
+    ensures refused { IfErr result (Refuses bytes.now) }
+    ensures only_refused { (fault : Fault_) → Refuses bytes.now fault → IsSameAnswer result fault }
+{
+    read(alloc, bytes)
+}
