@@ -11,7 +11,7 @@ use crate::fields::different_fields;
 use crate::lengths::Search;
 use crate::locals;
 use crate::passing::{over, passed};
-use bw_lang::{Declaration, Leaf, Limit, Memory, Name};
+use bw_lang::{Declaration, GapNames, Leaf, Limit, Memory, Name};
 use std::alloc::Global;
 
 /// The most templates.
@@ -135,7 +135,7 @@ fn too_heavy(declarations: &[Declaration]) -> Option<u64>
 }
 
 /// The first of the limits on the numbers of declarations and of gap names that is passed.
-fn too_many_declared(gaps: &[Name], declarations: &[Declaration]) -> Option<(Limit, u64)>
+fn too_many_declared(gaps: &GapNames, declarations: &[Declaration]) -> Option<(Limit, u64)>
     ensures { result ≡ declared_limit gaps.now declarations.now }
 {
     let templates = over(MAX_TEMPLATES, templates(declarations));
@@ -149,7 +149,7 @@ fn too_many_declared(gaps: &[Name], declarations: &[Declaration]) -> Option<(Lim
 }
 
 /// The first of the limits on locals, lengths and weights that is passed.
-fn too_large(name: &Name, gaps: &[Name], declarations: &[Declaration]) -> Option<(Limit, u64)>
+fn too_large(name: &Name, gaps: &GapNames, declarations: &[Declaration]) -> Option<(Limit, u64)>
     requires locals { All (λ s. length (local_names s.body) < 2 ^ 64) (spec.sessions_of declarations.now) }
     requires weights { All (λ t. constant_weight t.items < 2 ^ 64) (spec.templates_of declarations.now) }
     ensures { result ≡ size_limit name.now gaps.now declarations.now }
@@ -180,7 +180,7 @@ fn too_large(name: &Name, gaps: &[Name], declarations: &[Declaration]) -> Option
 pub fn too_many(
     alloc: Global,
     name: &Name,
-    gaps: &[Name],
+    gaps: &GapNames,
     declarations: &[Declaration],
 ) -> Result<Option<(Limit, u64)>, Memory>
     requires locals { All (λ s. length (local_names s.body) < 2 ^ 64) (spec.sessions_of declarations.now) }

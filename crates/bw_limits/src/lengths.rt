@@ -11,8 +11,8 @@ ghost use Rattle.bw_lang.specs.View as view;
 
 use crate::passing::over;
 use bw_lang::{
-    Attr, AttrValue, Attrs, Block, Declaration, Element, Expr, GapId, Item, Items, Leaf, Literal,
-    Name, Pair, Pairs, Receive, Receives, Stmt, Text,
+    Attr, AttrValue, Attrs, Block, Declaration, Element, Expr, GapId, GapNames, Item, Items, Leaf,
+    Literal, Name, Pair, Pairs, Receive, Receives, Stmt, Text,
 };
 
 /// A search for the first name, or the first string's text, of more than so many bytes.
@@ -180,7 +180,7 @@ impl Search {
     /// The first length over the greatest one of the names of gaps and controls.
     #[tactic(auto, using(crate::proofs::Firsts::first_steps, crate::proofs::Sizes::size_steps))]
     #[cycle(items)]
-    fn items(self, gaps: &[Name], items: &Items) -> Option<u64>
+    fn items(self, gaps: &GapNames, items: &Items) -> Option<u64>
         ensures { result ≡ find (nat_lt self.most) (spec.item_lengths gaps.now items.now) }
     {
         for item in items.as_slice() {
@@ -193,7 +193,7 @@ impl Search {
 
     #[tactic(auto, using(crate::proofs::Firsts::first_steps, crate::proofs::Sizes::size_steps))]
     #[cycle(items)]
-    fn item(self, gaps: &[Name], item: &Item) -> Option<u64>
+    fn item(self, gaps: &GapNames, item: &Item) -> Option<u64>
         ensures { result ≡ find (nat_lt self.most) (spec.item_lengths gaps.now (view.before item.now none)) }
     {
         match item {
@@ -207,7 +207,7 @@ impl Search {
     }
 
     #[tactic(auto, using(crate::proofs::Firsts::first_steps, crate::proofs::Sizes::size_steps))]
-    fn attributes(self, gaps: &[Name], element: &Element) -> Option<u64>
+    fn attributes(self, gaps: &GapNames, element: &Element) -> Option<u64>
         ensures { result ≡ find (nat_lt self.most) (spec.attr_lengths gaps.now element.now.tag element.now.attrs) }
     {
         for attr in element.attrs.as_slice() {
@@ -218,7 +218,7 @@ impl Search {
         None
     }
 
-    fn attribute(self, gaps: &[Name], tag: &Name, attr: &Attr) -> Option<u64>
+    fn attribute(self, gaps: &GapNames, tag: &Name, attr: &Attr) -> Option<u64>
         ensures { result ≡ find (nat_lt self.most) (spec.value_lengths gaps.now (controls.is_control tag.now && same attr.now.name (codes "name")) attr.now.value) }
     {
         match &attr.value {
@@ -235,7 +235,7 @@ impl Search {
 
     /// The first length over the greatest one in a declaration.
     #[tactic(auto, using(crate::proofs::Firsts::first_steps, crate::proofs::Sizes::size_steps))]
-    fn declaration(self, gaps: &[Name], declaration: &Declaration) -> Option<u64>
+    fn declaration(self, gaps: &GapNames, declaration: &Declaration) -> Option<u64>
         ensures { result ≡ find (nat_lt self.most) (spec.declaration_lengths self.leaf gaps.now declaration.now) }
     {
         match declaration {
@@ -254,7 +254,7 @@ impl Search {
         }
     }
 
-    fn template_items(self, gaps: &[Name], items: &Items) -> Option<u64>
+    fn template_items(self, gaps: &GapNames, items: &Items) -> Option<u64>
         ensures { result ≡ find (nat_lt self.most) (spec.items_lengths self.leaf gaps.now items.now) }
     {
         match self.leaf {
@@ -264,7 +264,7 @@ impl Search {
     }
 
     #[tactic(auto, using(crate::proofs::Firsts::first_steps, crate::proofs::Sizes::size_steps))]
-    fn declarations(self, gaps: &[Name], declarations: &[Declaration]) -> Option<u64>
+    fn declarations(self, gaps: &GapNames, declarations: &[Declaration]) -> Option<u64>
         ensures { result ≡ find (nat_lt self.most) (flat_map (spec.declaration_lengths self.leaf gaps.now) declarations.now) }
     {
         for declaration in declarations {
@@ -280,7 +280,7 @@ impl Search {
     pub(crate) fn service(
         self,
         name: &Name,
-        gaps: &[Name],
+        gaps: &GapNames,
         declarations: &[Declaration],
     ) -> Option<u64>
         ensures { result ≡ find (nat_lt self.most) (spec.all_lengths self.leaf name.now gaps.now declarations.now) }
@@ -293,11 +293,11 @@ impl Search {
 }
 
 /// The length of the name of a gap, or 0 where the table has no such gap.
-fn gap_length(gaps: &[Name], gap: GapId) -> u64
+fn gap_length(gaps: &GapNames, gap: GapId) -> u64
     ensures { result ≡ spec.gap_length gaps.now gap }
 {
-    match gaps.get(gap.number() as usize) {
-        Some(name) => name.as_bytes().len() as u64,
+    match gaps.name(gap) {
+        Some(name) => name.len() as u64,
         None => 0,
     }
 }
