@@ -1,6 +1,5 @@
 -- Laws of taking in the names of fields.
-use Rattle.std.proofs.Common.{◌≡◌, ℕ, ◌+◌, ◌<◌, List, [], ◌∷◌, ◌++◌, length, get_or, take, map, flat_map, refl, sym, ap, ◌∙◌, append_assoc, append-nil}
-use Rattle.std.proofs.lemmas.List.{take_more, map-append}
+use Rattle.std.proofs.Common.{◌≡◌, ℕ, ◌+◌, ◌<◌, List, [], ◌∷◌, ◌++◌, length, get_or, take, refl, ap, ◌∙◌, append_assoc}
 use Rattle.bw_lang.specs.declared.items.Item.{Item}
 use Rattle.bw_lang.specs.declared.stmt.Stmt.{Stmt}
 use Rattle.bw_lang.specs.Code.{Code, done, declare, assign, if_then, if_else, while_loop, block, show, exit}
@@ -47,4 +46,4 @@ pub received_at_read : (old : List (List ℕ)) (xs : List Stmt) (i : ℕ) (d : S
 received_at_read old xs i d h =
     (refl, ap (λ c. with_names old (received_fields c)) (statements_take xs i d h) ∙ ap (with_names old) (received_fields-append (code (take i xs)) (code_view.before (get_or xs i d) done)) ∙ with_names-append old (received_fields (code (take i xs))) (received_fields (code_view.before (get_or xs i d) done)))
 
-pub ruleset field_steps = (with_names-append, append-nil, controls_at_read, received_at_read)
+pub ruleset field_steps = (with_names-append, controls_at_read, received_at_read)

@@ -1,5 +1,5 @@
 -- A search for the first number over a limit looks at one element more.
-use Rattle.std.proofs.Common.{◌≡◌, ℕ, ◌+◌, ◌<◌, List, [], ◌∷◌, ◌++◌, length, get_or, drop, map, Option, Some, None, refl, sym, ap, ◌∙◌, append_assoc, append-nil, find, flat_map}
+use Rattle.std.proofs.Common.{◌≡◌, ℕ, ◌+◌, ◌<◌, List, ◌∷◌, ◌++◌, length, get_or, drop, map, Option, Some, None, refl, sym, ap, ◌∙◌, append_assoc, append-nil, find, flat_map}
 use Rattle.std.specs.List.{filter_map}
 use Rattle.std.specs.Prelude.{nat_lt}
 use Rattle.std.specs.Option.{option_or, option_to_list}
@@ -61,4 +61,4 @@ one_item_lengths gaps (items.Gap g) rest = refl
 pub by_items : (gaps : List (List ℕ)) → Splits (λ xs. item_lengths gaps (forest xs)) (λ x. item_lengths gaps (view.before x none))
 by_items gaps = record { step = λ x xs. one_item_lengths gaps x (forest xs) }
 
-pub ruleset first_steps = (find-append, append-nil)
+pub ruleset first_steps = (find-append)

@@ -35,4 +35,4 @@ pub locals_room : (xs : List Stmt) (i : ℕ) (d : Stmt) → i < length xs → (g
 locals_room xs i d h =
     (refl, omega (arith, (locals_at_read xs i d h).1, locals-append (code (take (i + 1) xs)) (code (drop (i + 1) xs)), ap locals (sym (code-append (take (i + 1) xs) (drop (i + 1) xs)) ∙ ap code (take-append-drop (i + 1) xs))))
 
-pub ruleset local_steps = (locals_at_read, locals_room, length-append, append-nil)
+pub ruleset local_steps = (locals_at_read, locals_room, length-append)
