@@ -1,4 +1,5 @@
 pub mod Code
+pub mod Controls
 pub mod CodeCode
 pub mod CodeFalls
 pub mod CodeView

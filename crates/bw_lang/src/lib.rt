@@ -3,6 +3,7 @@
 #![tactic(auto)]
 
 mod closing;
+pub mod controls;
 pub mod declaration;
 pub mod expr;
 pub mod items;
@@ -16,6 +17,7 @@ pub mod text;
 pub mod token;
 pub mod tree;
 
+pub use controls::FieldKind;
 pub use declaration::{Declaration, Written};
 pub use expr::{Expr, Fun, Op, Pair, Pairs, Part};
 pub use items::{Attr, AttrValue, Attrs, Element, GapId, Item, Items};

@@ -1,0 +1,5 @@
+pub mod ExpressionFaults
+pub mod Faults
+pub mod Gaps
+pub mod Scopes
+pub mod TemplateFaults
