@@ -1,9 +1,11 @@
 -- Laws of the trees.
-use Rattle.std.specs.Prelude.{◌≡◌, ℕ, List}
+use Rattle.std.specs.Prelude.{◌≡◌, ◌≤◌, ℕ, List}
+use Rattle.bw_lang.specs.declared.measure.Measure.{Measure}
 use Rattle.bw_lang.specs.declared.items.Item.{Item}
 use Rattle.bw_lang.specs.Forest.{Forest}
 use Rattle.bw_lang.specs.View.{forest, items_of}
-use Rattle.bw_lang.specs.Documents.{close, count}
+use Rattle.bw_lang.specs.Documents.{plug, plug_text, close, count, around}
+use Rattle.bw_lang.specs.Measures.{IsDocument, constant_weight, nest}
 use Rattle.bw_lang.specs.Print.{print, joined}
 
 -- the items of the forest of some items are these
@@ -29,3 +31,27 @@ PrintsClosed = (d : Forest) → print (close d) ≡ print d
 -- joining texts changes no byte
 abbrev pub PrintsJoined : Type 0
 PrintsJoined = (d : Forest) → print (joined d) ≡ print d
+
+-- where the gap isn't open, a document plugged into it changes nothing
+abbrev pub PlugsNothing : Type 0
+PlugsNothing = (g : ℕ) (e d : Forest) → count g d ≡ 0 → plug g e d ≡ d
+
+-- nor does a string
+abbrev pub FillsNothing : Type 0
+FillsNothing = (g : ℕ) (s : List ℕ) (d : Forest) → count g d ≡ 0 → plug_text g s d ≡ d
+
+-- a document weighs at least as much as the constant that is equal to it
+abbrev pub WeightBounds : Type 0
+WeightBounds = (d : Forest) (m : Measure) → IsDocument d m → constant_weight d ≤ m.weight
+
+-- no more elements than its nest stand inside one another
+abbrev pub NestBounds : Type 0
+NestBounds = (d : Forest) (m : Measure) → IsDocument d m → nest d ≤ m.nest
+
+-- there is nothing around a gap that isn't open
+abbrev pub AroundNothing : Type 0
+AroundNothing = (g : ℕ) (d : Forest) → count g d ≡ 0 → around g d ≡ 0
+
+-- no more elements stand around a gap than inside one another
+abbrev pub AroundWithin : Type 0
+AroundWithin = (g : ℕ) (d : Forest) → around g d ≤ nest d

@@ -13,6 +13,7 @@ pub mod Laws
 pub mod Levels
 pub mod Lexemes
 pub mod Markup
+pub mod Measures
 pub mod Names
 pub mod Print
 pub mod Spelling

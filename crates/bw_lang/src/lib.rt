@@ -6,16 +6,21 @@ mod closing;
 pub mod controls;
 pub mod declaration;
 pub mod expr;
+mod counting;
 pub mod items;
 pub mod keywords;
 pub mod laws;
 pub mod markup;
+pub mod measure;
 pub mod names;
+pub mod numbers;
+mod plugging;
 pub mod service;
 pub mod stmt;
 pub mod text;
 pub mod token;
 pub mod tree;
+mod weighing;
 
 pub use controls::FieldKind;
 pub use declaration::{Declaration, Written};
@@ -23,7 +28,9 @@ pub use expr::{Expr, Fun, Op, Pair, Pairs, Part};
 pub use items::{Attr, AttrValue, Attrs, Element, GapId, Item, Items};
 pub use keywords::is_keyword;
 pub use markup::is_void;
-pub use names::{GapNames, NameTable};
+pub use measure::{MAX_DEPTH, MAX_NEST, MAX_WEIGHT, Measure, MeasureFault};
+pub use names::{FieldNames, GapNames, NameTable};
+pub use numbers::{FieldId, TemplateId};
 pub use service::{
     Literal, Service, Session, Sessions, Shared, Shareds, Template, Templates,
 };
