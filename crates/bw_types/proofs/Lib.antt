@@ -1,1 +1,3 @@
 pub mod TableLaws
+pub mod First
+pub mod Pairs

@@ -82,6 +82,7 @@ impl Names<'_> {
     }
 
     /// The tests of the pairs of a plug.
+    #[tactic(auto, using(crate::proofs::Pairs::pair_size_at_read))]
     #[cycle(expr)]
     fn pairs(&self, locals: &Locals, pairs: &Pairs) -> Result<(), TypeFault>
         ensures none { OnOk result (spec.faults_in_pairs self.now.service.now locals.now pairs.now ≡ []) }
