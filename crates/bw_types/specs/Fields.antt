@@ -3,8 +3,13 @@ use Rattle.std.specs.Prelude.{ℕ, List, [], ◌∷◌, ◌++◌, map, flat_map}
 use Rattle.bw_lang.specs.declared.service.Service.{Service}
 use Rattle.bw_lang.specs.declared.service.Session.{Session}
 use Rattle.bw_lang.specs.declared.service.Template.{Template}
+use Rattle.bw_lang.specs.declared.stmt.Receive.{Receive}
 use Rattle.bw_lang.specs.Code.{Code, done, declare, assign, if_then, if_else, while_loop, block, show, exit}
 use Rattle.bw_lang.specs.Controls.{control_names}
+
+-- the fields of receives
+abbrev pub receives_fields : List Receive → List (List ℕ)
+receives_fields rs = map (λ r. r.field) rs
 
 -- the fields of all receives, in source order
 abbrev pub receive_fields : Code → List (List ℕ)
@@ -15,7 +20,7 @@ receive_fields (if_then t y rest) = receive_fields y ++ receive_fields rest
 receive_fields (if_else t y n rest) = receive_fields y ++ (receive_fields n ++ receive_fields rest)
 receive_fields (while_loop t b rest) = receive_fields b ++ receive_fields rest
 receive_fields (block b rest) = receive_fields b ++ receive_fields rest
-receive_fields (show p rs rest) = map (λ r. r.field) rs ++ receive_fields rest
+receive_fields (show p rs rest) = receives_fields rs ++ receive_fields rest
 receive_fields (exit p rest) = receive_fields rest
 
 -- the names of the controls of these templates

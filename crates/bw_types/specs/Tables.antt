@@ -1,5 +1,7 @@
 -- Tables of kinds: each name and each gap with the kind that it was first given.
-use Rattle.std.specs.Prelude.{ℕ, if◌then◌else◌, List, [], ◌∷◌, ◌++◌, is_some, fold}
+use Rattle.std.specs.Prelude.{ℕ, if◌then◌else◌, List, [], ◌∷◌, ◌++◌, flat_map, is_some, fold}
+use Rattle.bw_lang.specs.declared.service.Template.{Template}
+use Rattle.bw_lang.specs.Controls.{fields}
 use Rattle.bw_lang.specs.declared.controls.FieldKind.{FieldKind}
 use Rattle.bw_types.specs.declared.fault.GapKind.{GapKind}
 use Rattle.bw_types.specs.Gaps.{gap_kind}
@@ -25,3 +27,7 @@ with_uses table new = fold with_use table new
 -- the tables with gaps and fields taken in
 abbrev pub noted : Front → List (ℕ × GapKind) → List (List ℕ × FieldKind) → Front
 noted front uses more = record { gaps = with_uses front.gaps uses; fields = with_kinds front.fields more }
+
+-- the fields of all templates
+abbrev pub template_fields : List Template → List (List ℕ × FieldKind)
+template_fields templates = flat_map (λ t. fields t.items) templates

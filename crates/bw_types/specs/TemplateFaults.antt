@@ -93,11 +93,14 @@ abbrev pub is_bad_attr : Attr → Bool
 is_bad_attr a =
     (is_hole a.value && is_among a.name (codes "name" ∷ codes "type" ∷ codes "multiple" ∷ [])) || same a.name (codes "disabled")
 
--- an input whose fixed type is none of the eight that HTML 4.01 has for fields and buttons of a form
+-- the types of inputs that HTML 4.01 has for fields and buttons of a form
+abbrev pub input_types : List (List ℕ)
+input_types =
+    codes "text" ∷ codes "password" ∷ codes "hidden" ∷ codes "radio" ∷ codes "submit" ∷ codes "checkbox" ∷ codes "reset" ∷ codes "button" ∷ []
+
+-- an input whose fixed type is none of these
 abbrev pub has_other_type : List ℕ → List Attr → Bool
-has_other_type tag attrs =
-    same tag (codes "input") && is_none_of (fixed (codes "type") attrs)
-    (codes "text" ∷ codes "password" ∷ codes "hidden" ∷ codes "radio" ∷ codes "submit" ∷ codes "checkbox" ∷ codes "reset" ∷ codes "button" ∷ [])
+has_other_type tag attrs = same tag (codes "input") && is_none_of (fixed (codes "type") attrs) input_types
 
 abbrev pub is_bad_control : List ℕ → List Attr → Bool
 is_bad_control tag attrs = is_control tag && (list_any is_bad_attr attrs || has_other_type tag attrs)

@@ -1,11 +1,15 @@
 //! Names and kinds: a service is well typed, or the first test that fails says why it isn't.
 #![tactic(auto)]
 
+mod declarations;
 mod expressions;
 mod fault;
+mod field_names;
 mod kinds;
 mod locals;
 mod names;
+mod statements;
 mod tables;
+mod templates;
 
 pub use fault::{GapKind, TypeFault};

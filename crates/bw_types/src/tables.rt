@@ -1,11 +1,12 @@
 //! Tables of kinds, and of what stands in front of a place in the templates.
-ghost use Rattle.std.specs.Prelude.{◌≡◌, OnOk, []};
+ghost use Rattle.std.specs.Prelude.{◌≡◌, OnOk, [], ◌∷◌};
 ghost use Rattle.bw_types.specs.Gaps.{gap_kind};
 ghost use Rattle.bw_types.specs.Scopes.{beside, is_among};
-ghost use Rattle.bw_types.specs.Tables.{with_kind, with_use};
+ghost use Rattle.bw_types.specs.Tables.{with_kind, with_use, noted};
+ghost use Rattle.bw_types.specs.TemplateFaults.{nothing_in_front};
 
 use crate::fault::GapKind;
-use bw_lang::{GapId, Memory, Name, NameTable};
+use bw_lang::{FieldKind, GapId, Memory, Name, NameTable};
 use indexmap::IndexMap;
 use std::alloc::Global;
 use std::marker::Model;
@@ -95,6 +96,68 @@ impl GapKinds {
             self.kinds.insert(gap.number(), kind)?;
         }
         Ok(())
+    }
+}
+
+/// The gaps and the fields that stand in front of a place in the templates, each with the kind of its first place.
+#[derive(Drop)]
+pub struct Seen {
+    gaps: GapKinds,
+    fields: Kinds<FieldKind>,
+}
+
+impl Model for Seen {
+    ghost use Rattle.bw_types.specs.TemplateFaults.{Front};
+
+    ghost Value = { Front };
+
+    ghost view = { λ s. record { gaps = s.gaps; fields = s.fields } };
+}
+
+impl Seen {
+    /// Nothing yet.
+    pub fn new(alloc: Global) -> Seen
+        ensures { result ≡ nothing_in_front }
+    {
+        Seen {
+            gaps: GapKinds::new(alloc),
+            fields: Kinds::new(alloc),
+        }
+    }
+
+    /// The kind of a gap that was seen.
+    pub fn gap(&self, gap: GapId) -> Option<GapKind>
+        ensures { result ≡ gap_kind self.now.gaps gap }
+    {
+        self.gaps.get(gap)
+    }
+
+    /// The kind of a field that was seen.
+    pub fn field(&self, name: &str) -> Option<FieldKind>
+        ensures { result ≡ beside name.now self.now.fields }
+    {
+        self.fields.get(name)
+    }
+
+    /// Notes a gap.
+    pub fn note_gap(&mut self, gap: GapId, kind: GapKind) -> Result<(), Memory>
+        ensures { OnOk result (self.new ≡ noted self.old ((gap, kind) ∷ []) []) }
+    {
+        self.gaps.note(gap, kind)
+    }
+
+    /// Notes a field.
+    pub fn note_field(&mut self, name: &str, kind: FieldKind) -> Result<(), Memory>
+        ensures { OnOk result (self.new ≡ noted self.old [] ((name.now, kind) ∷ [])) }
+    {
+        self.fields.note(name, kind)
+    }
+
+    /// The kinds of the gaps.
+    pub fn into_gaps(self) -> GapKinds
+        ensures { result ≡ self.gaps }
+    {
+        self.gaps
     }
 }
 

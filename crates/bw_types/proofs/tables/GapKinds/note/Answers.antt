@@ -5,4 +5,4 @@ use Rattle.bw_types.proofs.tables.GapKinds.note.Goals as goal
 pub returns-in_ok-insert : goal.returns-in_ok-insert
 returns-in_ok-insert c =
     c.in_ok-insert.ensures.entries
-    ∙ insert_use c.args.gap c.number.result c.args.kind c.args.self.now c.self.inside.kinds.entries c.get.result c.self.view_is c.number.ensures c.get.ensures (none_from_not (is_some c.get.result) _ c.is_none.ensures c.if-is_none.true)
+    ∙ insert_use c.args.gap c.number.result c.args.kind c.args.self.now c.self.inside.kinds.entries c.get.result c.self.view_is c.number.ensures c.get.ensures ?
