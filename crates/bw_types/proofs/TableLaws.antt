@@ -1,6 +1,6 @@
 -- Tables of kinds.
 use Rattle.std.proofs.Common.{◌≡◌, ℕ, Bool, true, false, cond, nat_eq, eqb, List, [], ◌∷◌, ◌++◌, map, Option, Some, None, refl, ap, sym, ◌∙◌, arith}
-use Rattle.std.specs.Prelude.{String, string_bytes, ◌==◌, is_some, if◌then◌else◌, option_map, find, is_none}
+use Rattle.std.specs.Prelude.{String, string_bytes, ◌==◌, is_some, if◌then◌else◌, option_map, find}
 use Rattle.std.specs.Map.{lookup}
 use Rattle.std.proofs.lemmas.Bool.Decides.{nat_tests}
 use Rattle.std.proofs.lemmas.List.{map-append}
@@ -40,27 +40,25 @@ insert_last eq k v (e ∷ es) h = by_test (eq k e.0) h (insert_last eq k v es)
     by_test true h ih = absurd (cc)
     by_test false h ih = ap (λ l. e ∷ l) (ih h)
 
-absent : {A : Type 0} (o : Option A) → is_none o ≡ true → (o ≡ None) × (is_some o ≡ false)
-absent None h = (refl, refl)
+absent : {A : Type 0} (o : Option A) → is_some o ≡ false → o ≡ None
+absent None h = refl
 absent (Some x) h = absurd (cc)
 
 -- a gap that isn't there is taken in last
-pub insert_use : (g n : ℕ) (k : GapKind) (t es : List (ℕ × GapKind)) (o : Option GapKind) → es ≡ t → n ≡ g → o ≡ gap_kind t g → is_none o ≡ true → insert_entry nat_eq es n k ≡ with_use t (g, k)
+pub insert_use : (g n : ℕ) (k : GapKind) (t es : List (ℕ × GapKind)) (o : Option GapKind) → es ≡ t → n ≡ g → o ≡ gap_kind t g → is_some o ≡ false → insert_entry nat_eq es n k ≡ with_use t (g, k)
 insert_use g n k t es o e q p h =
-    let a = absent (gap_kind t g) (ap is_none (sym p) ∙ h) in
-    ap (λ x. insert_entry nat_eq x n k) e ∙ ap (λ x. insert_entry nat_eq t x k) q ∙ insert_last nat_eq g k t (gap_kind-lookup g t ∙ a.0)
-    ∙ ap (λ (b : Bool). if b then t else t ++ (g, k) ∷ []) (sym a.1)
+    ap (λ x. insert_entry nat_eq x n k) e ∙ ap (λ x. insert_entry nat_eq t x k) q ∙ insert_last nat_eq g k t (gap_kind-lookup g t ∙ sym p ∙ absent o h)
+    ∙ ap (λ (b : Bool). if b then t else t ++ (g, k) ∷ []) (sym (ap is_some (sym p) ∙ h))
 
 abbrev pub alike : {Z : Type 0} → String Z → String Z → Bool
 alike a b = same (string_bytes a) (string_bytes b)
 
 -- a name that isn't there is taken in last
 pub insert_kind : {A Z : Type 0} (s : String Z) (w : List ℕ) (k : A) (es : List (String Z × A)) (t : List (List ℕ × A)) (o : Option A)
-    → map (λ e. (string_bytes e.0, e.1)) es ≡ t → string_bytes s ≡ w → o ≡ beside w t → is_none o ≡ true
+    → map (λ e. (string_bytes e.0, e.1)) es ≡ t → string_bytes s ≡ w → o ≡ beside w t → is_some o ≡ false
     → map (λ e. (string_bytes e.0, e.1)) (insert_entry alike es s k) ≡ with_kind t (w, k)
 insert_kind {A = A} {Z = Z} s w k es t o e q p h =
     let v : List (String Z × A) → List (List ℕ × A) = map (λ e. (string_bytes e.0, e.1)) in
-    let a = absent (beside w t) (ap is_none (sym p) ∙ h) in
     let there : beside (string_bytes s) (v es) ≡ beside w t = ap (λ x. beside x (v es)) q ∙ ap (beside w) e in
-    ap v (insert_last alike s k es (beside-lookup (string_bytes s) es ∙ there ∙ a.0)) ∙ map-append (λ e. (string_bytes e.0, e.1)) es ((s, k) ∷ [])
-    ∙ ap (λ x. x ++ (string_bytes s, k) ∷ []) e ∙ ap (λ x. t ++ (x, k) ∷ []) q ∙ ap (λ (b : Bool). if b then t else t ++ (w, k) ∷ []) (sym a.1)
+    ap v (insert_last alike s k es (beside-lookup (string_bytes s) es ∙ there ∙ sym p ∙ absent o h)) ∙ map-append (λ e. (string_bytes e.0, e.1)) es ((s, k) ∷ [])
+    ∙ ap (λ x. x ++ (string_bytes s, k) ∷ []) e ∙ ap (λ x. t ++ (x, k) ∷ []) q ∙ ap (λ (b : Bool). if b then t else t ++ (w, k) ∷ []) (sym (ap is_some (sym p) ∙ h))
