@@ -4,3 +4,6 @@ pub mod Seek
 pub mod Pairs
 pub mod Known
 pub mod LocalLaws
+pub mod Loops
+pub mod Codes
+pub mod Receives
