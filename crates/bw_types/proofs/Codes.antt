@@ -12,7 +12,10 @@ use Rattle.bw_lang.specs.Code.{Code, done, declare, assign, if_then, if_else, wh
 use Rattle.bw_lang.specs.CodeFalls.{most_le-code_size}
 use Rattle.bw_lang.specs.CodeView.{before, code}
 use Rattle.bw_types.specs.declared.fault.TypeFault.{TypeFault}
-use Rattle.bw_types.specs.Faults.{code_faults, local_repeated, receive_faults}
+use Rattle.std.specs.Prelude.{slice_get}
+use Rattle.bw_lang.specs.Term.{Term}
+use Rattle.bw_lang.specs.TermView.{term}
+use Rattle.bw_types.specs.Faults.{code_faults, local_repeated, receive_faults, ends_in_exit}
 use Rattle.bw_types.specs.ExpressionFaults.{faults_in, kind_of, wanted, demand_same, name_unknown}
 use Rattle.bw_lang.specs.declared.stmt.Kind.TheVariants as kinds
 use Rattle.bw_types.specs.Places.{after, outside}
@@ -144,3 +147,41 @@ outside-after k a =
     let n : length m.locals - length k.locals ≡ length (added a) = omega (arith, ap length (locals_after k a), length-append (added a) k.locals) in
     let l : drop (length m.locals - length k.locals) m.locals ≡ k.locals = ap (λ i. drop i m.locals) n ∙ ap (drop (length (added a))) (locals_after k a) ∙ drop-append_seam (added a) k.locals in
     ap (λ x. record { locals = x; taken = m.taken }) l ∙ ap (λ x. record { locals = k.locals; taken = x }) (taken_after k a)
+
+-- ---- the last statement
+
+exit_skips : (p : Term) (z : Stmt) (r : Code) → ends_in_exit (exit p (before z r)) ≡ ends_in_exit (before z r)
+exit_skips p (Declare t w e) r = refl
+exit_skips p (Assign w e) r = refl
+exit_skips p (If t y None) r = refl
+exit_skips p (If t y (Some n)) r = refl
+exit_skips p (While t y) r = refl
+exit_skips p (Block y) r = refl
+exit_skips p (Show q rs) r = refl
+exit_skips p (Exit q) r = refl
+
+skips : (y z : Stmt) (r : Code) → ends_in_exit (before y (before z r)) ≡ ends_in_exit (before z r)
+skips (Declare t w e) z r = refl
+skips (Assign w e) z r = refl
+skips (If t y None) z r = refl
+skips (If t y (Some n)) z r = refl
+skips (While t y) z r = refl
+skips (Block y) z r = refl
+skips (Show q rs) z r = refl
+skips (Exit q) z r = exit_skips (term q) z r
+
+-- a block ends in `exit` where its last statement is one
+pub last_decides : (xs : List Stmt) (x : Stmt) → slice_get xs (length xs - 1) ≡ Some x → ends_in_exit (code xs) ≡ ends_in_exit (before x done)
+last_decides [] x h = absurd (cc)
+last_decides (y ∷ []) x h = let e : y ≡ x = cc in ap (λ s. ends_in_exit (before s done)) e
+last_decides (y ∷ z ∷ zs) x h =
+    let e : suc (length (z ∷ zs) - 1) ≡ length (y ∷ z ∷ zs) - 1 = omega arith in skips y z (code zs) ∙ last_decides (z ∷ zs) x (ap (slice_get (y ∷ z ∷ zs)) e ∙ h)
+
+pub none_ends : (xs : List Stmt) → slice_get xs (length xs - 1) ≡ None → ends_in_exit (code xs) ≡ false
+none_ends [] h = refl
+none_ends (y ∷ xs) h = absurd (past (y ∷ xs) (length (y ∷ xs) - 1) h (omega arith))
+  where
+    past : (xs : List Stmt) (i : ℕ) → slice_get xs i ≡ None → i < length xs → ⊥
+    past [] i h l = omega arith
+    past (x ∷ xs) zero h l = cc
+    past (x ∷ xs) (suc i) h l = past xs i h (omega arith)

@@ -7,3 +7,5 @@ pub mod LocalLaws
 pub mod Loops
 pub mod Codes
 pub mod Receives
+pub mod Alike
+pub mod Walks

@@ -3,7 +3,8 @@ ghost use Rattle.std.specs.Prelude.{◌≡◌, Some, None, IfOk, IfErr, OnOk, []
 ghost use Rattle.bw_types.specs.declared.fault.TypeFault.TheVariants.{Repeated};
 ghost use Rattle.bw_types.specs.Faults as spec;
 ghost use Rattle.bw_types.specs.First.{IsFirst};
-ghost use Rattle.bw_types.specs.Gaps.{template_uses};
+ghost use Rattle.bw_lang.specs.Controls.{fields};
+ghost use Rattle.bw_types.specs.Gaps.{gap_uses, template_uses};
 ghost use Rattle.bw_types.specs.Scopes.{is_among};
 ghost use Rattle.bw_types.specs.Tables.{noted, template_fields};
 ghost use Rattle.bw_types.specs.TemplateFaults.{template_faults, fault_if};
@@ -46,16 +47,32 @@ fn templates(
     ensures noted { OnOk result (seen.new ≡ noted seen.old (template_uses templates.now) (template_fields templates.now)) }
     ensures first { IfErr result (λ e. IsFirst e (template_faults names.now earlier.old seen.old templates.now)) }
 {
-    for template in templates {
-        take_name(earlier, &template.name)?;
-        let place = Place {
-            alloc,
-            template: &template.name,
-            names,
-        };
-        place.items(seen, &template.items)?;
+    for item in templates {
+        template(alloc, names, earlier, seen, item)?;
     }
     Ok(())
+}
+
+/// The tests of one template: its name, and its items.
+fn template(
+    alloc: Global,
+    names: &GapNames,
+    earlier: &mut NameTable,
+    seen: &mut Seen,
+    template: &Template,
+) -> Result<(), TypeFault>
+    ensures none { OnOk result (template_faults names.now earlier.old seen.old (template.now ∷ []) ≡ []) }
+    ensures named { OnOk result (earlier.new ≡ earlier.old ++ template.now.name ∷ []) }
+    ensures noted { OnOk result (seen.new ≡ noted seen.old (gap_uses template.now.items) (fields template.now.items)) }
+    ensures first { IfErr result (λ e. IsFirst e (template_faults names.now earlier.old seen.old (template.now ∷ []))) }
+{
+    take_name(earlier, &template.name)?;
+    let place = Place {
+        alloc,
+        template: &template.name,
+        names,
+    };
+    place.items(seen, &template.items)
 }
 
 /// The test of a declaration's name: `Repeated` where an earlier one has it. Then it is taken.
@@ -79,11 +96,20 @@ impl Names<'_> {
         ensures first { IfErr result (λ e. IsFirst e (spec.shared_faults self.now.service.now earlier.old shared.now)) }
     {
         for variable in shared {
-            take_name(earlier, &variable.name)?;
-            let kind = self.literal(&variable.init)?;
-            demand(variable.kind, kind)?;
+            self.variable_declared(earlier, variable)?;
         }
         Ok(())
+    }
+
+    /// The tests of one shared variable: its name, its literal, and the literal's kind.
+    fn variable_declared(&self, earlier: &mut NameTable, variable: &Shared) -> Result<(), TypeFault>
+        ensures none { OnOk result (spec.shared_faults self.now.service.now earlier.old (variable.now ∷ []) ≡ []) }
+        ensures named { OnOk result (earlier.new ≡ earlier.old ++ variable.now.name ∷ []) }
+        ensures first { IfErr result (λ e. IsFirst e (spec.shared_faults self.now.service.now earlier.old (variable.now ∷ []))) }
+    {
+        take_name(earlier, &variable.name)?;
+        let kind = self.literal(&variable.init)?;
+        demand(variable.kind, kind)
     }
 
     /// The kind of a literal. `Unknown` where it names no template.
@@ -109,12 +135,22 @@ impl Names<'_> {
         ensures first { IfErr result (λ e. IsFirst e (spec.session_faults self.now.service.now earlier.old sessions.now)) }
     {
         for session in sessions {
-            take_name(earlier, &session.name)?;
-            let mut locals = Locals::new(alloc);
-            self.block(&mut locals, &session.body)?;
-            if !ends_in_exit(&session.body) {
-                return Err(TypeFault::NoExit(session.name.copy()?));
-            }
+            self.session(alloc, earlier, session)?;
+        }
+        Ok(())
+    }
+
+    /// The tests of one session: its name, its statements, and its last one.
+    fn session(&self, alloc: Global, earlier: &mut NameTable, session: &Session) -> Result<(), TypeFault>
+        ensures none { OnOk result (spec.session_faults self.now.service.now earlier.old (session.now ∷ []) ≡ []) }
+        ensures named { OnOk result (earlier.new ≡ earlier.old ++ session.now.name ∷ []) }
+        ensures first { IfErr result (λ e. IsFirst e (spec.session_faults self.now.service.now earlier.old (session.now ∷ []))) }
+    {
+        take_name(earlier, &session.name)?;
+        let mut locals = Locals::new(alloc);
+        self.block(&mut locals, &session.body)?;
+        if !ends_in_exit(&session.body) {
+            return Err(TypeFault::NoExit(session.name.copy()?));
         }
         Ok(())
     }

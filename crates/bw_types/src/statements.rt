@@ -123,5 +123,14 @@ impl Names<'_> {
 pub fn ends_in_exit(block: &Block) -> bool
     ensures { result ≡ spec.ends_in_exit block.now }
 {
-    matches!(block.as_slice().last(), Some(Stmt::Exit { .. }))
+    match block.as_slice().last() {
+        Some(stmt) => is_exit(stmt),
+        None => false,
+    }
+}
+
+fn is_exit(stmt: &Stmt) -> bool
+    ensures { result ≡ spec.ends_in_exit (before stmt.now done) }
+{
+    matches!(stmt, Stmt::Exit { .. })
 }

@@ -1,5 +1,6 @@
 //! The tests of templates.
 ghost use Rattle.std.specs.Prelude.{◌≡◌, Some, None, IfOk, IfErr, OnOk, [], ◌∷◌, option_copied};
+ghost use Rattle.std.specs.List.{list_any};
 ghost use Rattle.bw_lang.specs.Forest.{none};
 ghost use Rattle.bw_lang.specs.View.{before};
 ghost use Rattle.bw_lang.specs.Controls.{fixed, fields, field_of};
@@ -193,7 +194,14 @@ fn is_bad_control(element: &Element) -> bool
     ensures { result ≡ spec.is_bad_control element.now.tag element.now.attrs }
 {
     is_control(&element.tag)
-        && (element.attrs.as_slice().iter().any(|attr| is_bad_attr(attr)) || has_other_type(element))
+        && (has_bad_attr(&element.attrs) || has_other_type(element))
+}
+
+/// An attribute that may be no gap in a control, or that no control may have, among these.
+fn has_bad_attr(attrs: &Attrs) -> bool
+    ensures { result ≡ list_any spec.is_bad_attr attrs.now }
+{
+    attrs.as_slice().iter().any(|attr| is_bad_attr(attr))
 }
 
 /// An attribute that may be no gap in a control, or that no control may have.
