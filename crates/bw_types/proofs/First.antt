@@ -24,3 +24,13 @@ exits (Err y) e done here rest whole q h d w = rw q (is_first_in e done here res
 -- a place more without a fault
 pub none_more : (done here more : List TypeFault) → done ≡ [] → here ≡ [] → more ≡ done ++ here → more ≡ []
 none_more done here more d h m = cc
+
+-- a last call whose answer is passed on: the faults there are among all
+pub passes_first : {X : Type 0} (r : Result X TypeFault) (done here rest whole : List TypeFault)
+    → IfErr r (λ e. IsFirst e here) → done ≡ [] → whole ≡ done ++ (here ++ rest) → IfErr r (λ e. IsFirst e whole)
+passes_first (Ok x) done here rest whole h d w = tt
+passes_first (Err e) done here rest whole h d w = is_first_in e done here rest whole h d w
+
+pub passes_none : {X : Type 0} (r : Result X TypeFault) (done here whole : List TypeFault) → OnOk r (here ≡ []) → done ≡ [] → whole ≡ done ++ (here ++ []) → OnOk r (whole ≡ [])
+passes_none (Ok x) done here whole h d w = cc
+passes_none (Err e) done here whole h d w = tt

@@ -1,5 +1,5 @@
 -- The faults of attributes, items and templates, one after the other.
-use Rattle.std.proofs.Common.{◌≡◌, ℕ, ◌+◌, ◌<◌, List, [], ◌∷◌, ◌++◌, length, get_or, take, drop, map, refl, ap, sym, ◌∙◌, append_assoc}
+use Rattle.std.proofs.Common.{◌≡◌, ℕ, ◌+◌, ◌<◌, false, List, [], ◌∷◌, ◌++◌, length, get_or, take, drop, map, refl, ap, sym, ◌∙◌, append_assoc}
 use Rattle.std.proofs.lemmas.List.{take_more, take-append-drop, append-nil, map-append}
 use Rattle.std.proofs.lemmas.List.Concat.{flat_map-append}
 use Rattle.bw_lang.specs.declared.controls.FieldKind.{FieldKind}
@@ -18,7 +18,7 @@ use Rattle.bw_types.specs.declared.fault.TypeFault.TheVariants as faults
 use Rattle.bw_types.specs.Gaps.{value_use, attr_uses, gap_uses}
 use Rattle.bw_types.specs.Scopes.{is_among}
 use Rattle.bw_types.specs.Tables.{noted, with_uses, with_kinds}
-use Rattle.bw_types.specs.TemplateFaults.{Front, past, fault_if, gap_fault, value_fault, attr_faults, element_faults, items_faults, template_faults}
+use Rattle.bw_types.specs.TemplateFaults.{Front, past, fault_if, gap_fault, value_fault, attr_faults, field_faults, is_reserved, is_file_input, is_bad_control, element_faults, items_faults, template_faults}
 use Rattle.bw_types.proofs.Alike.{items_noted, attrs_noted, noted-noted}
 
 -- behind a list whose end is another list
@@ -121,3 +121,15 @@ items_noted-more k l m xs i x at to e h =
     to ∙ ap (λ n. noted n (gap_uses o) (fields o)) at ∙ noted-noted k (gap_uses d) (gap_uses o) (fields d) (fields o)
     ∙ ap (λ u. noted k u (fields d ++ fields o)) (sym (gap_uses-append d o)) ∙ ap (noted k (gap_uses (append d o))) (sym (fields-append d o))
     ∙ ap (λ n. noted k (gap_uses n) (fields n)) (sym (forest-take xs i x e h))
+
+-- the faults of an element: in front of its items, and there, where what its tag holds was noted
+pub element-parts : (t : List ℕ) (names : List (List ℕ)) (k l : Front) (x : Item) (tag : List ℕ) (xs : List Attr) (d : Forest) → l ≡ noted k (attr_uses xs) (field_of tag xs) → before x none ≡ element tag xs d none
+    → items_faults t names k (before x none) ≡ element_faults t names k tag xs ++ (items_faults t names l d ++ [])
+element-parts t names k l x tag xs d at is =
+    ap (items_faults t names k) is
+    ∙ ap (λ m. element_faults t names k tag xs ++ (m ++ [])) (items_noted t names k (attr_uses xs) (field_of tag xs) d ∙ ap (λ m. items_faults t names m d) (sym at))
+
+-- the faults of an element whose tag and whose control pass
+pub element-passes : (t : List ℕ) (names : List (List ℕ)) (f : Front) (tag : List ℕ) (xs : List Attr) → is_reserved tag ≡ false → is_file_input tag xs ≡ false → is_bad_control tag xs ≡ false
+    → element_faults t names f tag xs ≡ field_faults f.fields (field_of tag xs) ++ attr_faults names f.gaps xs
+element-passes t names f tag xs a b c = rw (a, b, c)

@@ -27,6 +27,7 @@ pub struct Place<'a> {
 
 impl Place<'_> {
     /// The tests of items, in source order. What they hold is noted.
+    #[tactic(auto, using(bw_lang::proofs::Forests::size_at_read))]
     #[cycle(items)]
     pub fn items(&self, seen: &mut Seen, items: &Items) -> Result<(), TypeFault>
         ensures none { OnOk result (spec.items_faults self.now.template.now self.now.names.now seen.old items.now ≡ []) }
