@@ -9,3 +9,4 @@ pub mod Codes
 pub mod Receives
 pub mod Alike
 pub mod Walks
+pub mod Declared

@@ -15,11 +15,11 @@ use Rattle.bw_types.specs.declared.fault.GapKind.{GapKind}
 use Rattle.bw_types.specs.declared.fault.GapKind.TheVariants.{Content}
 use Rattle.bw_types.specs.declared.fault.TypeFault.{TypeFault}
 use Rattle.bw_types.specs.declared.fault.TypeFault.TheVariants as faults
-use Rattle.bw_types.specs.Gaps.{value_use, attr_uses, gap_uses}
+use Rattle.bw_types.specs.Gaps.{value_use, attr_uses, gap_uses, template_uses}
 use Rattle.bw_types.specs.Scopes.{is_among}
-use Rattle.bw_types.specs.Tables.{noted, with_uses, with_kinds}
+use Rattle.bw_types.specs.Tables.{noted, with_uses, template_fields}
 use Rattle.bw_types.specs.TemplateFaults.{Front, past, fault_if, gap_fault, value_fault, attr_faults, field_faults, is_reserved, is_file_input, is_bad_control, element_faults, items_faults, template_faults}
-use Rattle.bw_types.proofs.Alike.{items_noted, attrs_noted, noted-noted}
+use Rattle.bw_types.proofs.Alike.{items_noted, attrs_noted, templates_noted, noted-noted}
 
 -- behind a list whose end is another list
 behind_one : {A : Type 0} (a b c d : List A) → b ≡ c ++ d → a ++ b ≡ (a ++ c) ++ d
@@ -133,3 +133,57 @@ element-parts t names k l x tag xs d at is =
 pub element-passes : (t : List ℕ) (names : List (List ℕ)) (f : Front) (tag : List ℕ) (xs : List Attr) → is_reserved tag ≡ false → is_file_input tag xs ≡ false → is_bad_control tag xs ≡ false
     → element_faults t names f tag xs ≡ field_faults f.fields (field_of tag xs) ++ attr_faults names f.gaps xs
 element-passes t names f tag xs a b c = rw (a, b, c)
+
+-- ---- templates
+
+pub templates-append : (names E : List (List ℕ)) (f : Front) (xs ys : List Template)
+    → template_faults names E f (xs ++ ys) ≡ template_faults names E f xs ++ template_faults names (E ++ map (λ t. t.name) xs) (past f (template_uses xs) (template_fields xs)) ys
+templates-append names E f [] ys = ap (λ e. template_faults names e f ys) (sym (append-nil E)) ∙ ap (λ k. template_faults names (E ++ []) k ys) (sym (past_nothing f))
+templates-append names E f (t ∷ xs) ys =
+    let g = past f (gap_uses t.items) (fields t.items) in let D = E ++ t.name ∷ [] in
+    behind_one (fault_if (is_among t.name E) (faults.Repeated t.name)) _ (items_faults t.name names f t.items ++ template_faults names D g xs) _
+    (behind_one (items_faults t.name names f t.items) _ (template_faults names D g xs) _
+    (templates-append names D g xs ys
+     ∙ ap (λ e. template_faults names D g xs ++ template_faults names e (past g (template_uses xs) (template_fields xs)) ys) (append_assoc E (t.name ∷ []) (map (λ t. t.name) xs))
+     ∙ ap (λ k. template_faults names D g xs ++ template_faults names (E ++ map (λ t. t.name) (t ∷ xs)) k ys) (past-past f (gap_uses t.items) (template_uses xs) (fields t.items) (template_fields xs))))
+
+-- the faults up to one template more, where what is in front was noted
+pub templates-more : (names E D : List (List ℕ)) (k l : Front) (xs : List Template) (i : ℕ) (x : Template)
+    → D ≡ E ++ map (λ t. t.name) (take i xs) → l ≡ noted k (template_uses (take i xs)) (template_fields (take i xs)) → x ≡ get_or xs i x → i < length xs
+    → template_faults names E k (take (i + 1) xs) ≡ template_faults names E k (take i xs) ++ template_faults names D l (x ∷ [])
+templates-more names E D k l xs i x named at e h =
+    let ts = take i xs in let F = template_faults names E k ts in
+    ap (template_faults names E k) (take_more xs i x h) ∙ templates-append names E k ts (get_or xs i x ∷ [])
+    ∙ ap (λ m. F ++ m)
+    (ap (λ y. template_faults names (E ++ map (λ t. t.name) ts) (past k (template_uses ts) (template_fields ts)) (y ∷ [])) (sym e)
+     ∙ templates_noted names (E ++ map (λ t. t.name) ts) k (template_uses ts) (template_fields ts) (x ∷ [])
+     ∙ ap (λ m. template_faults names (E ++ map (λ t. t.name) ts) m (x ∷ [])) (sym at) ∙ ap (λ m. template_faults names m l (x ∷ [])) (sym named))
+
+-- the faults in front of a template, there, and behind it
+pub templates-parts : (names E D : List (List ℕ)) (k l : Front) (xs : List Template) (i : ℕ) (x : Template)
+    → D ≡ E ++ map (λ t. t.name) (take i xs) → l ≡ noted k (template_uses (take i xs)) (template_fields (take i xs)) → x ≡ get_or xs i x → i < length xs
+    → (rest : List TypeFault) × (template_faults names E k xs ≡ template_faults names E k (take i xs) ++ (template_faults names D l (x ∷ []) ++ rest))
+templates-parts names E D k l xs i x named at e h =
+    let ts = take (i + 1) xs in let rest = template_faults names (E ++ map (λ t. t.name) ts) (past k (template_uses ts) (template_fields ts)) (drop (i + 1) xs) in
+    (rest, ap (template_faults names E k) (sym (take-append-drop (i + 1) xs)) ∙ templates-append names E k ts (drop (i + 1) xs) ∙ ap (λ m. m ++ rest) (templates-more names E D k l xs i x named at e h)
+     ∙ append_assoc (template_faults names E k (take i xs)) (template_faults names D l (x ∷ [])) rest)
+
+-- what is noted behind one template more
+pub templates_noted-more : (k l m : Front) (xs : List Template) (i : ℕ) (x : Template) → l ≡ noted k (template_uses (take i xs)) (template_fields (take i xs)) → m ≡ noted l (gap_uses x.items) (fields x.items)
+    → x ≡ get_or xs i x → i < length xs → m ≡ noted k (template_uses (take (i + 1) xs)) (template_fields (take (i + 1) xs))
+templates_noted-more k l m xs i x at to e h =
+    let ts = take i xs in
+    let one : (u v : List (ℕ × GapKind)) → u ++ v ≡ u ++ (v ++ []) = λ u v. ap (λ w. u ++ w) (sym (append-nil v)) in
+    let two : (u v : List (List ℕ × FieldKind)) → u ++ v ≡ u ++ (v ++ []) = λ u v. ap (λ w. u ++ w) (sym (append-nil v)) in
+    to ∙ ap (λ n. noted n (gap_uses x.items) (fields x.items)) at ∙ noted-noted k (template_uses ts) (gap_uses x.items) (template_fields ts) (fields x.items)
+    ∙ ap (λ w. noted k w (template_fields ts ++ fields x.items)) (one (template_uses ts) (gap_uses x.items) ∙ sym (flat_map-append (λ (t : Template). gap_uses t.items) ts (x ∷ [])))
+    ∙ ap (noted k (template_uses (ts ++ x ∷ []))) (two (template_fields ts) (fields x.items) ∙ sym (flat_map-append (λ (t : Template). fields t.items) ts (x ∷ [])))
+    ∙ ap (λ y. noted k (template_uses (ts ++ y ∷ [])) (template_fields (ts ++ y ∷ []))) e ∙ ap (λ y. noted k (template_uses y) (template_fields y)) (sym (take_more xs i x h))
+
+-- ---- names of declarations
+
+-- one name more
+pub named_more : {X : Type 0} (f : X → List ℕ) (E D C : List (List ℕ)) (xs : List X) (i : ℕ) (x : X) → D ≡ E ++ map f (take i xs) → C ≡ D ++ f x ∷ [] → x ≡ get_or xs i x → i < length xs → C ≡ E ++ map f (take (i + 1) xs)
+named_more f E D C xs i x named to e h =
+    to ∙ ap (λ l. l ++ f x ∷ []) named ∙ append_assoc E (map f (take i xs)) (f x ∷ [])
+    ∙ ap (λ l. E ++ l) (sym (map-append f (take i xs) (x ∷ [])) ∙ ap (λ y. map f (take i xs ++ y ∷ [])) e ∙ ap (map f) (sym (take_more xs i x h)))
