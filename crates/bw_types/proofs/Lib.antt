@@ -10,3 +10,4 @@ pub mod Receives
 pub mod Alike
 pub mod Walks
 pub mod Declared
+pub mod Whole
