@@ -77,7 +77,7 @@ faults-append s k (show p rs a) b =
     (behind_one (receive_faults s k rs) _ (code_faults s k a) _ (faults-append s k a b))
 faults-append s k (exit p a) b = behind_one (wanted s k kinds.Html p) _ (code_faults s k a) (code_faults s (after k a) b) (faults-append s k a b)
 
-code-more : (xs : List Stmt) (i : ℕ) (x : Stmt) → x ≡ get_or xs i x → i < length xs → code (take (i + 1) xs) ≡ append (code (take i xs)) (before x done)
+pub code-more : (xs : List Stmt) (i : ℕ) (x : Stmt) → x ≡ get_or xs i x → i < length xs → code (take (i + 1) xs) ≡ append (code (take i xs)) (before x done)
 code-more xs i x e h = ap code (take_more xs i x h) ∙ code-append (take i xs) (get_or xs i x ∷ []) ∙ ap (λ y. append (code (take i xs)) (before y done)) (sym e)
 
 -- the scope behind one statement more

@@ -11,3 +11,4 @@ pub mod Alike
 pub mod Walks
 pub mod Declared
 pub mod Whole
+pub mod FieldLaws

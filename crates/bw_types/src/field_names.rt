@@ -26,6 +26,7 @@ pub fn field_names(alloc: Global, service: &Service) -> Result<FieldNames, Memor
 }
 
 /// Takes in the names of the controls of items.
+#[tactic(auto, using(bw_lang::proofs::Forests::size_at_read))]
 #[cycle(controls)]
 fn note_controls(alloc: Global, names: &mut FieldNames, items: &Items) -> Result<(), Memory>
     ensures { OnOk result (names.new ≡ with_names names.old (control_names items.now)) }
@@ -52,6 +53,7 @@ fn note_control(alloc: Global, names: &mut FieldNames, item: &Item) -> Result<()
 }
 
 /// Takes in the fields that the statements of a block receive.
+#[tactic(auto, using(crate::proofs::Codes::stmt_size_at_read))]
 #[cycle(fields)]
 fn note_fields(names: &mut FieldNames, block: &Block) -> Result<(), Memory>
     ensures { OnOk result (names.new ≡ with_names names.old (spec.receive_fields block.now)) }
