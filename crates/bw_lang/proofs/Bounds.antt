@@ -7,9 +7,8 @@ use Rattle.std.proofs.Math.Nat.{mul-le-mul_left}
 use Rattle.bw_lang.specs.declared.items.Attr.{Attr}
 use Rattle.bw_lang.specs.declared.items.AttrValue.{AttrValue}
 use Rattle.bw_lang.specs.declared.items.AttrValue.TheVariants.{Fixed, Hole}
-use Rattle.bw_lang.specs.declared.measure.Measure.{Measure}
 use Rattle.bw_lang.specs.Forest.{Forest, none, text, gap, element}
-use Rattle.bw_lang.specs.Documents.{append, plug, plug_text, count, depth, around, deeper, under, here, one_if, is_hole, filled_value, filled_attr}
+use Rattle.bw_lang.specs.Documents.{append, plug, plug_text, count, depth, deeper, under, here, one_if, is_hole, filled_value, filled_attr}
 use Rattle.bw_lang.specs.Measures.{items_weight, value_bytes, nest}
 use Rattle.bw_lang.specs.Measures as measure
 use Rattle.bw_lang.specs.Laws.{WeightBounds, NestBounds, AroundNothing, AroundWithin}
@@ -133,7 +132,7 @@ filled_weight g s [] = omega arith
 filled_weight g s (x ∷ a) =
     let f = λ (v : Attr). 64 + value_bytes v.value in
     let among : count_by (λ v. is_hole g v.value) (x ∷ a) * length s ≡ one_if (is_hole g x.value) * length s + count_by (λ v. is_hole g v.value) a * length s =
-        ap (λ n. n * length s) (sum_by-cons (λ (v : Attr). cond (is_hole g v.value) 1 0) x a) ∙ omega arith in
+    ap (λ n. n * length s) (sum_by-cons (λ (v : Attr). cond (is_hole g v.value) 1 0) x a) ∙ omega arith in
     sum_by-cons f (filled_attr g s x) (map (filled_attr g s) a)
     ∙ omega (arith, filled_weight g s a, filled_bytes g s x.value, sum_by-cons f x a, among)
 

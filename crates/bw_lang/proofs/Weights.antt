@@ -1,11 +1,10 @@
 -- Laws of weight and nest.
-use Rattle.std.proofs.Common.{◌≡◌, ℕ, suc, ◌+◌, ◌<◌, ◌≤◌, Bool, true, false, ◌==◌, List, [], ◌∷◌, length, get_or, take, drop, refl, ap, sym, ◌∙◌, arith, max, sum_by}
-use Rattle.bw_lang.specs.declared.items.Attr.{Attr}
+use Rattle.std.proofs.Common.{◌≡◌, ℕ, ◌+◌, ◌<◌, ◌≤◌, List, length, get_or, take, drop, refl, ap, ◌∙◌, arith, max}
 use Rattle.bw_lang.specs.declared.items.Item.{Item}
 use Rattle.bw_lang.specs.Forest.{Forest, none, text, gap, element}
 use Rattle.bw_lang.specs.View.{forest, before}
 use Rattle.bw_lang.specs.Documents.{append, elements}
-use Rattle.bw_lang.specs.Measures.{items_weight, value_bytes, nest}
+use Rattle.bw_lang.specs.Measures.{items_weight, nest}
 use Rattle.bw_lang.proofs.Forests.{append-none, forest-split, forest_at_read, size_at_read}
 use Rattle.bw_lang.proofs.Counts.{elements_room}
 
@@ -41,4 +40,5 @@ nest_le-elements (gap h r) = nest_le-elements r
 nest_le-elements (element t a i r) = omega (arith, nest_le-elements i, nest_le-elements r)
 
 pub ruleset weight_steps = (append-none, size_at_read, weight_at_read, weight_room)
+
 pub ruleset nest_steps = (append-none, size_at_read, nest_at_read, elements_room, nest_le-elements)

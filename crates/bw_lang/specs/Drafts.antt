@@ -1,21 +1,15 @@
 -- Declarations whose templates aren't read yet, and the tokens that a service is written with.
 use Rattle.std.specs.Prelude.{◌≡◌, ℕ, pos, neg_ℤ, ◌<◌, ◌^◌, List, [], ◌∷◌, codes}
-use Rattle.bw_lang.specs.declared.stmt.Kind.{Kind}
+use Rattle.bw_lang.specs.declared.declaration.Draft.{Draft}
+use Rattle.bw_lang.specs.declared.declaration.Draft.TheVariants as drafts
 use Rattle.bw_lang.specs.declared.declaration.Written.{Written}
 use Rattle.bw_lang.specs.declared.declaration.Written.TheVariants as written
 use Rattle.bw_lang.specs.declared.service.Literal.{Literal}
 use Rattle.bw_lang.specs.declared.service.Literal.TheVariants as literals
-use Rattle.bw_lang.specs.Lexemes as lexeme
-use Rattle.bw_lang.specs.Lexemes.{Lexeme, word, sign}
-use Rattle.bw_lang.specs.Code.{Code}
+use Rattle.bw_lang.specs.declared.token.Lexeme.{Lexeme}
+use Rattle.bw_lang.specs.declared.token.Lexeme.TheVariants as lex
 use Rattle.bw_lang.specs.Spelling.{spell_code, IsCode}
 use Rattle.bw_lang.specs.Words.{truth_word, kind_word, IsName}
-
--- a template's name and the bytes inside it; a shared variable's kind, name and literal; a session's name and body
-pub data Draft : Type 0 where
-  template : List ℕ → List ℕ → Draft
-  shared : Kind → List ℕ → Written → Draft
-  session : List ℕ → Code → Draft
 
 -- the literal that is written so
 abbrev pub literal_of : Written → Literal
@@ -34,17 +28,17 @@ IsWritten (written.Str s) = Unit {0}
 IsWritten (written.Name w) = IsName w
 
 abbrev pub spell_literal : Written → List Lexeme → List Lexeme
-spell_literal (written.Plus n) k = lexeme.number n ∷ k
-spell_literal (written.Minus n) k = sign (codes "-") ∷ (lexeme.number n ∷ k)
-spell_literal (written.Bool b) k = word (truth_word b) ∷ k
-spell_literal (written.Str s) k = lexeme.string s ∷ k
-spell_literal (written.Name w) k = word w ∷ k
+spell_literal (written.Plus n) k = lex.Number n ∷ k
+spell_literal (written.Minus n) k = lex.Sign (codes "-") ∷ (lex.Number n ∷ k)
+spell_literal (written.Bool b) k = lex.Word (truth_word b) ∷ k
+spell_literal (written.Str s) k = lex.Str s ∷ k
+spell_literal (written.Name w) k = lex.Word w ∷ k
 
 abbrev pub spell_draft : Draft → List Lexeme → List Lexeme
-spell_draft (template name inside) k = word (codes "html") ∷ (word name ∷ (sign (codes "=") ∷ (lexeme.template inside ∷ (sign (codes ";") ∷ k))))
-spell_draft (shared kind name init) k = word (codes "shared") ∷ (word (kind_word kind) ∷ (word name ∷ (sign (codes "=") ∷ spell_literal init (sign (codes ";") ∷ k))))
-spell_draft (session name body) k =
-    word (codes "session") ∷ (word name ∷ (sign (codes "(") ∷ (sign (codes ")") ∷ (sign (codes "{") ∷ spell_code body (sign (codes "}") ∷ k)))))
+spell_draft (drafts.Template name inside) k = lex.Word (codes "html") ∷ (lex.Word name ∷ (lex.Sign (codes "=") ∷ (lex.Template inside ∷ (lex.Sign (codes ";") ∷ k))))
+spell_draft (drafts.Shared kind name init) k = lex.Word (codes "shared") ∷ (lex.Word (kind_word kind) ∷ (lex.Word name ∷ (lex.Sign (codes "=") ∷ spell_literal init (lex.Sign (codes ";") ∷ k))))
+spell_draft (drafts.Session s) k =
+    lex.Word (codes "session") ∷ (lex.Word s.name ∷ (lex.Sign (codes "(") ∷ (lex.Sign (codes ")") ∷ (lex.Sign (codes "{") ∷ spell_code s.body (lex.Sign (codes "}") ∷ k)))))
 
 abbrev pub spell_drafts : List Draft → List Lexeme → List Lexeme
 spell_drafts [] k = k
@@ -52,13 +46,13 @@ spell_drafts (d ∷ ds) k = spell_draft d (spell_drafts ds k)
 
 -- all the tokens of a service
 abbrev pub spell_service : List ℕ → List Draft → List Lexeme
-spell_service name drafts = word (codes "service") ∷ (word name ∷ (sign (codes "{") ∷ spell_drafts drafts (sign (codes "}") ∷ [])))
+spell_service name drafts = lex.Word (codes "service") ∷ (lex.Word name ∷ (lex.Sign (codes "{") ∷ spell_drafts drafts (lex.Sign (codes "}") ∷ [])))
 
 -- names are no keywords, expressions are levelled, and numbers can be written
 abbrev pub IsFormed : Draft → Type 0
-IsFormed (template name inside) = IsName name
-IsFormed (shared kind name init) = IsName name × IsWritten init
-IsFormed (session name body) = IsName name × IsCode body
+IsFormed (drafts.Template name inside) = IsName name
+IsFormed (drafts.Shared kind name init) = IsName name × IsWritten init
+IsFormed (drafts.Session s) = IsName s.name × IsCode s.body
 
 abbrev pub AreFormed : List Draft → Type 0
 AreFormed [] = Unit {0}

@@ -39,7 +39,7 @@ abbrev mutual
   nodes_in no_more = 0
   nodes_in (filling g e ps) = 1 + nodes e + nodes_in ps
 
--- one pair more, behind the others
-abbrev pub with_filling : Fillings → List ℕ → Term → Fillings
-with_filling no_more w e = filling w e no_more
-with_filling (filling v d ps) w e = filling v d (with_filling ps w e)
+-- the pairs of one and then those of the other
+abbrev pub append_fillings : Fillings → Fillings → Fillings
+append_fillings no_more qs = qs
+append_fillings (filling w e ps) qs = filling w e (append_fillings ps qs)

@@ -1,6 +1,6 @@
 //! Expressions, which contracts see as terms.
 ghost use Rattle.std.specs.Prelude.{◌≡◌, IfOk, OnOk, OnErr};
-ghost use Rattle.bw_lang.specs.Term.{no_more, filling, with_filling};
+ghost use Rattle.bw_lang.specs.Term.{no_more, filling, append_fillings};
 ghost use Rattle.bw_lang.specs.TermView.{term, fillings};
 
 use crate::text::{Memory, Name, Text};
@@ -169,7 +169,7 @@ impl Pairs {
 
     /// One pair more, behind the others.
     pub fn push(&mut self, pair: Pair) -> Result<(), Memory>
-        ensures ok { OnOk result (self.new ≡ with_filling self.old pair.gap (term pair.value)) }
+        ensures ok { OnOk result (self.new ≡ append_fillings self.old (filling pair.gap (term pair.value) no_more)) }
         ensures err { OnErr result (self.new ≡ self.old) }
     {
         self.list.push(pair)?;

@@ -1,4 +1,3 @@
-pub mod OneReading
-pub mod Rests
-pub mod Same
+pub mod Declared
+pub mod OneAnswer
 pub mod Words

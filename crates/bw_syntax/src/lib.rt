@@ -1,10 +1,10 @@
 //! Reading of services: from the bytes of a file to the one service that they spell.
 #![tactic(auto)]
 
-mod drafts;
+mod fault;
 mod laws;
 mod lexemes;
-mod reading;
+mod templates;
 
-pub use laws::reads_once;
-pub use reading::{SyntaxFault, read_service};
+pub use fault::SyntaxFault;
+pub use laws::one_answer;
