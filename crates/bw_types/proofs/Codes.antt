@@ -19,7 +19,8 @@ use Rattle.bw_types.specs.Faults.{code_faults, local_repeated, receive_faults, e
 use Rattle.bw_types.specs.ExpressionFaults.{faults_in, kind_of, wanted, demand_same, name_unknown}
 use Rattle.bw_lang.specs.declared.stmt.Kind.TheVariants as kinds
 use Rattle.bw_types.specs.Places.{after, outside}
-use Rattle.bw_types.specs.Scopes.{Scope, with_local, behind, local_names, variable_kind}
+use Rattle.bw_lang.specs.CodeNames.{local_names}
+use Rattle.bw_types.specs.Scopes.{Scope, with_local, behind, variable_kind}
 
 -- ---- one statement more
 

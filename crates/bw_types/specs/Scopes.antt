@@ -1,5 +1,5 @@
 -- What names stand for.
-use Rattle.std.specs.Prelude.{ℕ, Bool, true, false, if◌then◌else◌, List, [], ◌∷◌, ◌++◌, map, find, option_map, Option, Some, None}
+use Rattle.std.specs.Prelude.{ℕ, Bool, true, false, if◌then◌else◌, List, [], ◌∷◌, ◌++◌, map, find, option_map, position, Option, Some, None}
 use Rattle.std.specs.List.{list_any}
 use Rattle.std.specs.Option.{option_or}
 use Rattle.bw_lang.specs.declared.service.Service.{Service}
@@ -8,7 +8,8 @@ use Rattle.bw_lang.specs.declared.service.Shared.{Shared}
 use Rattle.bw_lang.specs.declared.service.Session.{Session}
 use Rattle.bw_lang.specs.declared.stmt.Kind.{Kind}
 use Rattle.bw_lang.specs.declared.stmt.Kind.TheVariants as kinds
-use Rattle.bw_lang.specs.Code.{Code, done, declare, assign, if_then, if_else, while_loop, block, show, exit}
+use Rattle.bw_lang.specs.Code.{Code}
+use Rattle.bw_lang.specs.CodeNames.{local_names}
 use Rattle.bw_lang.specs.Names.{same}
 
 -- the name is one of these
@@ -52,18 +53,6 @@ template_kind service w = if is_among w (template_names service) then Some kinds
 abbrev pub name_kind : Service → Scope → List ℕ → Option Kind
 name_kind service scope w = option_or (variable_kind service scope w) (template_kind service w)
 
--- the names of the locals that statements declare at all levels, in source order
-abbrev pub local_names : Code → List (List ℕ)
-local_names done = []
-local_names (declare t w e rest) = w ∷ local_names rest
-local_names (assign w e rest) = local_names rest
-local_names (if_then t y rest) = local_names y ++ local_names rest
-local_names (if_else t y n rest) = local_names y ++ (local_names n ++ local_names rest)
-local_names (while_loop t b rest) = local_names b ++ local_names rest
-local_names (block b rest) = local_names b ++ local_names rest
-local_names (show p rs rest) = local_names rest
-local_names (exit p rest) = local_names rest
-
 -- the scope behind the declaration of a local
 abbrev pub with_local : Scope → List ℕ → Kind → Scope
 with_local scope w kind = record { locals = (w, kind) ∷ scope.locals; taken = scope.taken ++ w ∷ [] }
@@ -71,3 +60,7 @@ with_local scope w kind = record { locals = (w, kind) ∷ scope.locals; taken = 
 -- the scope behind a block, whose locals are out of scope again
 abbrev pub behind : Scope → Code → Scope
 behind scope inner = record { locals = scope.locals; taken = scope.taken ++ local_names inner }
+
+-- the place of the session of that name
+abbrev pub session_of : Service → List ℕ → Option ℕ
+session_of service w = position (λ s. same w s.name) service.sessions

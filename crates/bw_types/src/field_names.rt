@@ -1,6 +1,7 @@
 //! The table of field names.
-ghost use Rattle.std.specs.Prelude.{◌≡◌, IfOk, OnOk, []};
+ghost use Rattle.std.specs.Prelude.{◌≡◌, IfOk, OnOk, [], map};
 ghost use Rattle.bw_lang.specs.Code.{done};
+ghost use Rattle.bw_lang.specs.CodeNames.{received_fields};
 ghost use Rattle.bw_lang.specs.CodeView as code;
 ghost use Rattle.bw_lang.specs.Controls.{control_names};
 ghost use Rattle.bw_lang.specs.Forest.{none};
@@ -56,7 +57,7 @@ fn note_control(alloc: Global, names: &mut FieldNames, item: &Item) -> Result<()
 #[tactic(auto, using(crate::proofs::Codes::stmt_size_at_read))]
 #[cycle(fields)]
 fn note_fields(names: &mut FieldNames, block: &Block) -> Result<(), Memory>
-    ensures { OnOk result (names.new ≡ with_names names.old (spec.receive_fields block.now)) }
+    ensures { OnOk result (names.new ≡ with_names names.old (received_fields block.now)) }
 {
     for stmt in block.as_slice() {
         note_field(names, stmt)?;
@@ -66,7 +67,7 @@ fn note_fields(names: &mut FieldNames, block: &Block) -> Result<(), Memory>
 
 #[cycle(fields)]
 fn note_field(names: &mut FieldNames, stmt: &Stmt) -> Result<(), Memory>
-    ensures { OnOk result (names.new ≡ with_names names.old (spec.receive_fields (code.before stmt.now done))) }
+    ensures { OnOk result (names.new ≡ with_names names.old (received_fields (code.before stmt.now done))) }
 {
     match stmt {
         Stmt::If { yes, no, .. } => {
@@ -85,7 +86,7 @@ fn note_field(names: &mut FieldNames, stmt: &Stmt) -> Result<(), Memory>
 
 /// Takes in the fields of receives.
 fn note_receives(names: &mut FieldNames, receives: &[Receive]) -> Result<(), Memory>
-    ensures { OnOk result (names.new ≡ with_names names.old (spec.receives_fields receives.now)) }
+    ensures { OnOk result (names.new ≡ with_names names.old (map (λ r. r.field) receives.now)) }
 {
     for receive in receives {
         names.add(&receive.field)?;

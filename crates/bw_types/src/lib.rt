@@ -8,8 +8,12 @@ mod field_names;
 mod kinds;
 mod locals;
 mod names;
+mod numbers;
 mod statements;
 mod tables;
 mod templates;
+mod typed;
 
 pub use fault::{GapKind, TypeFault};
+pub use numbers::SessionId;
+pub use typed::{Typed, resolve};
