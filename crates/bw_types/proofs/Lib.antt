@@ -12,3 +12,4 @@ pub mod Walks
 pub mod Declared
 pub mod Whole
 pub mod FieldLaws
+pub mod Few

@@ -1,6 +1,6 @@
 //! Services that are well typed.
-ghost use Rattle.std.specs.Prelude.{◌≡◌, ◌⊎◌, [], Some, IfOk, IfErr};
-ghost use Rattle.bw_lang.specs.Names.{with_names};
+ghost use Rattle.std.specs.Prelude.{◌≡◌, ◌⊎◌, [], Some, IfOk, IfErr, position};
+ghost use Rattle.bw_lang.specs.Names.{same, with_names};
 ghost use Rattle.bw_lang.specs.Reads.{IsReadable};
 ghost use Rattle.bw_types.specs.declared.fault.TypeFault.TheVariants as faults;
 ghost use Rattle.bw_types.specs.Faults.{IsWellTyped, first_fault};
@@ -11,7 +11,7 @@ use crate::declarations::check;
 use crate::fault::TypeFault;
 use crate::field_names::field_names;
 use crate::numbers::SessionId;
-use bw_lang::{FieldNames, Service};
+use bw_lang::{FieldNames, Service, Session};
 use std::alloc::Global;
 
 /// A service that is well typed and that some text reads as, with the table of its field names.
@@ -55,8 +55,14 @@ impl Typed {
     pub fn session(&self, name: &str) -> Option<SessionId>
         ensures { result ≡ session_of self.now.service name.now }
     {
-        let sessions = self.service.sessions.as_slice();
-        let place = sessions.iter().position(|session| name == session.name.as_str())?;
+        let place = place_of(self.service.sessions.as_slice(), name)?;
         Some(SessionId::of(place as u32))
     }
+}
+
+/// The place of the session of that name.
+fn place_of(sessions: &[Session], name: &str) -> Option<usize>
+    ensures { result ≡ position (λ s. same name.now s.name) sessions.now }
+{
+    sessions.iter().position(|session| name == session.name.as_str())
 }
