@@ -8,3 +8,5 @@ pub mod Scopes
 pub mod Tables
 pub mod TemplateFaults
 pub mod Known
+pub mod Laws
+pub mod Typing

@@ -6,6 +6,7 @@ mod expressions;
 mod fault;
 mod field_names;
 mod kinds;
+pub mod laws;
 mod locals;
 mod names;
 mod numbers;
