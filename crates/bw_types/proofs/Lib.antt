@@ -13,3 +13,4 @@ pub mod Declared
 pub mod Whole
 pub mod FieldLaws
 pub mod Few
+pub mod SoundKinds
