@@ -3,10 +3,10 @@
 #![tactic(auto)]
 
 mod closing;
-pub mod declaration;
-pub mod expr;
 pub mod controls;
 mod counting;
+pub mod declaration;
+pub mod expr;
 pub mod items;
 pub mod keywords;
 pub mod laws;
@@ -24,9 +24,9 @@ pub mod token;
 pub mod tree;
 mod weighing;
 
+pub use controls::FieldKind;
 pub use declaration::{Declaration, Draft, Written};
 pub use expr::{Expr, Fun, Op, Pair, Pairs, Part};
-pub use controls::FieldKind;
 pub use items::{Attr, AttrValue, Attrs, Element, GapId, Item, Items};
 pub use keywords::is_keyword;
 pub use limits::{Leaf, Limit};

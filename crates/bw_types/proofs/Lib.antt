@@ -1,0 +1,16 @@
+pub mod TableLaws
+pub mod First
+pub mod Seek
+pub mod Pairs
+pub mod Known
+pub mod LocalLaws
+pub mod Loops
+pub mod Codes
+pub mod Receives
+pub mod Alike
+pub mod Walks
+pub mod Declared
+pub mod Whole
+pub mod FieldLaws
+pub mod Few
+pub mod SoundKinds
