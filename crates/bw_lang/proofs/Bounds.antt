@@ -11,10 +11,10 @@ use Rattle.bw_lang.specs.Forest.{Forest, none, text, gap, element}
 use Rattle.bw_lang.specs.Documents.{append, plug, plug_text, count, depth, deeper, under, here, one_if, is_hole, filled_value, filled_attr}
 use Rattle.bw_lang.specs.Measures.{items_weight, value_bytes, nest}
 use Rattle.bw_lang.specs.Measures as measure
-use Rattle.bw_lang.specs.Laws.{WeightBounds, NestBounds, AroundNothing, AroundWithin}
-use Rattle.bw_lang.proofs.Counts.{deeper_le, here_le, under_le}
+use Rattle.bw_lang.specs.Laws.{WeightBounds, NestBounds, AroundNothing, AroundWithin, DocumentsAreCountable}
+use Rattle.bw_lang.proofs.Counts.{deeper_le, here_le, under_le, count_le-open_gaps}
 use Rattle.bw_lang.proofs.Plugs.{not_counted}
-use Rattle.bw_lang.proofs.Weights.{items_weight-append, nest-append}
+use Rattle.bw_lang.proofs.Weights.{items_weight-append, nest-append, parts_weigh}
 
 -- ---- around
 
@@ -152,3 +152,14 @@ weight_bounds _ _ (measure.plug b a m n g p q) =
     let h = weight_bounds a n q in
     omega (arith, weight_bounds b m p, plug_weight g a b, mul-le-mul_left (count g b) h)
 weight_bounds _ _ (measure.fill b m g s p) = omega (arith, weight_bounds b m p, fill_weight g s b)
+
+pub documents_are_countable : DocumentsAreCountable
+documents_are_countable g d m made within =
+    let weight = weight_bounds d m made in
+    let parts = parts_weigh d in
+    record {
+      elements = omega (arith, within.weight);
+      gaps = omega (arith, within.weight);
+      count = omega (arith, within.weight, count_le-open_gaps g d);
+      around = omega (arith, within.nest, nest_bounds d m made, around_within g d);
+    }

@@ -1,10 +1,15 @@
 -- Laws of weight and nest.
-use Rattle.std.proofs.Common.{◌≡◌, ℕ, ◌+◌, ◌<◌, ◌≤◌, List, length, get_or, take, drop, refl, ap, ◌∙◌, arith, max}
+use Rattle.std.proofs.Common.{◌≡◌, ℕ, ◌+◌, ◌*◌, ◌<◌, ◌≤◌, List, [], ◌∷◌, length, get_or, take, drop, refl, ap, ◌∙◌, arith, max, cond, sum_by, count_by}
+use Rattle.std.proofs.lemmas.List.Sums.{sum_by-cons}
+use Rattle.bw_lang.specs.declared.items.Attr.{Attr}
+use Rattle.bw_lang.specs.declared.items.AttrValue.{AttrValue}
+use Rattle.bw_lang.specs.declared.items.AttrValue.TheVariants.{Fixed, Hole}
 use Rattle.bw_lang.specs.declared.items.Item.{Item}
 use Rattle.bw_lang.specs.Forest.{Forest, none, text, gap, element}
 use Rattle.bw_lang.specs.View.{forest, before}
-use Rattle.bw_lang.specs.Documents.{append, elements}
-use Rattle.bw_lang.specs.Measures.{items_weight, nest}
+use Rattle.bw_lang.specs.Documents.{append, elements, open_gaps, one_if, is_open}
+use Rattle.bw_lang.specs.Measures.{items_weight, value_bytes, nest}
+use Rattle.bw_lang.specs.Laws.{PartsWeigh}
 use Rattle.bw_lang.proofs.Forests.{append-none, forest-split, forest_at_read, size_at_read}
 use Rattle.bw_lang.proofs.Counts.{elements_room}
 
@@ -38,6 +43,21 @@ nest_le-elements none = omega arith
 nest_le-elements (text s r) = nest_le-elements r
 nest_le-elements (gap h r) = nest_le-elements r
 nest_le-elements (element t a i r) = omega (arith, nest_le-elements i, nest_le-elements r)
+
+open_attr : (v : AttrValue) → one_if (is_open v) ≤ 1
+open_attr (Fixed s) = omega arith
+open_attr (Hole h) = omega arith
+
+open_attrs : (a : List Attr) → 64 * count_by (λ v. is_open v.value) a ≤ sum_by (λ v. 64 + value_bytes v.value) a
+open_attrs [] = omega arith
+open_attrs (x ∷ a) =
+    omega (arith, open_attr x.value, open_attrs a, sum_by-cons (λ (v : Attr). cond (is_open v.value) 1 0) x a, sum_by-cons (λ (v : Attr). 64 + value_bytes v.value) x a)
+
+pub parts_weigh : PartsWeigh
+parts_weigh none = omega arith
+parts_weigh (text s r) = omega (arith, parts_weigh r)
+parts_weigh (gap h r) = omega (arith, parts_weigh r)
+parts_weigh (element t a i r) = omega (arith, open_attrs a, parts_weigh i, parts_weigh r)
 
 pub ruleset weight_steps = (append-none, size_at_read, weight_at_read, weight_room)
 

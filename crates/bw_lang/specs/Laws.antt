@@ -1,11 +1,11 @@
 -- Laws of the trees.
-use Rattle.std.specs.Prelude.{◌≡◌, ◌≤◌, ℕ, List}
+use Rattle.std.specs.Prelude.{◌≡◌, ◌<◌, ◌≤◌, ◌+◌, ◌*◌, ◌^◌, ℕ, List}
 use Rattle.bw_lang.specs.declared.measure.Measure.{Measure}
 use Rattle.bw_lang.specs.declared.items.Item.{Item}
 use Rattle.bw_lang.specs.Forest.{Forest}
 use Rattle.bw_lang.specs.View.{forest, items_of}
-use Rattle.bw_lang.specs.Documents.{plug, plug_text, close, count, around}
-use Rattle.bw_lang.specs.Measures.{IsDocument, constant_weight, nest}
+use Rattle.bw_lang.specs.Documents.{plug, plug_text, close, count, around, elements, open_gaps}
+use Rattle.bw_lang.specs.Measures.{IsDocument, IsWithin, items_weight, constant_weight, nest}
 use Rattle.bw_lang.specs.Print.{print, joined}
 
 -- the items of the forest of some items are these
@@ -55,3 +55,22 @@ AroundNothing = (g : ℕ) (d : Forest) → count g d ≡ 0 → around g d ≡ 0
 -- no more elements stand around a gap than inside one another
 abbrev pub AroundWithin : Type 0
 AroundWithin = (g : ℕ) (d : Forest) → around g d ≤ nest d
+
+-- each element and each open gap weighs 64 at least
+abbrev pub PartsWeigh : Type 0
+PartsWeigh = (d : Forest) → 64 * (elements d + open_gaps d) ≤ items_weight d
+
+-- the open gaps of one name are among all
+abbrev pub CountWithin : Type 0
+CountWithin = (g : ℕ) (d : Forest) → count g d ≤ open_gaps d
+
+-- what counting the open gaps g of a document and then plugging into it ask
+pub record IsCountable (g : ℕ) (d : Forest) : Type 0 where
+  pub elements : elements d < 2 ^ 32
+  pub gaps : open_gaps d < 2 ^ 32
+  pub count : count g d ≤ 16384
+  pub around : around g d ≤ 500
+
+-- a document within the limits meets it
+abbrev pub DocumentsAreCountable : Type 0
+DocumentsAreCountable = (g : ℕ) (d : Forest) (m : Measure) → IsDocument d m → IsWithin m → IsCountable g d
