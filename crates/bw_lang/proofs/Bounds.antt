@@ -4,14 +4,17 @@ use Rattle.std.proofs.lemmas.List.Sums.{sum_by-cons}
 use Rattle.std.specs.List.{list_any}
 use Rattle.std.specs.Prelude.{◌||◌}
 use Rattle.std.proofs.Math.Nat.{mul-le-mul_left}
+use Rattle.std.proofs.Math.Logic.{∥∥₁_elim, ∥∥₁_map, ∥∥₁_map₂}
+use Rattle.std.proofs.Math.Bridge.{le_prop}
+use Rattle.bw_lang.specs.declared.measure.Measure.{Measure}
 use Rattle.bw_lang.specs.declared.items.Attr.{Attr}
 use Rattle.bw_lang.specs.declared.items.AttrValue.{AttrValue}
 use Rattle.bw_lang.specs.declared.items.AttrValue.TheVariants.{Fixed, Hole}
 use Rattle.bw_lang.specs.Forest.{Forest, none, text, gap, element}
-use Rattle.bw_lang.specs.Documents.{append, plug, plug_text, count, depth, deeper, under, here, one_if, is_hole, filled_value, filled_attr}
-use Rattle.bw_lang.specs.Measures.{items_weight, value_bytes, nest}
+use Rattle.bw_lang.specs.Documents.{append, plug, plug_text, count, around, depth, deeper, under, here, one_if, is_hole, filled_value, filled_attr}
+use Rattle.bw_lang.specs.Measures.{IsDocument, IsWithin, items_weight, value_bytes, nest, plugged, text_measure}
 use Rattle.bw_lang.specs.Measures as measure
-use Rattle.bw_lang.specs.Laws.{WeightBounds, NestBounds, AroundNothing, AroundWithin, DocumentsAreCountable}
+use Rattle.bw_lang.specs.Laws.{WeightBounds, NestBounds, AroundNothing, AroundWithin, IsCountable, DocumentsAreCountable}
 use Rattle.bw_lang.proofs.Counts.{deeper_le, here_le, under_le, count_le-open_gaps}
 use Rattle.bw_lang.proofs.Plugs.{not_counted}
 use Rattle.bw_lang.proofs.Weights.{items_weight-append, nest-append, parts_weigh}
@@ -153,8 +156,10 @@ weight_bounds _ _ (measure.plug b a m n g p q) =
     omega (arith, weight_bounds b m p, plug_weight g a b, mul-le-mul_left (count g b) h)
 weight_bounds _ _ (measure.fill b m g s p) = omega (arith, weight_bounds b m p, fill_weight g s b)
 
-pub documents_are_countable : DocumentsAreCountable
-documents_are_countable g d m made within =
+-- ---- documents of which it isn't known how they were made
+
+countable : (g : ℕ) (d : Forest) (m : Measure) → IsWithin m → IsDocument d m → IsCountable g d
+countable g d m within made =
     let weight = weight_bounds d m made in
     let parts = parts_weigh d in
     record {
@@ -163,3 +168,12 @@ documents_are_countable g d m made within =
       count = omega (arith, within.weight, count_le-open_gaps g d);
       around = omega (arith, within.nest, nest_bounds d m made, around_within g d);
     }
+
+pub documents_are_countable : DocumentsAreCountable
+documents_are_countable g d m made within = ∥∥₁_elim made (hlevel le_prop) (countable g d m within)
+
+pub made_plug : (g : ℕ) (b a : Forest) (m n : Measure) → ∥ IsDocument b m ∥₁ → ∥ IsDocument a n ∥₁ → ∥ IsDocument (plug g a b) (plugged m n (count g b) (around g b)) ∥₁
+made_plug g b a m n p q = ∥∥₁_map₂ p q (measure.plug b a m n g)
+
+pub made_fill : (g : ℕ) (s : List ℕ) (b : Forest) (m : Measure) → ∥ IsDocument b m ∥₁ → ∥ IsDocument (plug_text g s b) (plugged m (text_measure (length s)) (count g b) (around g b)) ∥₁
+made_fill g s b m p = ∥∥₁_map p (measure.fill b m g s)
