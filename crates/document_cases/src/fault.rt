@@ -2,8 +2,7 @@
 
 use bw_lang::Memory;
 use bw_tmpl::TmplFault;
-use std::alloc::AllocError;
-use std::alloc::AllocFailed;
+use std::alloc::{AllocError, AllocFailed};
 use std::{fmt, io};
 
 /// Why cases can't be tried.
