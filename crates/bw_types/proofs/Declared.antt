@@ -35,7 +35,7 @@ sessions-append s E (v ∷ xs) ys =
 
 -- A walk over a list of declarations, whose faults depend on the names in front.
 module _ {X : Type 0} (name_of : X → List ℕ) (F : List (List ℕ) → List X → List TypeFault)
-  (joins : (E : List (List ℕ)) (xs ys : List X) → F E (xs ++ ys) ≡ F E xs ++ F (E ++ map name_of xs) ys) where
+    (joins : (E : List (List ℕ)) (xs ys : List X) → F E (xs ++ ys) ≡ F E xs ++ F (E ++ map name_of xs) ys) where
   -- the faults up to one declaration more
   pub walk-more : (E D : List (List ℕ)) (xs : List X) (i : ℕ) (x : X) → D ≡ E ++ map name_of (take i xs) → x ≡ get_or xs i x → i < length xs → F E (take (i + 1) xs) ≡ F E (take i xs) ++ F D (x ∷ [])
   walk-more E D xs i x named e h =

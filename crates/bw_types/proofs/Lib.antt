@@ -14,3 +14,5 @@ pub mod Whole
 pub mod FieldLaws
 pub mod Few
 pub mod SoundKinds
+pub mod SoundTemplates
+pub mod SoundNames

@@ -17,7 +17,7 @@ beside-named w [] = refl
 beside-named w (x ∷ xs) = by_test (same w x.name) (beside-named w xs)
   where
     by_test : (b : Bool) → beside w (map named xs) ≡ option_map (λ (x : Local). x.kind) (find (λ x. same w x.name) xs)
-      → option_map (λ (p : List ℕ × Kind). p.1) (cond b (Some (named x)) (find (λ p. same w p.0) (map named xs))) ≡ option_map (λ (x : Local). x.kind) (cond b (Some x) (find (λ x. same w x.name) xs))
+        → option_map (λ (p : List ℕ × Kind). p.1) (cond b (Some (named x)) (find (λ p. same w p.0) (map named xs))) ≡ option_map (λ (x : Local). x.kind) (cond b (Some x) (find (λ x. same w x.name) xs))
     by_test true ih = refl
     by_test false ih = ih
 

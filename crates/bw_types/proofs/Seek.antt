@@ -53,6 +53,7 @@ module _ {K V : Type 0} (test : K → K → Bool) where
           none_behind : (o : Option V) → o ≡ option_or o None
           none_behind None = refl
           none_behind (Some v) = refl
+
       by_test : (b : Bool) → is_some (seek x.0 t) ≡ b → seek w (if b then t else t ++ x ∷ []) ≡ option_or (seek w t) (seek w (x ∷ []))
       by_test true h = here (test w x.0) refl h ∙ ap (option_or (seek w t)) (sym (seek-cons w x []))
       by_test false h = seek-append w t (x ∷ [])
@@ -133,6 +134,7 @@ among-with_name w n t = by_test (is_among n t) refl
     here : (b : Bool) → same w n ≡ b → is_among n t ≡ true → is_among w t ≡ (is_among w t || b)
     here true e h = ap (λ k. is_among k t) (same_is w n e) ∙ h ∙ sym (ap (λ k. is_among k t || true) (same_is w n e) ∙ ap (λ b. b || true) h)
     here false e h = or_false (is_among w t)
+
     by_test : (b : Bool) → is_among n t ≡ b → is_among w (if b then t else t ++ n ∷ []) ≡ (is_among w t || same w n)
     by_test true h = here (same w n) refl h
     by_test false h = among-append w t (n ∷ []) ∙ ap (λ b. is_among w t || b) (sym (or_false (same w n)))

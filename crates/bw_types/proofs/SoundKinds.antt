@@ -144,7 +144,7 @@ pub not_among : (w : List ℕ) (names : List (List ℕ)) → is_among w names �
 not_among w names h c =
     let there : is_among w names ≡ true = list_any_at (same w) names c.0 w c.1 (ap (same w) c.2 ∙ nat_list_eq_equiv.refl w) in cc
 
-either_false : (a b : Bool) → (a || b) ≡ false → (a ≡ false) × (b ≡ false)
+pub either_false : (a b : Bool) → (a || b) ≡ false → (a ≡ false) × (b ≡ false)
 either_false true b h = absurd (cc)
 either_false false b h = (refl, h)
 
@@ -181,9 +181,12 @@ code_typed s k (if_then e y a) h =
     let b = nothing_behind (wanted s k Truth e) _ h in
     (has_wanted s k Truth e (nothing_first _ _ h), code_typed s k y (nothing_first _ _ b), code_typed s (behind k y) a (nothing_behind (code_faults s k y) _ b))
 code_typed s k (if_else e y n a) h =
-    let b = nothing_behind (wanted s k Truth e) _ h in let c = nothing_behind (code_faults s k y) _ b in
-    (has_wanted s k Truth e (nothing_first _ _ h), code_typed s k y (nothing_first _ _ b), code_typed s (behind k y) n (nothing_first _ _ c),
-     code_typed s (behind (behind k y) n) a (nothing_behind (code_faults s (behind k y) n) _ c))
+    let b = nothing_behind (wanted s k Truth e) _ h in let c = nothing_behind (code_faults s k y) _ b in (
+      has_wanted s k Truth e (nothing_first _ _ h),
+      code_typed s k y (nothing_first _ _ b),
+      code_typed s (behind k y) n (nothing_first _ _ c),
+      code_typed s (behind (behind k y) n) a (nothing_behind (code_faults s (behind k y) n) _ c),
+    )
 code_typed s k (while_loop e y a) h =
     let b = nothing_behind (wanted s k Truth e) _ h in
     (has_wanted s k Truth e (nothing_first _ _ h), code_typed s k y (nothing_first _ _ b), code_typed s (behind k y) a (nothing_behind (code_faults s k y) _ b))

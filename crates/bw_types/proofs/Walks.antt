@@ -106,7 +106,7 @@ items-more t names k l xs i x at e h =
 -- the faults in front of an item, there, and behind it
 pub items-parts : (t : List ℕ) (names : List (List ℕ)) (k l : Front) (xs : List Item) (i : ℕ) (x : Item) → l ≡ noted k (gap_uses (forest (take i xs))) (fields (forest (take i xs))) → x ≡ get_or xs i x → i < length xs
     → items_faults t names k (forest xs)
-      ≡ items_faults t names k (forest (take i xs)) ++ (items_faults t names l (before x none) ++ items_faults t names (past k (gap_uses (forest (take (i + 1) xs))) (fields (forest (take (i + 1) xs)))) (forest (drop (i + 1) xs)))
+    ≡ items_faults t names k (forest (take i xs)) ++ (items_faults t names l (before x none) ++ items_faults t names (past k (gap_uses (forest (take (i + 1) xs))) (fields (forest (take (i + 1) xs)))) (forest (drop (i + 1) xs)))
 items-parts t names k l xs i x at e h =
     let d = forest (take (i + 1) xs) in let rest = items_faults t names (past k (gap_uses d) (fields d)) (forest (drop (i + 1) xs)) in
     ap (λ ys. items_faults t names k (forest ys)) (sym (take-append-drop (i + 1) xs)) ∙ ap (items_faults t names k) (forest-append (take (i + 1) xs) (drop (i + 1) xs))
@@ -144,8 +144,8 @@ templates-append names E f (t ∷ xs) ys =
     behind_one (fault_if (is_among t.name E) (faults.Repeated t.name)) _ (items_faults t.name names f t.items ++ template_faults names D g xs) _
     (behind_one (items_faults t.name names f t.items) _ (template_faults names D g xs) _
     (templates-append names D g xs ys
-     ∙ ap (λ e. template_faults names D g xs ++ template_faults names e (past g (template_uses xs) (template_fields xs)) ys) (append_assoc E (t.name ∷ []) (map (λ t. t.name) xs))
-     ∙ ap (λ k. template_faults names D g xs ++ template_faults names (E ++ map (λ t. t.name) (t ∷ xs)) k ys) (past-past f (gap_uses t.items) (template_uses xs) (fields t.items) (template_fields xs))))
+    ∙ ap (λ e. template_faults names D g xs ++ template_faults names e (past g (template_uses xs) (template_fields xs)) ys) (append_assoc E (t.name ∷ []) (map (λ t. t.name) xs))
+    ∙ ap (λ k. template_faults names D g xs ++ template_faults names (E ++ map (λ t. t.name) (t ∷ xs)) k ys) (past-past f (gap_uses t.items) (template_uses xs) (fields t.items) (template_fields xs))))
 
 -- the faults up to one template more, where what is in front was noted
 pub templates-more : (names E D : List (List ℕ)) (k l : Front) (xs : List Template) (i : ℕ) (x : Template)
@@ -156,17 +156,19 @@ templates-more names E D k l xs i x named at e h =
     ap (template_faults names E k) (take_more xs i x h) ∙ templates-append names E k ts (get_or xs i x ∷ [])
     ∙ ap (λ m. F ++ m)
     (ap (λ y. template_faults names (E ++ map (λ t. t.name) ts) (past k (template_uses ts) (template_fields ts)) (y ∷ [])) (sym e)
-     ∙ templates_noted names (E ++ map (λ t. t.name) ts) k (template_uses ts) (template_fields ts) (x ∷ [])
-     ∙ ap (λ m. template_faults names (E ++ map (λ t. t.name) ts) m (x ∷ [])) (sym at) ∙ ap (λ m. template_faults names m l (x ∷ [])) (sym named))
+    ∙ templates_noted names (E ++ map (λ t. t.name) ts) k (template_uses ts) (template_fields ts) (x ∷ [])
+    ∙ ap (λ m. template_faults names (E ++ map (λ t. t.name) ts) m (x ∷ [])) (sym at) ∙ ap (λ m. template_faults names m l (x ∷ [])) (sym named))
 
 -- the faults in front of a template, there, and behind it
 pub templates-parts : (names E D : List (List ℕ)) (k l : Front) (xs : List Template) (i : ℕ) (x : Template)
     → D ≡ E ++ map (λ t. t.name) (take i xs) → l ≡ noted k (template_uses (take i xs)) (template_fields (take i xs)) → x ≡ get_or xs i x → i < length xs
     → (rest : List TypeFault) × (template_faults names E k xs ≡ template_faults names E k (take i xs) ++ (template_faults names D l (x ∷ []) ++ rest))
 templates-parts names E D k l xs i x named at e h =
-    let ts = take (i + 1) xs in let rest = template_faults names (E ++ map (λ t. t.name) ts) (past k (template_uses ts) (template_fields ts)) (drop (i + 1) xs) in
-    (rest, ap (template_faults names E k) (sym (take-append-drop (i + 1) xs)) ∙ templates-append names E k ts (drop (i + 1) xs) ∙ ap (λ m. m ++ rest) (templates-more names E D k l xs i x named at e h)
-     ∙ append_assoc (template_faults names E k (take i xs)) (template_faults names D l (x ∷ [])) rest)
+    let ts = take (i + 1) xs in let rest = template_faults names (E ++ map (λ t. t.name) ts) (past k (template_uses ts) (template_fields ts)) (drop (i + 1) xs) in (
+      rest,
+      ap (template_faults names E k) (sym (take-append-drop (i + 1) xs)) ∙ templates-append names E k ts (drop (i + 1) xs) ∙ ap (λ m. m ++ rest) (templates-more names E D k l xs i x named at e h)
+          ∙ append_assoc (template_faults names E k (take i xs)) (template_faults names D l (x ∷ [])) rest,
+    )
 
 -- what is noted behind one template more
 pub templates_noted-more : (k l m : Front) (xs : List Template) (i : ℕ) (x : Template) → l ≡ noted k (template_uses (take i xs)) (template_fields (take i xs)) → m ≡ noted l (gap_uses x.items) (fields x.items)

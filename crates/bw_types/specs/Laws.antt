@@ -19,7 +19,7 @@ TypedIsWellTyped = (service : Service) → IsTypedService service → IsWellType
 -- the locals of one session have names of their own, which no declaration of the service has
 abbrev pub LocalsDiffer : Type 0
 LocalsDiffer = (service : Service) → IsWellTyped service
-  → All (λ s. AllPairs (λ v w. v ≢ w) (local_names s.body) × All (λ w. ¬ (Contains (declared_names service) w)) (local_names s.body)) service.sessions
+    → All (λ s. AllPairs (λ v w. v ≢ w) (local_names s.body) × All (λ w. ¬ (Contains (declared_names service) w)) (local_names s.body)) service.sessions
 
 -- a service is well typed, or there is a first fault
 abbrev pub AnswersOne : Type 0

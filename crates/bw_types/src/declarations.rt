@@ -16,9 +16,7 @@ use crate::names::Names;
 use crate::statements::ends_in_exit;
 use crate::tables::{Seen, has};
 use crate::templates::Place;
-use bw_lang::{
-    GapNames, Kind, Literal, Name, NameTable, Service, Session, Shared, Template,
-};
+use bw_lang::{GapNames, Kind, Literal, Name, NameTable, Service, Session, Shared, Template};
 use std::alloc::Global;
 
 /// The tests of a service, in source order: those of its templates, of its shared variables and of its sessions.
@@ -28,7 +26,13 @@ pub fn check(alloc: Global, service: &Service) -> Result<(), TypeFault>
 {
     let mut earlier = NameTable::new(alloc);
     let mut seen = Seen::new(alloc);
-    templates(alloc, &service.gaps, &mut earlier, &mut seen, service.templates.as_slice())?;
+    templates(
+        alloc,
+        &service.gaps,
+        &mut earlier,
+        &mut seen,
+        service.templates.as_slice(),
+    )?;
     let names = Names::of(alloc, service, seen.into_gaps())?;
     names.shared(&mut earlier, service.shared.as_slice())?;
     names.sessions(alloc, &mut earlier, service.sessions.as_slice())
@@ -130,7 +134,12 @@ impl Names<'_> {
     }
 
     /// The tests of sessions.
-    fn sessions(&self, alloc: Global, earlier: &mut NameTable, sessions: &[Session]) -> Result<(), TypeFault>
+    fn sessions(
+        &self,
+        alloc: Global,
+        earlier: &mut NameTable,
+        sessions: &[Session],
+    ) -> Result<(), TypeFault>
         ensures none { OnOk result (spec.session_faults self.now.service.now earlier.old sessions.now ≡ []) }
         ensures first { IfErr result (λ e. IsFirst e (spec.session_faults self.now.service.now earlier.old sessions.now)) }
     {
@@ -141,7 +150,12 @@ impl Names<'_> {
     }
 
     /// The tests of one session: its name, its statements, and its last one.
-    fn session(&self, alloc: Global, earlier: &mut NameTable, session: &Session) -> Result<(), TypeFault>
+    fn session(
+        &self,
+        alloc: Global,
+        earlier: &mut NameTable,
+        session: &Session,
+    ) -> Result<(), TypeFault>
         ensures none { OnOk result (spec.session_faults self.now.service.now earlier.old (session.now ∷ []) ≡ []) }
         ensures named { OnOk result (earlier.new ≡ earlier.old ++ session.now.name ∷ []) }
         ensures first { IfErr result (λ e. IsFirst e (spec.session_faults self.now.service.now earlier.old (session.now ∷ []))) }

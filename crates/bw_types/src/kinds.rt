@@ -29,7 +29,10 @@ pub fn demand_left(op: Op, left: Kind) -> Result<(), TypeFault>
         Op::Or | Op::And => demand(Kind::Bool, left),
         Op::Eq | Op::Ne => demand_no_document(left),
         Op::Add => demand_sum(left),
-        Op::Lt | Op::Le | Op::Gt | Op::Ge | Op::Sub | Op::Mul | Op::Div | Op::Rem => demand(Kind::Int, left),
+        Op::Lt | Op::Le | Op::Gt | Op::Ge | Op::Sub | Op::Mul | Op::Div | Op::Rem => demand(
+            Kind::Int,
+            left,
+        ),
     }
 }
 
@@ -41,7 +44,10 @@ pub fn demand_right(op: Op, left: Kind, right: Kind) -> Result<(), TypeFault>
     match op {
         Op::Or | Op::And => demand(Kind::Bool, right),
         Op::Eq | Op::Ne | Op::Add => demand(left, right),
-        Op::Lt | Op::Le | Op::Gt | Op::Ge | Op::Sub | Op::Mul | Op::Div | Op::Rem => demand(Kind::Int, right),
+        Op::Lt | Op::Le | Op::Gt | Op::Ge | Op::Sub | Op::Mul | Op::Div | Op::Rem => demand(
+            Kind::Int,
+            right,
+        ),
     }
 }
 

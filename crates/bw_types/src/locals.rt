@@ -56,7 +56,11 @@ impl Locals {
         ensures { result ≡ beside name.now self.now.locals }
     {
         let name = name.as_str();
-        let local = self.in_scope.iter().rev().find(|local| name == local.name.as_str())?;
+        let local = self
+            .in_scope
+            .iter()
+            .rev()
+            .find(|local| name == local.name.as_str())?;
         Some(local.kind)
     }
 

@@ -65,7 +65,13 @@ impl Names<'_> {
 
     /// The tests of a local's declaration: `Repeated` where its name is taken, and then those of its value, which doesn't
     /// see it.
-    fn declare(&self, locals: &mut Locals, kind: Kind, name: &Name, value: &Expr) -> Result<(), TypeFault>
+    fn declare(
+        &self,
+        locals: &mut Locals,
+        kind: Kind,
+        name: &Name,
+        value: &Expr,
+    ) -> Result<(), TypeFault>
         ensures none { OnOk result (spec.code_faults self.now.service.now locals.old (declare kind name.now (term value.now) done) ≡ []) }
         ensures left { OnOk result (locals.new ≡ with_local locals.old name.now kind) }
         ensures first { IfErr result (λ e. IsFirst e (spec.code_faults self.now.service.now locals.old (declare kind name.now (term value.now) done))) }

@@ -194,8 +194,7 @@ fn is_file(kind: Option<&Text>) -> bool
 fn is_bad_control(element: &Element) -> bool
     ensures { result ≡ spec.is_bad_control element.now.tag element.now.attrs }
 {
-    is_control(&element.tag)
-        && (has_bad_attr(&element.attrs) || has_other_type(element))
+    is_control(&element.tag) && (has_bad_attr(&element.attrs) || has_other_type(element))
 }
 
 /// An attribute that may be no gap in a control, or that no control may have, among these.
@@ -210,7 +209,10 @@ fn is_bad_attr(attr: &Attr) -> bool
     ensures { result ≡ spec.is_bad_attr attr.now }
 {
     match &attr.value {
-        AttrValue::Hole(_) => matches!(attr.name.as_str(), "name" | "type" | "multiple" | "disabled"),
+        AttrValue::Hole(_) => matches!(
+            attr.name.as_str(),
+            "name" | "type" | "multiple" | "disabled"
+        ),
         AttrValue::Fixed(_) => attr.name.as_str() == "disabled",
     }
 }

@@ -64,5 +64,7 @@ impl Typed {
 fn place_of(sessions: &[Session], name: &str) -> Option<usize>
     ensures { result ≡ position (λ s. same name.now s.name) sessions.now }
 {
-    sessions.iter().position(|session| name == session.name.as_str())
+    sessions
+        .iter()
+        .position(|session| name == session.name.as_str())
 }

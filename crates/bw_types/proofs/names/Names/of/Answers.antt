@@ -15,5 +15,5 @@ invariant_of-result c =
         shared_are = folds_all with_kind (λ (v : Shared). (v.name, v.kind)) [] _ _ s.shared _ c.loop-variable.invariant c.loop-variable-test.false c.as_slice-variable-items.ensures;
         declared_are = c.in_ok-declared.ensures;
         gaps_are = c.requires;
-      }
+      };
     }
