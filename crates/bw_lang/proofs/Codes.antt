@@ -1,5 +1,5 @@
 -- Laws of code.
-use Rattle.std.proofs.Common.{◌≡◌, List, [], ◌∷◌, ◌++◌, Option, Some, None, refl, sym, ap, ◌∙◌}
+use Rattle.std.proofs.Common.{◌≡◌, List, [], ◌∷◌, ◌++◌, Some, None, refl, sym, ap, ◌∙◌}
 use Rattle.bw_lang.specs.Code.{Code, done, declare, assign, if_then, if_else, while_loop, block, show, exit, append}
 use Rattle.bw_lang.specs.CodeView.{code, before}
 use Rattle.bw_lang.specs.declared.stmt.Stmt.{Stmt}

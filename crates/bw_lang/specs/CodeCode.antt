@@ -1,5 +1,5 @@
 -- How the logic stores statements.
-use Rattle.std.proofs.Common.{◌≡◌, ℕ, refl, ap, arith}
+use Rattle.std.proofs.Common.{◌≡◌, refl, ap, arith}
 use Rattle.std.specs.Coded.{Coded, coded_ℕ, coded_list}
 use base.Stored.{Gv, gnil, gnum, gcons}
 use Rattle.bw_lang.specs.Stored.{head, tail, tag}
@@ -25,7 +25,7 @@ code_inj done done p = refl
 code_inj done _ p = absurd (omega (arith, ap tag p))
 code_inj (declare t w e rest) (declare u v d more) p =
     λ i. declare (kind.the_row.coded.inj t u (ap (λ g. head (tail g)) p) i) ((coded_list coded_ℕ).inj w v (ap (λ g. head (tail (tail g))) p) i)
-      (coded_term.inj e d (ap (λ g. head (tail (tail (tail g)))) p) i) (code_inj rest more (ap (λ g. tail (tail (tail (tail g)))) p) i)
+    (coded_term.inj e d (ap (λ g. head (tail (tail (tail g)))) p) i) (code_inj rest more (ap (λ g. tail (tail (tail (tail g)))) p) i)
 code_inj (declare t w e rest) _ p = absurd (omega (arith, ap tag p))
 code_inj (assign w e rest) (assign v d more) p =
     λ i. assign ((coded_list coded_ℕ).inj w v (ap (λ g. head (tail g)) p) i) (coded_term.inj e d (ap (λ g. head (tail (tail g))) p) i) (code_inj rest more (ap (λ g. tail (tail (tail g))) p) i)
@@ -35,7 +35,7 @@ code_inj (if_then t y rest) (if_then u z more) p =
 code_inj (if_then t y rest) _ p = absurd (omega (arith, ap tag p))
 code_inj (if_else t y n rest) (if_else u z m more) p =
     λ i. if_else (coded_term.inj t u (ap (λ g. head (tail g)) p) i) (code_inj y z (ap (λ g. head (tail (tail g))) p) i)
-      (code_inj n m (ap (λ g. head (tail (tail (tail g)))) p) i) (code_inj rest more (ap (λ g. tail (tail (tail (tail g)))) p) i)
+    (code_inj n m (ap (λ g. head (tail (tail (tail g)))) p) i) (code_inj rest more (ap (λ g. tail (tail (tail (tail g)))) p) i)
 code_inj (if_else t y n rest) _ p = absurd (omega (arith, ap tag p))
 code_inj (while_loop t b rest) (while_loop u c more) p =
     λ i. while_loop (coded_term.inj t u (ap (λ g. head (tail g)) p) i) (code_inj b c (ap (λ g. head (tail (tail g))) p) i) (code_inj rest more (ap (λ g. tail (tail (tail g))) p) i)

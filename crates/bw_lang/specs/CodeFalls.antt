@@ -1,5 +1,5 @@
 -- Each statement of a block is smaller than the block.
-use Rattle.std.specs.Prelude.{◌≤◌, List, [], ◌∷◌, Option, Some, None}
+use Rattle.std.specs.Prelude.{◌≤◌, List, [], ◌∷◌, Some, None}
 use Rattle.std.proofs.Common.{arith}
 use denote.Param.Weighed.{most}
 use Rattle.bw_lang.specs.declared.stmt.Stmt.{Stmt}

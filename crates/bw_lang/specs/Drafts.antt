@@ -1,5 +1,5 @@
 -- Declarations whose templates aren't read yet, and the tokens that a service is written with.
-use Rattle.std.specs.Prelude.{◌≡◌, ℕ, pos, neg_ℤ, ◌<◌, ◌^◌, List, [], ◌∷◌, codes}
+use Rattle.std.specs.Prelude.{ℕ, pos, neg_ℤ, ◌<◌, ◌^◌, List, [], ◌∷◌, codes}
 use Rattle.bw_lang.specs.declared.declaration.Draft.{Draft}
 use Rattle.bw_lang.specs.declared.declaration.Draft.TheVariants as drafts
 use Rattle.bw_lang.specs.declared.declaration.Written.{Written}

@@ -1,5 +1,5 @@
 -- The limits of the declarations of a service.
-use Rattle.std.specs.Prelude.{ℕ, ◌+◌, Bool, true, false, ◌&&◌, if◌then◌else◌, List, [], ◌∷◌, ◌++◌, length, map, flat_map, filter_map, slice_get, unwrap_or, Option, Some, None, codes}
+use Rattle.std.specs.Prelude.{ℕ, Bool, ◌&&◌, if◌then◌else◌, List, [], ◌∷◌, ◌++◌, length, map, flat_map, filter_map, slice_get, unwrap_or, Option, Some, None, codes}
 use Rattle.std.specs.Option.{option_or}
 use Rattle.bw_lang.specs.declared.declaration.Declaration.{Declaration}
 use Rattle.bw_lang.specs.declared.declaration.Declaration.TheVariants as declarations

@@ -54,20 +54,10 @@ pub enum Expr {
     Paren(Part),
     Not(Part),
     Neg(Part),
-    Binary {
-        op: Op,
-        left: Part,
-        right: Part,
-    },
-    Call {
-        fun: Fun,
-        arg: Part,
-    },
+    Binary { op: Op, left: Part, right: Part },
+    Call { fun: Fun, arg: Part },
     /// `base<[gap=value, ..]`: the document with its gaps filled, one after the other.
-    Plug {
-        base: Part,
-        pairs: Pairs,
-    },
+    Plug { base: Part, pairs: Pairs },
 }
 
 /// A part of an expression: an expression on the heap. Contracts see it as a term.

@@ -14,8 +14,8 @@ pub mod limits;
 pub mod markup;
 pub mod measure;
 pub mod names;
-pub mod pieces;
 pub mod numbers;
+pub mod pieces;
 mod plugging;
 pub mod service;
 pub mod stmt;
@@ -34,9 +34,7 @@ pub use markup::is_void;
 pub use measure::{MAX_DEPTH, MAX_NEST, MAX_WEIGHT, Measure, MeasureFault};
 pub use names::{FieldNames, GapNames, NameTable};
 pub use numbers::{FieldId, TemplateId};
-pub use service::{
-    Literal, Service, Session, Sessions, Shared, Shareds, Template, Templates,
-};
+pub use service::{Literal, Service, Session, Sessions, Shared, Shareds, Template, Templates};
 pub use stmt::{Block, Kind, Receive, Receives, Stmt};
 pub use text::{Bytes, Memory, Name, Text, Words};
 pub use token::{Lexeme, Token, TokenKind, Tokens};

@@ -42,7 +42,10 @@ pub enum Stmt {
         value: Expr,
     },
     /// `NAME = VALUE;`
-    Assign { name: Name, value: Expr },
+    Assign {
+        name: Name,
+        value: Expr,
+    },
     /// `if (TEST) YES`, or `if (TEST) YES else NO`.
     If {
         test: Expr,
@@ -50,12 +53,20 @@ pub enum Stmt {
         no: Option<Block>,
     },
     /// `while (TEST) BODY`.
-    While { test: Expr, body: Block },
+    While {
+        test: Expr,
+        body: Block,
+    },
     Block(Block),
     /// `show PAGE;` or `show PAGE receive [TARGET=FIELD, ..];`: the session sends a page and waits for its form.
-    Show { page: Expr, receives: Receives },
+    Show {
+        page: Expr,
+        receives: Receives,
+    },
     /// `exit PAGE;`: the session sends its last page and ends.
-    Exit { page: Expr },
+    Exit {
+        page: Expr,
+    },
 }
 
 /// The statements between two braces, in their order. Contracts see them as code.

@@ -1,5 +1,5 @@
 -- Statements that are spelled so are parsed.
-use Rattle.std.proofs.Common.{◌≡◌, ℕ, zero, suc, ◌+◌, ◌*◌, ◌<◌, ◌≤◌, List, [], ◌∷◌, length, Option, Some, None, refl, sym, ap, ◌∙◌, arith, codes}
+use Rattle.std.proofs.Common.{◌≡◌, ℕ, ◌+◌, ◌*◌, List, ◌∷◌, length, Some, None, refl, sym, ◌∙◌, arith, codes}
 use Rattle.bw_lang.specs.Code.{Code, done, declare, assign, if_then, if_else, while_loop, block, show, exit, append}
 use Rattle.bw_lang.specs.declared.stmt.Kind.{Kind}
 use Rattle.bw_lang.specs.declared.stmt.Kind.TheVariants as kinds
@@ -10,8 +10,8 @@ use Rattle.bw_lang.specs.Levels.{Levelled}
 use Rattle.bw_lang.specs.Spelling.{spell, spell_test, spell_value, spell_code, spell_receives, IsCode, HaveTargets}
 use Rattle.bw_lang.specs.Term.{Term}
 use Rattle.bw_lang.specs.Words.{IsName, kind_word}
-use Rattle.bw_parse.specs.Fronts.{◌>>=◌, where_some, behind, keyword, word, named, kind}
-use Rattle.bw_parse.specs.Statements.{condition, valued, simple, parse_show, parse_exit, parse_declare, parse_assign, parse_receives, code_of, one, braces, parse_code}
+use Rattle.bw_parse.specs.Fronts.{behind, keyword, word, named}
+use Rattle.bw_parse.specs.Statements.{condition, valued, simple, parse_show, parse_exit, parse_declare, parse_assign, code_of, one, braces, parse_code}
 use Rattle.bw_parse.proofs.CodeSteps.{code_is}
 use Rattle.bw_parse.proofs.Complete.{Comes, later}
 use Rattle.bw_parse.proofs.FrontLaws.{no_keyword, no_kind, kind_self}
@@ -80,7 +80,7 @@ Comes_from c = (k : List Lexeme) → Comes Got (λ f. code_of f (spell_code c (l
 
 -- one statement, and then the others
 goes_on : (ts : List Lexeme) (s r : Code) (k : List Lexeme) → behind (codes "}") ts ≡ None →
-  Comes Got (λ f. one f ts) (s, spell_code r (lex.Sign (codes "}") ∷ k)) → Comes_from r → Comes Got (λ f. code_of f ts) (append s r, k)
+    Comes Got (λ f. one f ts) (s, spell_code r (lex.Sign (codes "}") ∷ k)) → Comes_from r → Comes Got (λ f. code_of f ts) (append s r, k)
 unfolding Comes_from code_of
 goes_on ts s r k n a b =
     let g = b k in
@@ -117,7 +117,7 @@ else_one t y n k v r s =
     let g = braces_give y (lex.Word (codes "else") ∷ lex.Sign (codes "{") ∷ spell_code n (lex.Sign (codes "}") ∷ k)) r in
     let h = braces_give n k s in
     later (λ f. one f (spell_code (if_else t y n done) k)) _ (g.from + h.from)
-      (λ f le. rw (condition_gives t _ v) (rw (g.gives f (omega arith)) (rw (h.gives f (omega arith)) refl)))
+    (λ f le. rw (condition_gives t _ v) (rw (g.gives f (omega arith)) (rw (h.gives f (omega arith)) refl)))
 
 declare_one : (t : Kind) (w : List ℕ) (e : Term) (k : List Lexeme) → IsName w → Levelled e → Comes Got (λ f. one f (spell_code (declare t w e done) k)) (declare t w e done, k)
 unfolding keyword behind

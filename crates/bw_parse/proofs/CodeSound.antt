@@ -1,5 +1,5 @@
 -- Statements that are parsed are spelled so.
-use Rattle.std.proofs.Common.{◌≡◌, ℕ, zero, suc, ◌+◌, ◌<◌, ◌≤◌, Bool, true, false, cond, List, [], ◌∷◌, Option, Some, None, refl, sym, ap, ◌∙◌, subst, arith, inl, inr, ◌⊎◌, codes}
+use Rattle.std.proofs.Common.{◌≡◌, ℕ, zero, suc, List, ◌∷◌, Some, refl, sym, ap, ◌∙◌, subst, inl, inr, codes}
 use Rattle.bw_lang.specs.Code.{Code, done, declare, assign, if_then, if_else, while_loop, block, show, exit, append}
 use Rattle.bw_lang.specs.declared.stmt.Kind.{Kind}
 use Rattle.bw_lang.specs.declared.token.Lexeme.{Lexeme}
@@ -9,7 +9,7 @@ use Rattle.bw_lang.specs.Spelling.{spell, spell_test, spell_value, spell_code, s
 use Rattle.bw_lang.specs.Term.{Term}
 use Rattle.bw_lang.specs.Words.{IsName, kind_word}
 use Rattle.bw_parse.specs.Expressions.{parse, parse_inside, steps}
-use Rattle.bw_parse.specs.Fronts.{Read, ◌>>=◌, where_some, behind, keyword, word, named, kind}
+use Rattle.bw_parse.specs.Fronts.{◌>>=◌, behind, keyword, named, kind}
 use Rattle.bw_parse.specs.Statements.{condition, valued, parse_receives, parse_show, parse_exit, parse_declare, parse_assign, simple, code_of, one, braces}
 use Rattle.bw_parse.proofs.FrontLaws.{bind_some, where_cases, some, some_is, behind_is, keyword_is, named_is, kind_is}
 use Rattle.bw_parse.proofs.Receives.{sound_receives}
@@ -80,7 +80,7 @@ valued_is ts x e =
     let vi = parse_sound k.0 v.0 v.1 in
     let z = bind_some (behind (codes ";") v.0.1) (λ z. Some ((w.0.0, v.0.0), z)) x v.2 in
     subst (λ (y : (List ℕ × Term) × List Lexeme). ReadsValue ts y.0 y.1) (some_is ((w.0.0, v.0.0), z.0) x z.2)
-      (wi.0 ∙ ap (λ l. lex.Word w.0.0 ∷ l) (behind_is (codes "=") w.0.1 k.0 k.1 ∙ ap (λ l. lex.Sign (codes "=") ∷ l) (vi.spelled ∙ ap (spell v.0.0) (behind_is (codes ";") v.0.1 z.0 z.1))), wi.1, vi.levelled)
+    (wi.0 ∙ ap (λ l. lex.Word w.0.0 ∷ l) (behind_is (codes "=") w.0.1 k.0 k.1 ∙ ap (λ l. lex.Sign (codes "=") ∷ l) (vi.spelled ∙ ap (spell v.0.0) (behind_is (codes ";") v.0.1 z.0 z.1))), wi.1, vi.levelled)
 
 pub show_is : (ts k : List Lexeme) (x : Code × List Lexeme) → ts ≡ lex.Word (codes "show") ∷ k → parse_show k ≡ Some x → ReadsOne ts x.0 x.1
 unfolding parse_show
@@ -91,11 +91,11 @@ show_is ts k x i e =
     let ri = sound_receives p.0.1 r.0 r.1 in
     let z = bind_some (behind (codes ";") r.0.1) (λ z. Some (show p.0.0 r.0.0 done, z)) x r.2 in
     got (show p.0.0 r.0.0 done) z.0 x
-      (record {
-        spelled = i ∙ ap (λ l. lex.Word (codes "show") ∷ l) (pi.spelled ∙ ap (spell p.0.0) (ri.0 ∙ ap (spell_receives r.0.0) (behind_is (codes ";") r.0.1 z.0 z.1)));
-        good = (pi.levelled, ri.1, tt);
-        some = tt;
-      }) z.2
+    (record {
+      spelled = i ∙ ap (λ l. lex.Word (codes "show") ∷ l) (pi.spelled ∙ ap (spell p.0.0) (ri.0 ∙ ap (spell_receives r.0.0) (behind_is (codes ";") r.0.1 z.0 z.1)));
+      good = (pi.levelled, ri.1, tt);
+      some = tt;
+    }) z.2
 
 pub exit_is : (ts k : List Lexeme) (x : Code × List Lexeme) → ts ≡ lex.Word (codes "exit") ∷ k → parse_exit k ≡ Some x → ReadsOne ts x.0 x.1
 unfolding parse_exit
@@ -104,7 +104,7 @@ exit_is ts k x i e =
     let pi = parse_sound k p.0 p.1 in
     let z = bind_some (behind (codes ";") p.0.1) (λ z. Some (exit p.0.0 done, z)) x p.2 in
     got (exit p.0.0 done) z.0 x
-      (record { spelled = i ∙ ap (λ l. lex.Word (codes "exit") ∷ l) (pi.spelled ∙ ap (spell p.0.0) (behind_is (codes ";") p.0.1 z.0 z.1)); good = (pi.levelled, tt); some = tt }) z.2
+    (record { spelled = i ∙ ap (λ l. lex.Word (codes "exit") ∷ l) (pi.spelled ∙ ap (spell p.0.0) (behind_is (codes ";") p.0.1 z.0 z.1)); good = (pi.levelled, tt); some = tt }) z.2
 
 pub declare_is : (t : Kind) (ts k : List Lexeme) (x : Code × List Lexeme) → ts ≡ lex.Word (kind_word t) ∷ k → parse_declare t k ≡ Some x → ReadsOne ts x.0 x.1
 unfolding parse_declare
@@ -138,20 +138,21 @@ sound_simple ts x e =
 
 mutual
   unfolding code_of
+
   pub sound_code : (f : ℕ) (ts : List Lexeme) (x : Code × List Lexeme) → code_of f ts ≡ Some x → ReadsCode ts x.0 (lex.Sign (codes "}") ∷ x.1)
   sound_code zero ts x e = absurd cc
   sound_code (suc f) ts x e =
       elim (where_cases (behind (codes "}") ts) (λ k. Some (done, k)) (one f ts >>= λ s. code_of f s.1 >>= λ c. Some (append s.0 c.0, c.1)) (Some x) e) [
         | inl h ↦
             subst (λ (y : Code × List Lexeme). ReadsCode ts y.0 (lex.Sign (codes "}") ∷ y.1)) (some_is (done, h.0) x h.2)
-              (record { spelled = behind_is (codes "}") ts h.0 h.1; good = tt })
+            (record { spelled = behind_is (codes "}") ts h.0 h.1; good = tt })
         | inr h ↦
             let s = bind_some (one f ts) _ x h.1 in
             let c = bind_some (code_of f s.0.1) (λ c. Some (append s.0.0 c.0, c.1)) x s.2 in
             let p = sound_one f ts s.0 s.1 in
             let q = sound_code f s.0.1 c.0 c.1 in
             subst (λ (y : Code × List Lexeme). ReadsCode ts y.0 (lex.Sign (codes "}") ∷ y.1)) (some_is (append s.0.0 c.0.0, c.0.1) x c.2)
-              (record { spelled = p.spelled ∙ ap (spell_code s.0.0) q.spelled ∙ sym (append_spelled s.0.0 c.0.0 (lex.Sign (codes "}") ∷ c.0.1)); good = append_good s.0.0 c.0.0 p.good q.good })
+            (record { spelled = p.spelled ∙ ap (spell_code s.0.0) q.spelled ∙ sym (append_spelled s.0.0 c.0.0 (lex.Sign (codes "}") ∷ c.0.1)); good = append_good s.0.0 c.0.0 p.good q.good })
       ]
 
   pub sound_braces : (f : ℕ) (ts : List Lexeme) (x : Code × List Lexeme) → braces f ts ≡ Some x → (ts ≡ lex.Sign (codes "{") ∷ spell_code x.0 (lex.Sign (codes "}") ∷ x.1)) × IsCode x.0
@@ -177,7 +178,7 @@ mutual
                   let n = bind_some (braces f g.0) (λ n. Some (if_else t.0.0 y.0.0 n.0 done, n.1)) x g.2 in
                   let ni = sound_braces f g.0 n.0 n.1 in
                   got (if_else t.0.0 y.0.0 n.0.0 done) n.0.1 x
-                    (record { spelled = front _ (keyword_is (codes "else") y.0.1 g.0 g.1 ∙ ap (λ l. lex.Word (codes "else") ∷ l) ni.0); good = (ti.1, yi.1, ni.1, tt); some = tt }) n.2
+                  (record { spelled = front _ (keyword_is (codes "else") y.0.1 g.0 g.1 ∙ ap (λ l. lex.Word (codes "else") ∷ l) ni.0); good = (ti.1, yi.1, ni.1, tt); some = tt }) n.2
               | inr g ↦ got (if_then t.0.0 y.0.0 done) y.0.1 x (record { spelled = front _ refl; good = (ti.1, yi.1, tt); some = tt }) g.1
             ]
         | inr h ↦ elim (where_cases (keyword (codes "while") ts) _ _ (Some x) h.1) [
@@ -188,7 +189,7 @@ mutual
               let b = bind_some (braces f t.0.1) (λ b. Some (while_loop t.0.0 b.0 done, b.1)) x t.2 in
               let bi = sound_braces f t.0.1 b.0 b.1 in
               got (while_loop t.0.0 b.0.0 done) b.0.1 x
-                (record { spelled = k ∙ ap (λ l. lex.Word (codes "while") ∷ l) (ti.0 ∙ ap (spell_test t.0.0) bi.0); good = (ti.1, bi.1, tt); some = tt }) b.2
+              (record { spelled = k ∙ ap (λ l. lex.Word (codes "while") ∷ l) (ti.0 ∙ ap (spell_test t.0.0) bi.0); good = (ti.1, bi.1, tt); some = tt }) b.2
           | inr g ↦ elim (where_cases (behind (codes "{") ts) (λ k. code_of f k >>= λ b. Some (block b.0 done, b.1)) (simple ts) (Some x) g.1) [
             | inl j ↦
                 let b = bind_some (code_of f j.0) (λ b. Some (block b.0 done, b.1)) x j.2 in

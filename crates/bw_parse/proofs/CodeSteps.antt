@@ -1,18 +1,17 @@
 -- More steps than can be needed change nothing, so the parser of statements meets its own equations.
-use Rattle.std.proofs.Common.{◌≡◌, ℕ, zero, suc, ◌+◌, ◌*◌, ◌<◌, ◌≤◌, List, [], ◌∷◌, ◌++◌, length, Option, Some, None, refl, sym, ap, ◌∙◌, arith, codes}
+use Rattle.std.proofs.Common.{◌≡◌, ℕ, zero, suc, ◌+◌, ◌*◌, ◌<◌, ◌≤◌, List, [], ◌∷◌, ◌++◌, length, Some, None, refl, sym, ap, ◌∙◌, arith, codes}
 use Rattle.bw_lang.specs.Code.{Code, done, declare, assign, if_then, if_else, while_loop, block, show, exit, append}
 use Rattle.bw_lang.specs.CodeView.{code, before}
 use Rattle.bw_lang.specs.declared.stmt.Receive.{Receive}
 use Rattle.bw_lang.specs.declared.stmt.Stmt.{Stmt}
-use Rattle.bw_lang.specs.declared.stmt.Stmt.TheVariants as stmts
 use Rattle.bw_lang.specs.declared.token.Lexeme.{Lexeme}
 use Rattle.bw_lang.specs.declared.token.Lexeme.TheVariants as lex
-use Rattle.bw_lang.specs.Spelling.{spell, spell_code, spell_receives, spell_each}
+use Rattle.bw_lang.specs.Spelling.{spell_code, spell_receives, spell_each}
 use Rattle.bw_lang.specs.Term.{Term}
 use Rattle.bw_parse.specs.Fronts.{Read, ◌>>=◌, where_some, behind, keyword}
 use Rattle.bw_parse.specs.Statements.{condition, simple, code_of, one, braces, parse_code, parse_one, parse_braces, with_code, parse_if, parse_while}
 use Rattle.bw_lang.proofs.Codes.{append_code_assoc, append_done, code-append}
-use Rattle.bw_parse.proofs.CodeSound.{condition_is, ReadsOne, IsStatement, sound_one, sound_braces}
+use Rattle.bw_parse.proofs.CodeSound.{condition_is, IsStatement, sound_one, sound_braces}
 use Rattle.bw_parse.proofs.FrontLaws.{keyword_is}
 use Rattle.bw_parse.proofs.Steps.{longer, bind_same, where_same, same_from, behind_shorter}
 
@@ -66,12 +65,13 @@ braces_shorter f ts x e = let r = sound_braces f ts x e in omega (arith, ap leng
 
 mutual
   unfolding code_of
+
   stable_code : (f : ℕ) (ts : List Lexeme) → 4 * length ts + 2 ≤ f → code_of (suc f) ts ≡ code_of f ts
   stable_code zero ts le = absurd (omega arith)
   stable_code (suc f) ts le =
       where_same (behind (codes "}") ts) _ _ _ _ (λ k p. refl)
-        (λ p. bind_same (one (suc f) ts) (one f ts) _ _ (stable_one f ts (omega arith))
-          (λ s e. let t = one_shorter f ts s e in ap (λ o. o >>= λ c. Some (append s.0 c.0, c.1)) (stable_code f s.1 (omega arith))))
+      (λ p. bind_same (one (suc f) ts) (one f ts) _ _ (stable_one f ts (omega arith))
+      (λ s e. let t = one_shorter f ts s e in ap (λ o. o >>= λ c. Some (append s.0 c.0, c.1)) (stable_code f s.1 (omega arith))))
 
   stable_braces : (f : ℕ) (ts : List Lexeme) → 4 * length ts + 1 ≤ f → braces (suc f) ts ≡ braces f ts
   stable_braces zero ts le = absurd (omega arith)
@@ -82,21 +82,21 @@ mutual
   stable_one zero ts le = absurd (omega arith)
   stable_one (suc f) ts le =
       where_same (keyword (codes "if") ts) _ _ _ _
-        (λ k p. let s = keyword_shorter (codes "if") ts k p in
-          bind_same (condition k) _ _ _ refl
-            (λ t q. let u = condition_shorter k t q in
-              bind_same (braces (suc f) t.1) (braces f t.1) _ _ (stable_braces f t.1 (omega arith))
-                (λ y r. let v = braces_shorter f t.1 y r in
-                  where_same (keyword (codes "else") y.1) _ _ _ _
-                    (λ e w. let z = keyword_shorter (codes "else") y.1 e w in ap (λ o. o >>= λ n. Some (if_else t.0 y.0 n.0 done, n.1)) (stable_braces f e (omega arith)))
-                    (λ w. refl))))
-        (λ p. where_same (keyword (codes "while") ts) _ _ _ _
-          (λ k p. let s = keyword_shorter (codes "while") ts k p in
-            bind_same (condition k) _ _ _ refl
-              (λ t q. let u = condition_shorter k t q in ap (λ o. o >>= λ b. Some (while_loop t.0 b.0 done, b.1)) (stable_braces f t.1 (omega arith))))
-          (λ p. where_same (behind (codes "{") ts) _ _ _ _
-            (λ k p. let s = behind_shorter (codes "{") ts k p in ap (λ o. o >>= λ b. Some (block b.0 done, b.1)) (stable_code f k (omega arith)))
-            (λ p. refl)))
+      (λ k p. let s = keyword_shorter (codes "if") ts k p in
+      bind_same (condition k) _ _ _ refl
+      (λ t q. let u = condition_shorter k t q in
+      bind_same (braces (suc f) t.1) (braces f t.1) _ _ (stable_braces f t.1 (omega arith))
+      (λ y r. let v = braces_shorter f t.1 y r in
+      where_same (keyword (codes "else") y.1) _ _ _ _
+      (λ e w. let z = keyword_shorter (codes "else") y.1 e w in ap (λ o. o >>= λ n. Some (if_else t.0 y.0 n.0 done, n.1)) (stable_braces f e (omega arith)))
+      (λ w. refl))))
+      (λ p. where_same (keyword (codes "while") ts) _ _ _ _
+      (λ k p. let s = keyword_shorter (codes "while") ts k p in
+      bind_same (condition k) _ _ _ refl
+      (λ t q. let u = condition_shorter k t q in ap (λ o. o >>= λ b. Some (while_loop t.0 b.0 done, b.1)) (stable_braces f t.1 (omega arith))))
+      (λ p. where_same (behind (codes "{") ts) _ _ _ _
+      (λ k p. let s = behind_shorter (codes "{") ts k p in ap (λ o. o >>= λ b. Some (block b.0 done, b.1)) (stable_code f k (omega arith)))
+      (λ p. refl)))
 
 pub code_is : (f : ℕ) (ts : List Lexeme) → 4 * length ts + 2 ≤ f → code_of f ts ≡ parse_code ts
 unfolding parse_code
@@ -112,8 +112,8 @@ parse_code_is ts =
     let f = 4 * length ts + 8 in
     sym (code_is (suc f) ts (omega arith))
     ∙ where_same (behind (codes "}") ts) _ _ _ _ (λ k p. refl)
-        (λ p. bind_same (one f ts) (parse_one ts) _ _ (one_is f ts (omega arith))
-          (λ s e. let t = one_shorter f ts s (one_is f ts (omega arith) ∙ e) in ap (λ o. o >>= λ c. Some (append s.0 c.0, c.1)) (code_is f s.1 (omega arith)) ∙ fold s.0 (parse_code s.1)))
+    (λ p. bind_same (one f ts) (parse_one ts) _ _ (one_is f ts (omega arith))
+    (λ s e. let t = one_shorter f ts s (one_is f ts (omega arith) ∙ e) in ap (λ o. o >>= λ c. Some (append s.0 c.0, c.1)) (code_is f s.1 (omega arith)) ∙ fold s.0 (parse_code s.1)))
   where
     fold : (c : Code) (o : Read Code) → (o >>= λ x. Some (append c x.0, x.1)) ≡ with_code c o
     fold c None = refl
@@ -131,28 +131,28 @@ parse_braces_is ts =
     ∙ bind_same (behind (codes "{") ts) _ _ _ refl (λ k p. let s = behind_shorter (codes "{") ts k p in code_is f k (omega arith))
 
 pub parse_one_is : (ts : List Lexeme) → parse_one ts ≡
-  where_some (keyword (codes "if") ts) (λ k. parse_if k) (where_some (keyword (codes "while") ts) (λ k. parse_while k)
-  (where_some (behind (codes "{") ts) (λ k. parse_code k >>= λ b. Some (block b.0 done, b.1)) (simple ts)))
+    where_some (keyword (codes "if") ts) (λ k. parse_if k) (where_some (keyword (codes "while") ts) (λ k. parse_while k)
+    (where_some (behind (codes "{") ts) (λ k. parse_code k >>= λ b. Some (block b.0 done, b.1)) (simple ts)))
 unfolding code_of parse_if parse_while
 parse_one_is ts =
     let f = 4 * length ts + 8 in
     sym (one_is (suc f) ts (omega arith))
     ∙ where_same (keyword (codes "if") ts) _ _ _ _
-      (λ k p. let s = keyword_shorter (codes "if") ts k p in
-        bind_same (condition k) _ _ _ refl
-          (λ t q. let u = condition_shorter k t q in
-            bind_same (braces f t.1) (parse_braces t.1) _ _ (braces_are f t.1 (omega arith))
-              (λ y r. let v = braces_shorter f t.1 y (braces_are f t.1 (omega arith) ∙ r) in
-                where_same (keyword (codes "else") y.1) _ _ _ _
-                  (λ e w. let z = keyword_shorter (codes "else") y.1 e w in ap (λ o. o >>= λ n. Some (if_else t.0 y.0 n.0 done, n.1)) (braces_are f e (omega arith)))
-                  (λ w. refl))))
-      (λ p. where_same (keyword (codes "while") ts) _ _ _ _
-        (λ k p. let s = keyword_shorter (codes "while") ts k p in
-          bind_same (condition k) _ _ _ refl
-            (λ t q. let u = condition_shorter k t q in ap (λ o. o >>= λ b. Some (while_loop t.0 b.0 done, b.1)) (braces_are f t.1 (omega arith))))
-        (λ p. where_same (behind (codes "{") ts) _ _ _ _
-          (λ k p. let s = behind_shorter (codes "{") ts k p in ap (λ o. o >>= λ b. Some (block b.0 done, b.1)) (code_is f k (omega arith)))
-          (λ p. refl)))
+    (λ k p. let s = keyword_shorter (codes "if") ts k p in
+    bind_same (condition k) _ _ _ refl
+    (λ t q. let u = condition_shorter k t q in
+    bind_same (braces f t.1) (parse_braces t.1) _ _ (braces_are f t.1 (omega arith))
+    (λ y r. let v = braces_shorter f t.1 y (braces_are f t.1 (omega arith) ∙ r) in
+    where_same (keyword (codes "else") y.1) _ _ _ _
+    (λ e w. let z = keyword_shorter (codes "else") y.1 e w in ap (λ o. o >>= λ n. Some (if_else t.0 y.0 n.0 done, n.1)) (braces_are f e (omega arith)))
+    (λ w. refl))))
+    (λ p. where_same (keyword (codes "while") ts) _ _ _ _
+    (λ k p. let s = keyword_shorter (codes "while") ts k p in
+    bind_same (condition k) _ _ _ refl
+    (λ t q. let u = condition_shorter k t q in ap (λ o. o >>= λ b. Some (while_loop t.0 b.0 done, b.1)) (braces_are f t.1 (omega arith))))
+    (λ p. where_same (behind (codes "{") ts) _ _ _ _
+    (λ k p. let s = behind_shorter (codes "{") ts k p in ap (λ o. o >>= λ b. Some (block b.0 done, b.1)) (code_is f k (omega arith)))
+    (λ p. refl)))
 
 -- ---- a list of statements
 

@@ -1,7 +1,7 @@
 -- What is spelled so is parsed, where no operator of the level follows.
-use Rattle.std.proofs.Common.{◌≡◌, ◌≢◌, ℕ, zero, suc, ◌+◌, ◌<◌, ◌≤◌, Bool, true, false, cond, ◌==◌, List, [], ◌∷◌, Option, Some, None, refl, sym, ap, ◌∙◌, subst, arith, inl, inr, ◌⊎◌, add-one}
-use Rattle.std.specs.Prelude.{if◌then◌else◌, nat_lt, pos, negsuc, ◌^◌, codes}
-use Rattle.std.proofs.lemmas.Bool.{eqb-true, eqb-false, ltb-true, ltb-false, lt-ltb, le-ltb, eq-eqb, cases_lt}
+use Rattle.std.proofs.Common.{◌≡◌, ℕ, zero, suc, ◌+◌, ◌<◌, ◌≤◌, Bool, true, false, cond, ◌==◌, List, [], ◌∷◌, Option, Some, None, refl, sym, ap, ◌∙◌, subst, arith, inl, inr}
+use Rattle.std.specs.Prelude.{if◌then◌else◌, pos, negsuc, ◌^◌, codes}
+use Rattle.std.proofs.lemmas.Bool.{lt-ltb, eq-eqb, cases_lt}
 use Rattle.std.proofs.lemmas.Bool.Decides.{nat_tests}
 use Rattle.bw_lang.specs.declared.expr.Op.{Op}
 use Rattle.bw_lang.specs.declared.expr.Op.TheVariants.{Or, And, Eq, Ne, Lt, Le, Gt, Ge, Add, Sub, Mul, Div, Rem}
@@ -10,18 +10,17 @@ use Rattle.bw_lang.specs.declared.expr.Fun.TheVariants as funs
 use Rattle.bw_lang.specs.Keywords.{is, is_keyword}
 use Rattle.bw_lang.specs.declared.token.Lexeme.{Lexeme}
 use Rattle.bw_lang.specs.declared.token.Lexeme.TheVariants as lex
-use Rattle.bw_lang.specs.Levels.{op_level, left_level, level, Levelled, AreLevelled, IsSome, IsWritable}
+use Rattle.bw_lang.specs.Levels.{op_level, left_level, level, Levelled, AreLevelled}
 use Rattle.bw_lang.specs.Spelling.{spell, spell_pairs}
 use Rattle.bw_lang.specs.Term.{Term, int, truth, string, name, paren, not, neg, binary, call, plug, Fillings, no_more, filling, append_fillings}
 use Rattle.bw_lang.specs.Words.{op_sign, truth_word, fun_word}
 use Rattle.bw_lang.proofs.Terms.{append_fillings_assoc}
 use Rattle.bw_parse.specs.declared.lexemes.Meaning.{Meaning}
-use Rattle.bw_parse.specs.declared.lexemes.Meaning.TheVariants.{Truth, Function, Other, Free}
-use Rattle.bw_parse.specs.Fronts.{Read, ◌>>=◌, where_some, behind, word, op_of, if_level, operator, meaning}
-use Rattle.bw_parse.specs.Expressions.{number_at, expr, more, prefix, plugs, pairs, atom, inside, by_meaning}
+use Rattle.bw_parse.specs.declared.lexemes.Meaning.TheVariants.{Truth, Function, Free}
+use Rattle.bw_parse.specs.Fronts.{Read, ◌>>=◌, behind, word, op_of, if_level, operator, meaning}
+use Rattle.bw_parse.specs.Expressions.{expr, more, prefix, plugs, pairs, atom, inside, by_meaning}
 use Rattle.bw_parse.specs.Follow.{binds, op_binds}
 use Rattle.bw_parse.proofs.FrontLaws.{some, is_same, free_meaning}
-use Rattle.bw_parse.proofs.Sound.{left_le}
 
 -- from some number of steps on it gives x
 pub record Comes (A : Type 0) (p : ℕ → Option A) (x : A) : Type 0 where

@@ -1,19 +1,15 @@
 -- Declarations: what is parsed is spelled so, and what is spelled so is parsed.
-use Rattle.std.proofs.Common.{◌≡◌, ℕ, zero, suc, ◌+◌, ◌*◌, ◌<◌, ◌≤◌, ◌^◌, Bool, true, false, cond, List, [], ◌∷◌, ◌++◌, length, Option, Some, None, refl, sym, ap, ◌∙◌, subst, arith, inl, inr, ◌⊎◌, append_assoc, append-nil, codes}
-use Rattle.std.specs.Prelude.{if◌then◌else◌, nat_lt}
+use Rattle.std.proofs.Common.{◌≡◌, ℕ, zero, suc, ◌+◌, ◌*◌, ◌<◌, ◌≤◌, ◌^◌, true, false, List, [], ◌∷◌, ◌++◌, length, Some, None, refl, sym, ap, ◌∙◌, subst, arith, inl, inr, append_assoc, append-nil, codes}
+use Rattle.std.specs.Prelude.{nat_lt}
 use Rattle.std.proofs.lemmas.Bool.{ltb-true, lt-ltb}
 use Rattle.bw_lang.specs.declared.declaration.Draft.{Draft}
 use Rattle.bw_lang.specs.declared.declaration.Draft.TheVariants as drafts
 use Rattle.bw_lang.specs.declared.declaration.Written.{Written}
 use Rattle.bw_lang.specs.declared.declaration.Written.TheVariants as written
-use Rattle.bw_lang.specs.declared.stmt.Kind.{Kind}
-use Rattle.bw_lang.specs.declared.stmt.Kind.TheVariants as kinds
 use Rattle.bw_lang.specs.declared.token.Lexeme.{Lexeme}
 use Rattle.bw_lang.specs.declared.token.Lexeme.TheVariants as lex
-use Rattle.bw_lang.specs.Code.{Code}
 use Rattle.bw_lang.specs.Drafts.{IsWritten, spell_literal, spell_draft, spell_drafts, spell_service, IsFormed, AreFormed}
-use Rattle.bw_lang.specs.Spelling.{spell_code, IsCode}
-use Rattle.bw_lang.specs.Words.{IsName, kind_word, truth_word}
+use Rattle.bw_lang.specs.Words.{IsName, kind_word}
 use Rattle.bw_parse.specs.declared.lexemes.Meaning.{Meaning}
 use Rattle.bw_parse.specs.declared.lexemes.Meaning.TheVariants.{Truth, Function, Other, Free}
 use Rattle.bw_parse.specs.Fronts.{Read, ◌>>=◌, where_some, behind, keyword, word, named, kind, meaning}
@@ -21,9 +17,9 @@ use Rattle.bw_parse.specs.Services.{template_token, number_token, word_literal, 
 use Rattle.bw_parse.specs.Statements.{parse_code}
 use Rattle.bw_parse.proofs.CodeComplete.{parse_code_gives}
 use Rattle.bw_parse.proofs.CodeSound.{sound_code}
-use Rattle.bw_parse.proofs.CodeSteps.{keyword_shorter, code_longer}
+use Rattle.bw_parse.proofs.CodeSteps.{code_longer}
 use Rattle.bw_parse.proofs.FrontLaws.{bind_some, where_cases, chosen, some, some_is, behind_is, keyword_is, named_is, kind_is, truth_is, free_is, kind_self, free_meaning}
-use Rattle.bw_parse.proofs.Steps.{bind_same, where_same, same_from, behind_shorter}
+use Rattle.bw_parse.proofs.Steps.{bind_same, where_same, same_from}
 
 -- ---- literals
 
@@ -107,9 +103,11 @@ template_is ts k x i e =
     let q = bind_some (behind (codes "=") w.0.1) _ x w.2 in
     let t = bind_some (template_token q.0) _ x q.2 in
     let z = bind_some (behind (codes ";") t.0.1) (λ z. Some (drafts.Template w.0.0 t.0.0, z)) x t.2 in
-    draft_got ts (drafts.Template w.0.0 t.0.0) z.0 x
-      (i ∙ ap (λ l. lex.Word (codes "html") ∷ l) (wi.0 ∙ ap (λ l. lex.Word w.0.0 ∷ l) (behind_is (codes "=") w.0.1 q.0 q.1
-      ∙ ap (λ l. lex.Sign (codes "=") ∷ l) (template_token_is q.0 t.0 t.1 ∙ ap (λ l. lex.Template t.0.0 ∷ l) (behind_is (codes ";") t.0.1 z.0 z.1)))), wi.1) z.2
+    draft_got ts (drafts.Template w.0.0 t.0.0) z.0 x (
+      i ∙ ap (λ l. lex.Word (codes "html") ∷ l) (wi.0 ∙ ap (λ l. lex.Word w.0.0 ∷ l) (behind_is (codes "=") w.0.1 q.0 q.1
+          ∙ ap (λ l. lex.Sign (codes "=") ∷ l) (template_token_is q.0 t.0 t.1 ∙ ap (λ l. lex.Template t.0.0 ∷ l) (behind_is (codes ";") t.0.1 z.0 z.1)))),
+      wi.1,
+    ) z.2
 
 shared_is : (ts k : List Lexeme) (x : Draft × List Lexeme) → ts ≡ lex.Word (codes "shared") ∷ k → parse_shared k ≡ Some x → ReadsDraft ts x.0 x.1
 unfolding parse_shared
@@ -121,9 +119,11 @@ shared_is ts k x i e =
     let l = bind_some (literal q.0) _ x q.2 in
     let li = literal_is q.0 l.0 l.1 in
     let z = bind_some (behind (codes ";") l.0.1) (λ z. Some (drafts.Shared t.0.0 w.0.0 l.0.0, z)) x l.2 in
-    draft_got ts (drafts.Shared t.0.0 w.0.0 l.0.0) z.0 x
-      (i ∙ ap (λ l. lex.Word (codes "shared") ∷ l) (kind_is k t.0 t.1 ∙ ap (λ l. lex.Word (kind_word t.0.0) ∷ l) (wi.0 ∙ ap (λ l. lex.Word w.0.0 ∷ l) (behind_is (codes "=") w.0.1 q.0 q.1
-      ∙ ap (λ l. lex.Sign (codes "=") ∷ l) (li.0 ∙ ap (spell_literal l.0.0) (behind_is (codes ";") l.0.1 z.0 z.1))))), (wi.1, li.1)) z.2
+    draft_got ts (drafts.Shared t.0.0 w.0.0 l.0.0) z.0 x (
+      i ∙ ap (λ l. lex.Word (codes "shared") ∷ l) (kind_is k t.0 t.1 ∙ ap (λ l. lex.Word (kind_word t.0.0) ∷ l) (wi.0 ∙ ap (λ l. lex.Word w.0.0 ∷ l) (behind_is (codes "=") w.0.1 q.0 q.1
+          ∙ ap (λ l. lex.Sign (codes "=") ∷ l) (li.0 ∙ ap (spell_literal l.0.0) (behind_is (codes ";") l.0.1 z.0 z.1))))),
+      (wi.1, li.1),
+    ) z.2
 
 session_is : (ts k : List Lexeme) (x : Draft × List Lexeme) → ts ≡ lex.Word (codes "session") ∷ k → parse_session k ≡ Some x → ReadsDraft ts x.0 x.1
 unfolding parse_session parse_code
@@ -135,10 +135,12 @@ session_is ts k x i e =
     let c = bind_some (behind (codes "{") b.0) _ x b.2 in
     let d = bind_some (parse_code c.0) (λ d. Some (drafts.Session (record { name = w.0.0; body = d.0 }), d.1)) x c.2 in
     let di = sound_code (4 * length c.0 + 4) c.0 d.0 d.1 in
-    draft_got ts (drafts.Session (record { name = w.0.0; body = d.0.0 })) d.0.1 x
-      (i ∙ ap (λ l. lex.Word (codes "session") ∷ l) (wi.0 ∙ ap (λ l. lex.Word w.0.0 ∷ l) (behind_is (codes "(") w.0.1 a.0 a.1
-      ∙ ap (λ l. lex.Sign (codes "(") ∷ l) (behind_is (codes ")") a.0 b.0 b.1 ∙ ap (λ l. lex.Sign (codes ")") ∷ l) (behind_is (codes "{") b.0 c.0 c.1
-      ∙ ap (λ l. lex.Sign (codes "{") ∷ l) di.spelled)))), (wi.1, di.good)) d.2
+    draft_got ts (drafts.Session (record { name = w.0.0; body = d.0.0 })) d.0.1 x (
+      i ∙ ap (λ l. lex.Word (codes "session") ∷ l) (wi.0 ∙ ap (λ l. lex.Word w.0.0 ∷ l) (behind_is (codes "(") w.0.1 a.0 a.1
+          ∙ ap (λ l. lex.Sign (codes "(") ∷ l) (behind_is (codes ")") a.0 b.0 b.1 ∙ ap (λ l. lex.Sign (codes ")") ∷ l) (behind_is (codes "{") b.0 c.0 c.1
+          ∙ ap (λ l. lex.Sign (codes "{") ∷ l) di.spelled)))),
+      (wi.1, di.good),
+    ) d.2
 
 pub draft_is : (ts : List Lexeme) (x : Draft × List Lexeme) → draft ts ≡ Some x → ReadsDraft ts x.0 x.1
 unfolding draft
@@ -189,7 +191,7 @@ sound_from (suc f) front ts x e =
     elim (where_cases (behind (codes "}") ts) (λ k. Some (front, k)) _ (Some x) e) [
       | inl h ↦
           subst (λ (y : List Draft × List Lexeme). ReadsDrafts front ts y.0 y.1) (some_is (front, h.0) x h.2)
-            (record { rest = []; is = sym (append-nil front); formed = tt; spelled = behind_is (codes "}") ts h.0 h.1 })
+          (record { rest = []; is = sym (append-nil front); formed = tt; spelled = behind_is (codes "}") ts h.0 h.1 })
       | inr h ↦
           let d = bind_some (draft ts) (λ d. drafts_from f (front ++ d.0 ∷ []) d.1) x h.1 in
           let i = draft_is ts d.0 d.1 in
@@ -202,20 +204,20 @@ unfolding drafts_from
 stable_drafts zero front ts le = absurd (omega arith)
 stable_drafts (suc f) front ts le =
     where_same (behind (codes "}") ts) _ _ _ _ (λ k p. refl)
-      (λ p. bind_same (draft ts) _ _ _ refl (λ d e. let s = draft_shorter ts d e in stable_drafts f (front ++ d.0 ∷ []) d.1 (omega arith)))
+    (λ p. bind_same (draft ts) _ _ _ refl (λ d e. let s = draft_shorter ts d e in stable_drafts f (front ++ d.0 ∷ []) d.1 (omega arith)))
 
 drafts_are : (f : ℕ) (front : List Draft) (ts : List Lexeme) → length ts + 1 ≤ f → drafts_from f front ts ≡ parse_drafts front ts
 unfolding parse_drafts
 drafts_are f front ts le = same_from (λ f. drafts_from f front ts) (length ts + 1) (λ f h. stable_drafts f front ts h) f (length ts + 1) le (omega arith)
 
 pub parse_drafts_is : (front : List Draft) (ts : List Lexeme) → parse_drafts front ts ≡
-  where_some (behind (codes "}") ts) (λ k. Some (front, k)) (draft ts >>= λ d. parse_drafts (front ++ d.0 ∷ []) d.1)
+    where_some (behind (codes "}") ts) (λ k. Some (front, k)) (draft ts >>= λ d. parse_drafts (front ++ d.0 ∷ []) d.1)
 unfolding drafts_from
 parse_drafts_is front ts =
     let f = length ts + 2 in
     sym (drafts_are (suc f) front ts (omega arith))
     ∙ where_same (behind (codes "}") ts) _ _ _ _ (λ k p. refl)
-      (λ p. bind_same (draft ts) _ _ _ refl (λ d e. let s = draft_shorter ts d e in drafts_are f (front ++ d.0 ∷ []) d.1 (omega arith)))
+    (λ p. bind_same (draft ts) _ _ _ refl (λ d e. let s = draft_shorter ts d e in drafts_are f (front ++ d.0 ∷ []) d.1 (omega arith)))
 
 -- no declaration begins with a brace
 draft_begins : (d : Draft) (k : List Lexeme) → behind (codes "}") (spell_draft d k) ≡ None
@@ -251,10 +253,12 @@ service_is ts x e =
     let d = bind_some (parse_drafts [] b.0) (λ d. if_last (w.0.0, d.0) d.1) x b.2 in
     let di = sound_from (length b.0 + 1) [] b.0 d.0 d.1 in
     let l = if_last_is (w.0.0, d.0.0) d.0.1 x d.2 in
-    subst (λ (y : List ℕ × List Draft). ReadsService ts y.0 y.1) l.0
-      (wi.1, subst AreFormed (sym di.is) di.formed,
+    subst (λ (y : List ℕ × List Draft). ReadsService ts y.0 y.1) l.0 (
+      wi.1,
+      subst AreFormed (sym di.is) di.formed,
       keyword_is (codes "service") ts k.0 k.1 ∙ ap (λ l. lex.Word (codes "service") ∷ l) (wi.0 ∙ ap (λ l. lex.Word w.0.0 ∷ l) (behind_is (codes "{") w.0.1 b.0 b.1
-      ∙ ap (λ l. lex.Sign (codes "{") ∷ l) (di.spelled ∙ (λ i. spell_drafts (sym di.is i) (lex.Sign (codes "}") ∷ l.1 i))))))
+          ∙ ap (λ l. lex.Sign (codes "{") ∷ l) (di.spelled ∙ (λ i. spell_drafts (sym di.is i) (lex.Sign (codes "}") ∷ l.1 i))))),
+    )
 
 pub service_gives : (name : List ℕ) (ds : List Draft) → IsName name → AreFormed ds → parse_service (spell_service name ds) ≡ Some (name, ds)
 unfolding parse_service keyword named word behind

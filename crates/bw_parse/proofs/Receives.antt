@@ -1,15 +1,14 @@
 -- Receives: what is parsed is spelled so, and what is spelled so is parsed.
-use Rattle.std.proofs.Common.{◌≡◌, ℕ, zero, suc, ◌+◌, ◌<◌, ◌≤◌, List, [], ◌∷◌, ◌++◌, length, Option, Some, None, refl, sym, ap, ◌∙◌, subst, arith, inl, inr, ◌⊎◌, append_assoc, codes}
+use Rattle.std.proofs.Common.{◌≡◌, ℕ, zero, suc, ◌+◌, ◌<◌, ◌≤◌, List, [], ◌∷◌, ◌++◌, length, Some, refl, sym, ap, ◌∙◌, subst, arith, inl, inr, append_assoc, codes}
 use Rattle.bw_lang.specs.declared.stmt.Receive.{Receive}
 use Rattle.bw_lang.specs.declared.token.Lexeme.{Lexeme}
 use Rattle.bw_lang.specs.declared.token.Lexeme.TheVariants as lex
 use Rattle.bw_lang.specs.Spelling.{spell_each, spell_receives, HaveTargets}
 use Rattle.bw_lang.specs.Words.{IsName}
 use Rattle.bw_parse.specs.Follow.{binds}
-use Rattle.bw_parse.specs.Fronts.{Read, ◌>>=◌, where_some, behind, keyword, word, named}
+use Rattle.bw_parse.specs.Fronts.{◌>>=◌, where_some, behind, keyword, word, named}
 use Rattle.bw_parse.specs.Statements.{receive, receives_from, parse_list, parse_receives}
-use Rattle.bw_parse.proofs.Complete.{Comes, later}
-use Rattle.bw_parse.proofs.FrontLaws.{bind_some, where_cases, some, some_is, behind_is, keyword_is, named_is, word_is}
+use Rattle.bw_parse.proofs.FrontLaws.{bind_some, where_cases, some_is, behind_is, keyword_is, named_is, word_is}
 use Rattle.bw_parse.proofs.Steps.{bind_same, where_same, same_from, behind_shorter}
 
 -- the lexemes are those of a receive, and then the rest
@@ -54,7 +53,7 @@ sound_from (suc f) front ts x e =
           }
       | inr h ↦
           subst (λ (y : List Receive × List Lexeme). ReadsList front ts y.0 y.1) (some_is (front ++ r.0.0 ∷ [], r.0.1) x h.1)
-            (record { first = r.0.0; rest = []; is = refl; names = (p.1, tt); spelled = head })
+          (record { first = r.0.0; rest = []; is = refl; names = (p.1, tt); spelled = head })
     ]
 
 pub sound_list : (front : List Receive) (ts : List Lexeme) (x : List Receive × List Lexeme) → parse_list front ts ≡ Some x → ReadsList front ts x.0 x.1
@@ -74,9 +73,9 @@ sound_receives ts x e =
           let a = behind_is (codes "[") h.0 j.0 j.1 in
           let b = behind_is (codes "]") r.0.1 z.0 z.1 in
           let all : (ts ≡ spell_receives (l.first ∷ l.rest) z.0) × HaveTargets (l.first ∷ l.rest) =
-            (k ∙ ap (λ t. lex.Word (codes "receive") ∷ t) (a ∙ l.spelled (codes "[") ∙ ap (spell_each (codes "[") (l.first ∷ l.rest)) b), l.names) in
+          (k ∙ ap (λ t. lex.Word (codes "receive") ∷ t) (a ∙ l.spelled (codes "[") ∙ ap (spell_each (codes "[") (l.first ∷ l.rest)) b), l.names) in
           subst (λ (y : List Receive × List Lexeme). (ts ≡ spell_receives y.0 y.1) × HaveTargets y.0) (some_is (r.0.0, z.0) x z.2)
-            (subst (λ rs. (ts ≡ spell_receives rs z.0) × HaveTargets rs) (sym l.is) all)
+          (subst (λ rs. (ts ≡ spell_receives rs z.0) × HaveTargets rs) (sym l.is) all)
       | inr h ↦ subst (λ (y : List Receive × List Lexeme). (ts ≡ spell_receives y.0 y.1) × HaveTargets y.0) (some_is ([], ts) x h.1) (refl, tt)
     ]
 
@@ -90,22 +89,22 @@ unfolding receives_from
 stable_list zero front ts le = absurd (omega arith)
 stable_list (suc f) front ts le =
     bind_same (receive ts) (receive ts) _ _ refl
-      (λ r p. let s = receive_shorter ts r p in
-        where_same (behind (codes ",") r.1) _ _ _ _ (λ k q. let t = behind_shorter (codes ",") r.1 k q in stable_list f (front ++ r.0 ∷ []) k (omega arith)) (λ q. refl))
+    (λ r p. let s = receive_shorter ts r p in
+    where_same (behind (codes ",") r.1) _ _ _ _ (λ k q. let t = behind_shorter (codes ",") r.1 k q in stable_list f (front ++ r.0 ∷ []) k (omega arith)) (λ q. refl))
 
 list_is : (f : ℕ) (front : List Receive) (ts : List Lexeme) → length ts + 1 ≤ f → receives_from f front ts ≡ parse_list front ts
 unfolding parse_list
 list_is f front ts le = same_from (λ f. receives_from f front ts) (length ts + 1) (λ f h. stable_list f front ts h) f (length ts + 1) le (omega arith)
 
 pub parse_list_is : (front : List Receive) (ts : List Lexeme) → parse_list front ts ≡
-  (receive ts >>= λ r. where_some (behind (codes ",") r.1) (λ k. parse_list (front ++ r.0 ∷ []) k) (Some (front ++ r.0 ∷ [], r.1)))
+    (receive ts >>= λ r. where_some (behind (codes ",") r.1) (λ k. parse_list (front ++ r.0 ∷ []) k) (Some (front ++ r.0 ∷ [], r.1)))
 unfolding receives_from
 parse_list_is front ts =
     let f = length ts + 2 in
     sym (list_is (suc f) front ts (omega arith))
     ∙ bind_same (receive ts) (receive ts) _ _ refl
-      (λ r p. let s = receive_shorter ts r p in
-        where_same (behind (codes ",") r.1) _ _ _ _ (λ k q. let t = behind_shorter (codes ",") r.1 k q in list_is f (front ++ r.0 ∷ []) k (omega arith)) (λ q. refl))
+    (λ r p. let s = receive_shorter ts r p in
+    where_same (behind (codes ",") r.1) _ _ _ _ (λ k q. let t = behind_shorter (codes ",") r.1 k q in list_is f (front ++ r.0 ∷ []) k (omega arith)) (λ q. refl))
 
 -- ---- what is spelled so is parsed
 
@@ -114,13 +113,13 @@ unfolding receive named word behind
 receive_gives r k n = rw n refl
 
 list_gives : (r : Receive) (rs front : List Receive) (k : List Lexeme) → HaveTargets (r ∷ rs) →
-  parse_list front (lex.Word r.target ∷ lex.Sign (codes "=") ∷ lex.Word r.field ∷ spell_each (codes ",") rs (lex.Sign (codes "]") ∷ k)) ≡ Some (front ++ r ∷ rs, lex.Sign (codes "]") ∷ k)
+    parse_list front (lex.Word r.target ∷ lex.Sign (codes "=") ∷ lex.Word r.field ∷ spell_each (codes ",") rs (lex.Sign (codes "]") ∷ k)) ≡ Some (front ++ r ∷ rs, lex.Sign (codes "]") ∷ k)
 unfolding behind
 list_gives r [] front k n = parse_list_is front _ ∙ rw (receive_gives r (lex.Sign (codes "]") ∷ k) n.0) refl
 list_gives r (q ∷ rs) front k n =
     parse_list_is front _
     ∙ rw (receive_gives r (spell_each (codes ",") (q ∷ rs) (lex.Sign (codes "]") ∷ k)) n.0)
-      (list_gives q rs (front ++ r ∷ []) k n.1 ∙ ap (λ l. Some (l, lex.Sign (codes "]") ∷ k)) (append_assoc front (r ∷ []) (q ∷ rs)))
+    (list_gives q rs (front ++ r ∷ []) k n.1 ∙ ap (λ l. Some (l, lex.Sign (codes "]") ∷ k)) (append_assoc front (r ∷ []) (q ∷ rs)))
 
 pub receives_give : (rs : List Receive) (k : List Lexeme) → HaveTargets rs → parse_receives (spell_receives rs (lex.Sign (codes ";") ∷ k)) ≡ Some (rs, lex.Sign (codes ";") ∷ k)
 unfolding parse_receives keyword behind

@@ -1,24 +1,19 @@
 -- What is parsed is spelled so.
-use Rattle.std.proofs.Common.{◌≡◌, ℕ, zero, suc, ◌+◌, ◌<◌, ◌≤◌, Bool, true, false, cond, ◌==◌, List, [], ◌∷◌, Option, Some, None, refl, sym, ap, ◌∙◌, subst, arith, inl, inr, ◌⊎◌}
+use Rattle.std.proofs.Common.{◌≡◌, ℕ, zero, suc, ◌+◌, ◌<◌, ◌≤◌, ◌==◌, List, [], ◌∷◌, Some, None, refl, sym, ap, ◌∙◌, subst, arith, inl, inr}
 use Rattle.std.specs.Prelude.{if◌then◌else◌, nat_lt, pos, codes}
 use Rattle.std.proofs.lemmas.Bool.Decides.{nat_tests}
-use Rattle.std.proofs.lemmas.Bool.{eqb-true, eqb-false, ltb-true, ltb-false}
-use Rattle.bw_lang.specs.declared.expr.Op.{Op}
-use Rattle.bw_lang.specs.declared.expr.Op.TheVariants.{Or, And, Eq, Ne, Lt, Le, Gt, Ge, Add, Sub, Mul, Div, Rem}
-use Rattle.bw_lang.specs.declared.expr.Fun.{Fun}
-use Rattle.bw_lang.specs.declared.expr.Fun.TheVariants as funs
-use Rattle.bw_lang.specs.Keywords.{is, is_keyword}
+use Rattle.std.proofs.lemmas.Bool.{eqb-true, ltb-true}
 use Rattle.bw_lang.specs.declared.token.Lexeme.{Lexeme}
 use Rattle.bw_lang.specs.declared.token.Lexeme.TheVariants as lex
-use Rattle.bw_lang.specs.Levels.{op_level, left_level, level, Levelled, AreLevelled, IsSome, IsWritable}
+use Rattle.bw_lang.specs.Levels.{left_level, level, Levelled, AreLevelled, IsSome}
 use Rattle.bw_lang.specs.Spelling.{spell, spell_pairs}
 use Rattle.bw_lang.specs.Term.{Term, int, truth, string, name, paren, not, neg, binary, call, plug, Fillings, no_more, filling, append_fillings}
-use Rattle.bw_lang.specs.Words.{op_sign, truth_word, fun_word}
+use Rattle.bw_lang.specs.Words.{op_sign}
 use Rattle.bw_lang.proofs.Terms.{append_fillings_assoc}
 use Rattle.bw_parse.specs.declared.lexemes.Meaning.{Meaning}
 use Rattle.bw_parse.specs.declared.lexemes.Meaning.TheVariants.{Truth, Function, Other, Free}
-use Rattle.bw_parse.specs.Fronts.{Read, ◌>>=◌, where_some, behind, word, op_of, if_level, operator, meaning}
-use Rattle.bw_parse.specs.Expressions.{number_at, expr, more, prefix, plugs, pairs, atom, inside, by_meaning}
+use Rattle.bw_parse.specs.Fronts.{◌>>=◌, behind, word, operator, meaning}
+use Rattle.bw_parse.specs.Expressions.{expr, more, prefix, plugs, pairs, atom, inside, by_meaning}
 use Rattle.bw_parse.proofs.FrontLaws.{bind_some, where_cases, chosen, some, some_is, behind_is, word_is, operator_is, truth_is, function_is, free_is}
 
 -- the tokens are those of the expression, of the level, and then the rest

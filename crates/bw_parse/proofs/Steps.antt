@@ -1,27 +1,23 @@
 -- More steps than can be needed change nothing, so the parser meets its own equations.
-use Rattle.std.proofs.Common.{◌≡◌, ◌≢◌, ℕ, zero, suc, ◌+◌, ◌*◌, ◌<◌, ◌≤◌, Bool, true, false, cond, ◌==◌, List, [], ◌∷◌, length, Option, Some, None, refl, sym, ap, ◌∙◌, subst, arith, inl, inr, ◌⊎◌, add-one}
+use Rattle.std.proofs.Common.{◌≡◌, ℕ, zero, suc, ◌+◌, ◌*◌, ◌<◌, ◌≤◌, Bool, true, false, cond, ◌==◌, List, [], ◌∷◌, length, Option, Some, None, refl, sym, ap, ◌∙◌, arith, inl, inr}
 use Rattle.std.specs.Prelude.{if◌then◌else◌, nat_lt, codes}
-use Rattle.std.proofs.lemmas.Bool.{eqb-true, eqb-false, ltb-true, ltb-false, lt-ltb, le-ltb, eq-eqb, cases_lt}
+use Rattle.std.proofs.lemmas.Bool.{eqb-true, eqb-false, ltb-true, ltb-false, lt-ltb, cases_lt}
 use Rattle.std.proofs.Common.{◌-◌}
 use Rattle.bw_lang.specs.declared.expr.Op.{Op}
-use Rattle.bw_lang.specs.declared.expr.Op.TheVariants.{Or, And, Eq, Ne, Lt, Le, Gt, Ge, Add, Sub, Mul, Div, Rem}
 use Rattle.bw_lang.specs.declared.expr.Fun.{Fun}
-use Rattle.bw_lang.specs.declared.expr.Fun.TheVariants as funs
-use Rattle.bw_lang.specs.Keywords.{is, is_keyword}
 use Rattle.bw_lang.specs.declared.token.Lexeme.{Lexeme}
 use Rattle.bw_lang.specs.declared.token.Lexeme.TheVariants as lex
-use Rattle.bw_lang.specs.Levels.{op_level, left_level, level, Levelled, AreLevelled, IsSome, IsWritable}
+use Rattle.bw_lang.specs.Levels.{left_level, IsSome}
 use Rattle.bw_lang.specs.Spelling.{spell, spell_pairs}
 use Rattle.bw_lang.specs.Term.{Term, int, truth, string, name, paren, not, neg, binary, call, plug, Fillings, no_more, filling, append_fillings}
-use Rattle.bw_lang.specs.Words.{op_sign, truth_word, fun_word}
-use Rattle.bw_lang.proofs.Terms.{append_fillings_assoc}
+use Rattle.bw_lang.specs.Words.{op_sign}
 use Rattle.bw_parse.specs.declared.lexemes.Meaning.{Meaning}
 use Rattle.bw_parse.specs.declared.lexemes.Meaning.TheVariants.{Truth, Function, Other, Free}
-use Rattle.bw_parse.specs.Fronts.{Read, ◌>>=◌, where_some, behind, word, op_of, if_level, operator, meaning}
+use Rattle.bw_parse.specs.Fronts.{Read, ◌>>=◌, where_some, behind, word, operator, meaning}
 use Rattle.bw_parse.specs.Expressions.{number_at, expr, more, prefix, plugs, pairs, atom, inside, by_meaning}
 use Rattle.bw_parse.specs.Expressions.{steps, parse, parse_more, parse_prefix, parse_plugs, parse_pairs, parse_atom, parse_inside, parse_word}
-use Rattle.bw_parse.proofs.FrontLaws.{some, behind_is, word_is, operator_is}
-use Rattle.bw_parse.proofs.Sound.{Reads, ReadsPairs, sound_expr, sound_atom, sound_pairs, sound_inside}
+use Rattle.bw_parse.proofs.FrontLaws.{behind_is, word_is, operator_is}
+use Rattle.bw_parse.proofs.Sound.{sound_expr, sound_atom, sound_pairs, sound_inside}
 
 -- ---- an expression has tokens of its own
 

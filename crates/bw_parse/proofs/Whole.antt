@@ -1,10 +1,10 @@
 -- Of all the tokens: what is parsed is spelled so, and what is spelled so is parsed.
-use Rattle.std.proofs.Common.{◌≡◌, ℕ, ◌+◌, ◌*◌, ◌<◌, List, [], ◌∷◌, length, Option, Some, None, refl, sym, ap, ◌∙◌, subst, arith}
+use Rattle.std.proofs.Common.{◌≡◌, ◌+◌, ◌*◌, ◌<◌, List, length, Some, sym, ◌∙◌, arith}
 use Rattle.bw_lang.specs.Levels.{Levelled}
 use Rattle.bw_lang.specs.declared.token.Lexeme.{Lexeme}
 use Rattle.bw_lang.specs.Spelling.{spell}
 use Rattle.bw_lang.specs.Term.{Term}
-use Rattle.bw_parse.specs.Expressions.{expr, parse, steps}
+use Rattle.bw_parse.specs.Expressions.{parse, steps}
 use Rattle.bw_parse.specs.Follow.{binds}
 use Rattle.bw_parse.proofs.Sound.{Reads, sound_expr}
 use Rattle.bw_parse.proofs.Complete.{AtLevel, complete, one_le}

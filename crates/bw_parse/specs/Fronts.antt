@@ -1,6 +1,5 @@
 -- What stands at the front of lexemes.
-use Rattle.std.specs.Prelude.{ℕ, Bool, true, false, ◌==◌, if◌then◌else◌, List, [], ◌∷◌, Option, Some, None, codes}
-use Rattle.bw_lang.specs.declared.expr.Fun.{Fun}
+use Rattle.std.specs.Prelude.{ℕ, true, false, ◌==◌, if◌then◌else◌, List, [], ◌∷◌, Option, Some, None, codes}
 use Rattle.bw_lang.specs.declared.expr.Fun.TheVariants as funs
 use Rattle.bw_lang.specs.declared.expr.Op.{Op}
 use Rattle.bw_lang.specs.declared.expr.Op.TheVariants as ops

@@ -1,5 +1,5 @@
 -- What a function returned, seen by view, is what the parser gives, unless there was no memory.
-use Rattle.std.specs.Prelude.{◌≡◌, ℕ, Option, Some, None, Result, Ok, Err}
+use Rattle.std.specs.Prelude.{◌≡◌, Option, Some, None, Result, Ok, Err}
 use Rattle.bw_parse.specs.declared.fault.ParseFault.{ParseFault}
 use Rattle.bw_parse.specs.declared.fault.ParseFault.TheVariants as faults
 

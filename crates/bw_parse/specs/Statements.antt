@@ -1,5 +1,5 @@
 -- What the parser gives for statements. The number at the front bounds its steps.
-use Rattle.std.specs.Prelude.{ℕ, zero, suc, ◌+◌, ◌*◌, length, List, [], ◌∷◌, ◌++◌, Option, Some, None, codes}
+use Rattle.std.specs.Prelude.{ℕ, zero, suc, ◌+◌, ◌*◌, length, List, [], ◌∷◌, ◌++◌, Some, None, codes}
 use Rattle.bw_lang.specs.declared.stmt.Kind.{Kind}
 use Rattle.bw_lang.specs.declared.stmt.Receive.{Receive}
 use Rattle.bw_lang.specs.Code.{Code, done, declare, assign, if_then, if_else, while_loop, block, show, exit, append}
@@ -26,8 +26,8 @@ parse_list front ts = receives_from (length ts + 1) front ts
 unfoldable pub parse_receives : List Lexeme → Read (List Receive)
 parse_receives ts =
     where_some (keyword (codes "receive") ts)
-      (λ k. behind (codes "[") k >>= λ j. parse_list [] j >>= λ r. behind (codes "]") r.1 >>= λ z. Some (r.0, z))
-      (Some ([], ts))
+    (λ k. behind (codes "[") k >>= λ j. parse_list [] j >>= λ r. behind (codes "]") r.1 >>= λ z. Some (r.0, z))
+    (Some ([], ts))
 
 -- ( e )
 unfoldable pub condition : List Lexeme → Read Term
@@ -72,8 +72,8 @@ unfoldable mutual
   one zero ts = None
   one (suc f) ts =
       where_some (keyword (codes "if") ts)
-        (λ k. condition k >>= λ t. braces f t.1 >>= λ y.
-          where_some (keyword (codes "else") y.1) (λ e. braces f e >>= λ n. Some (if_else t.0 y.0 n.0 done, n.1)) (Some (if_then t.0 y.0 done, y.1)))
+      (λ k. condition k >>= λ t. braces f t.1 >>= λ y.
+      where_some (keyword (codes "else") y.1) (λ e. braces f e >>= λ n. Some (if_else t.0 y.0 n.0 done, n.1)) (Some (if_then t.0 y.0 done, y.1)))
       (where_some (keyword (codes "while") ts) (λ k. condition k >>= λ t. braces f t.1 >>= λ b. Some (while_loop t.0 b.0 done, b.1))
       (where_some (behind (codes "{") ts) (λ k. code_of f k >>= λ b. Some (block b.0 done, b.1)) (simple ts)))
 

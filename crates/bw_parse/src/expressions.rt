@@ -75,10 +75,7 @@ fn groups(level: u8) -> bool
 /// `!` or `-` and its operand, or an expression that binds tighter.
 #[cycle(expression)]
 #[tactic(auto, using(crate::proofs::Steps::equations))]
-fn prefix(
-    alloc: Global,
-    lexemes: &[Lexeme],
-) -> Result<(Expr, &[Lexeme]), ParseFault>
+fn prefix(alloc: Global, lexemes: &[Lexeme]) -> Result<(Expr, &[Lexeme]), ParseFault>
     ensures value { Gives (λ x. (term x.0, x.1.now)) result (parse_prefix lexemes.now) }
     ensures shorter { IfOk result (λ x. length x.1.now < length lexemes.now) }
 {
@@ -96,11 +93,7 @@ fn prefix(
 /// The plugs behind a base.
 #[cycle(expression)]
 #[tactic(auto, using(crate::proofs::Steps::equations))]
-fn plugs(
-    alloc: Global,
-    base: Expr,
-    lexemes: &[Lexeme],
-) -> Result<(Expr, &[Lexeme]), ParseFault>
+fn plugs(alloc: Global, base: Expr, lexemes: &[Lexeme]) -> Result<(Expr, &[Lexeme]), ParseFault>
     ensures value { Gives (λ x. (term x.0, x.1.now)) result (parse_plugs (term base) lexemes.now) }
     ensures shorter { IfOk result (λ x. length x.1.now ≤ length lexemes.now) }
 {
@@ -151,10 +144,7 @@ fn pairs(
 /// An expression that no operator opens.
 #[cycle(expression)]
 #[tactic(auto, using(crate::proofs::Steps::equations))]
-fn atom(
-    alloc: Global,
-    lexemes: &[Lexeme],
-) -> Result<(Expr, &[Lexeme]), ParseFault>
+fn atom(alloc: Global, lexemes: &[Lexeme]) -> Result<(Expr, &[Lexeme]), ParseFault>
     ensures value { Gives (λ x. (term x.0, x.1.now)) result (parse_atom lexemes.now) }
     ensures shorter { IfOk result (λ x. length x.1.now < length lexemes.now) }
 {
@@ -177,10 +167,7 @@ fn atom(
 }
 
 /// A number, which is below 2^63 in every text.
-fn whole(
-    number: u64,
-    rest: &[Lexeme],
-) -> Result<(Expr, &[Lexeme]), ParseFault>
+fn whole(number: u64, rest: &[Lexeme]) -> Result<(Expr, &[Lexeme]), ParseFault>
     ensures value { Gives (λ x. (term x.0, x.1.now)) result (number_at number rest.now) }
     ensures rest { IfOk result (λ x. x.1.now ≡ rest.now) }
 {
@@ -194,10 +181,7 @@ fn whole(
 /// An expression and the closing parenthesis.
 #[cycle(expression)]
 #[tactic(auto, using(crate::proofs::Steps::equations))]
-pub(crate) fn inside(
-    alloc: Global,
-    lexemes: &[Lexeme],
-) -> Result<(Expr, &[Lexeme]), ParseFault>
+pub(crate) fn inside(alloc: Global, lexemes: &[Lexeme]) -> Result<(Expr, &[Lexeme]), ParseFault>
     ensures value { Gives (λ x. (term x.0, x.1.now)) result (parse_inside lexemes.now) }
     ensures shorter { IfOk result (λ x. length x.1.now < length lexemes.now) }
 {

@@ -132,7 +132,13 @@ pub(crate) fn after<'a>(sign: &[u8], lexemes: &'a [Lexeme]) -> Option<&'a [Lexem
     ensures shorter { IfSome result (λ k. length k.now < length lexemes.now) }
 {
     match lexemes {
-        [Lexeme::Sign(other), rest @ ..] => { if is_sign(other.as_slice(), sign) { Some(rest) } else { None } }
+        [Lexeme::Sign(other), rest @ ..] => {
+            if is_sign(other.as_slice(), sign) {
+                Some(rest)
+            } else {
+                None
+            }
+        }
         _ => None,
     }
 }
@@ -144,7 +150,13 @@ pub(crate) fn keyword<'a>(word: &str, lexemes: &'a [Lexeme]) -> Option<&'a [Lexe
     ensures shorter { IfSome result (λ k. length k.now < length lexemes.now) }
 {
     match lexemes {
-        [Lexeme::Word(other), rest @ ..] => { if is_word(other.as_str(), word) { Some(rest) } else { None } }
+        [Lexeme::Word(other), rest @ ..] => {
+            if is_word(other.as_str(), word) {
+                Some(rest)
+            } else {
+                None
+            }
+        }
         _ => None,
     }
 }
@@ -194,7 +206,13 @@ pub(crate) fn operator(level: u8, lexemes: &[Lexeme]) -> Option<(Op, &[Lexeme])>
 {
     match lexemes {
         [Lexeme::Sign(sign), rest @ ..] => match op_of(sign.as_slice()) {
-            Some(op) => { if level_of(op) == level { Some((op, rest)) } else { None } }
+            Some(op) => {
+                if level_of(op) == level {
+                    Some((op, rest))
+                } else {
+                    None
+                }
+            }
             None => None,
         },
         _ => None,

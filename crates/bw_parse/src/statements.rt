@@ -15,10 +15,7 @@ use std::alloc::Global;
 /// A statement list between two braces.
 #[cycle(statement)]
 #[tactic(auto, using(crate::proofs::CodeSteps::code_equations))]
-fn braces(
-    alloc: Global,
-    lexemes: &[Lexeme],
-) -> Result<(Block, &[Lexeme]), ParseFault>
+fn braces(alloc: Global, lexemes: &[Lexeme]) -> Result<(Block, &[Lexeme]), ParseFault>
     ensures value { Gives (λ x. (x.0, x.1.now)) result (spec.parse_braces lexemes.now) }
     ensures shorter { IfOk result (λ x. length x.1.now < length lexemes.now) }
 {
@@ -31,10 +28,7 @@ fn braces(
 /// The statements up to the closing brace.
 #[cycle(statement)]
 #[tactic(auto, using(crate::proofs::CodeSteps::code_equations))]
-pub(crate) fn block(
-    alloc: Global,
-    lexemes: &[Lexeme],
-) -> Result<(Block, &[Lexeme]), ParseFault>
+pub(crate) fn block(alloc: Global, lexemes: &[Lexeme]) -> Result<(Block, &[Lexeme]), ParseFault>
     ensures value { Gives (λ x. (x.0, x.1.now)) result (spec.parse_code lexemes.now) }
     ensures shorter { IfOk result (λ x. length x.1.now < length lexemes.now) }
 {
@@ -54,10 +48,7 @@ pub(crate) fn block(
 
 #[cycle(statement)]
 #[tactic(auto, using(crate::proofs::CodeSteps::code_equations))]
-fn statement(
-    alloc: Global,
-    lexemes: &[Lexeme],
-) -> Result<(Stmt, &[Lexeme]), ParseFault>
+fn statement(alloc: Global, lexemes: &[Lexeme]) -> Result<(Stmt, &[Lexeme]), ParseFault>
     ensures value { Gives (λ x. (before x.0 done, x.1.now)) result (spec.parse_one lexemes.now) }
     ensures shorter { IfOk result (λ x. length x.1.now < length lexemes.now) }
 {
@@ -76,17 +67,21 @@ fn statement(
 /// Behind `if`.
 #[cycle(statement)]
 #[tactic(auto, unfolding(crate::specs::Statements::parse_if))]
-fn if_statement(
-    alloc: Global,
-    lexemes: &[Lexeme],
-) -> Result<(Stmt, &[Lexeme]), ParseFault>
+fn if_statement(alloc: Global, lexemes: &[Lexeme]) -> Result<(Stmt, &[Lexeme]), ParseFault>
     ensures value { Gives (λ x. (before x.0 done, x.1.now)) result (spec.parse_if lexemes.now) }
     ensures shorter { IfOk result (λ x. length x.1.now < length lexemes.now) }
 {
     let (test, rest) = condition(alloc, lexemes)?;
     let (yes, rest) = braces(alloc, rest)?;
     match keyword("else", rest) {
-        None => Ok((Stmt::If { test, yes, no: None }, rest)),
+        None => Ok((
+            Stmt::If {
+                test,
+                yes,
+                no: None,
+            },
+            rest,
+        )),
         Some(rest) => {
             let (other, rest) = braces(alloc, rest)?;
             let no = Some(other);
@@ -98,10 +93,7 @@ fn if_statement(
 /// Behind `while`.
 #[cycle(statement)]
 #[tactic(auto, unfolding(crate::specs::Statements::parse_while))]
-fn while_statement(
-    alloc: Global,
-    lexemes: &[Lexeme],
-) -> Result<(Stmt, &[Lexeme]), ParseFault>
+fn while_statement(alloc: Global, lexemes: &[Lexeme]) -> Result<(Stmt, &[Lexeme]), ParseFault>
     ensures value { Gives (λ x. (before x.0 done, x.1.now)) result (spec.parse_while lexemes.now) }
     ensures shorter { IfOk result (λ x. length x.1.now < length lexemes.now) }
 {
@@ -112,10 +104,7 @@ fn while_statement(
 
 /// A test in parentheses.
 #[tactic(auto, unfolding(crate::specs::Statements::condition))]
-fn condition(
-    alloc: Global,
-    lexemes: &[Lexeme],
-) -> Result<(Expr, &[Lexeme]), ParseFault>
+fn condition(alloc: Global, lexemes: &[Lexeme]) -> Result<(Expr, &[Lexeme]), ParseFault>
     ensures value { Gives (λ x. (term x.0, x.1.now)) result (spec.condition lexemes.now) }
     ensures shorter { IfOk result (λ x. length x.1.now < length lexemes.now) }
 {
@@ -127,10 +116,7 @@ fn condition(
 
 /// A statement without statements in it.
 #[tactic(auto, unfolding(crate::specs::Statements::simple))]
-fn simple(
-    alloc: Global,
-    lexemes: &[Lexeme],
-) -> Result<(Stmt, &[Lexeme]), ParseFault>
+fn simple(alloc: Global, lexemes: &[Lexeme]) -> Result<(Stmt, &[Lexeme]), ParseFault>
     ensures value { Gives (λ x. (before x.0 done, x.1.now)) result (spec.simple lexemes.now) }
     ensures shorter { IfOk result (λ x. length x.1.now < length lexemes.now) }
 {
@@ -147,10 +133,7 @@ fn simple(
 
 /// Behind `show`.
 #[tactic(auto, unfolding(crate::specs::Statements::parse_show))]
-fn show_statement(
-    alloc: Global,
-    lexemes: &[Lexeme],
-) -> Result<(Stmt, &[Lexeme]), ParseFault>
+fn show_statement(alloc: Global, lexemes: &[Lexeme]) -> Result<(Stmt, &[Lexeme]), ParseFault>
     ensures value { Gives (λ x. (before x.0 done, x.1.now)) result (spec.parse_show lexemes.now) }
     ensures shorter { IfOk result (λ x. length x.1.now < length lexemes.now) }
 {
@@ -164,10 +147,7 @@ fn show_statement(
 
 /// Behind `exit`.
 #[tactic(auto, unfolding(crate::specs::Statements::parse_exit))]
-fn exit_statement(
-    alloc: Global,
-    lexemes: &[Lexeme],
-) -> Result<(Stmt, &[Lexeme]), ParseFault>
+fn exit_statement(alloc: Global, lexemes: &[Lexeme]) -> Result<(Stmt, &[Lexeme]), ParseFault>
     ensures value { Gives (λ x. (before x.0 done, x.1.now)) result (spec.parse_exit lexemes.now) }
     ensures shorter { IfOk result (λ x. length x.1.now < length lexemes.now) }
 {
@@ -193,10 +173,7 @@ fn declaration(
 }
 
 #[tactic(auto, unfolding(crate::specs::Statements::parse_assign))]
-fn assignment(
-    alloc: Global,
-    lexemes: &[Lexeme],
-) -> Result<(Stmt, &[Lexeme]), ParseFault>
+fn assignment(alloc: Global, lexemes: &[Lexeme]) -> Result<(Stmt, &[Lexeme]), ParseFault>
     ensures value { Gives (λ x. (before x.0 done, x.1.now)) result (spec.parse_assign lexemes.now) }
     ensures shorter { IfOk result (λ x. length x.1.now < length lexemes.now) }
 {
@@ -206,10 +183,7 @@ fn assignment(
 
 /// `NAME = VALUE;`
 #[tactic(auto, unfolding(crate::specs::Statements::valued))]
-fn valued(
-    alloc: Global,
-    lexemes: &[Lexeme],
-) -> Result<(Name, Expr, &[Lexeme]), ParseFault>
+fn valued(alloc: Global, lexemes: &[Lexeme]) -> Result<(Name, Expr, &[Lexeme]), ParseFault>
     ensures value { Gives (λ x. ((x.0, term x.1), x.2.now)) result (spec.valued lexemes.now) }
     ensures shorter { IfOk result (λ x. length x.2.now < length lexemes.now) }
 {
@@ -228,10 +202,7 @@ fn valued(
 
 /// `receive [..]`, or nothing.
 #[tactic(auto, unfolding(crate::specs::Statements::parse_receives))]
-fn receives(
-    alloc: Global,
-    lexemes: &[Lexeme],
-) -> Result<(Receives, &[Lexeme]), ParseFault>
+fn receives(alloc: Global, lexemes: &[Lexeme]) -> Result<(Receives, &[Lexeme]), ParseFault>
     ensures value { Gives (λ x. (x.0, x.1.now)) result (spec.parse_receives lexemes.now) }
     ensures shorter { IfOk result (λ x. length x.1.now ≤ length lexemes.now) }
 {
@@ -250,10 +221,7 @@ fn receives(
 
 /// Receives with commas between them.
 #[tactic(auto, using(crate::proofs::ReceiveSteps::receive_equations))]
-fn receive_list(
-    alloc: Global,
-    lexemes: &[Lexeme],
-) -> Result<(Receives, &[Lexeme]), ParseFault>
+fn receive_list(alloc: Global, lexemes: &[Lexeme]) -> Result<(Receives, &[Lexeme]), ParseFault>
     ensures value { Gives (λ x. (x.0, x.1.now)) result (spec.parse_list [] lexemes.now) }
     ensures shorter { IfOk result (λ x. length x.1.now < length lexemes.now) }
 {

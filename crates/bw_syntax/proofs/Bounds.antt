@@ -1,6 +1,6 @@
 -- What is written in a text is no longer than the text.
-use Rattle.std.proofs.Common.{◌≡◌, ℕ, ◌+◌, ◌*◌, ◌≤◌, ◌<◌, ◌^◌, List, [], ◌∷◌, ◌++◌, length, take, drop, map, refl, sym, ap, ◌∙◌, subst, arith, codes, length-append, length-take}
-use Rattle.std.specs.Prelude.{⊤, ◌-◌}
+use Rattle.std.proofs.Common.{◌≡◌, ℕ, ◌+◌, ◌≤◌, ◌<◌, ◌^◌, List, [], ◌∷◌, ◌++◌, length, drop, map, sym, ap, subst, arith, codes, length-append, length-take}
+use Rattle.std.specs.Prelude.{◌-◌}
 use Rattle.std.specs.List.{slice_range}
 use Rattle.std.proofs.lemmas.List.{length-drop}
 use Rattle.bw_lang.specs.declared.declaration.Draft.{Draft}
@@ -16,8 +16,8 @@ use Rattle.bw_lang.specs.Code.{Code, done, declare, assign, if_then, if_else, wh
 use Rattle.bw_lang.specs.CodeNames.{local_names}
 use Rattle.bw_lang.specs.Drafts.{spell_literal, spell_draft, spell_drafts, spell_service}
 use Rattle.bw_lang.specs.Lexemes.{lexeme, lexeme_of}
-use Rattle.bw_lang.specs.Reads.{lexemes, IsText}
-use Rattle.bw_lang.specs.Spelling.{spell, spell_test, spell_receives, spell_code}
+use Rattle.bw_lang.specs.Reads.{IsText}
+use Rattle.bw_lang.specs.Spelling.{spell_code}
 use Rattle.bw_parse.proofs.CodeSteps.{code_longer}
 use Rattle.bw_parse.proofs.Steps.{longer}
 use Rattle.bw_syntax.specs.Stages.{IsBounded, AreBounded}
@@ -55,8 +55,15 @@ locals_within (if_then t y r) k =
 locals_within (if_else t y n r) k =
     let b = lex.Sign (codes "}") ∷ spell_code r k in
     let a = lex.Sign (codes "}") ∷ lex.Word (codes "else") ∷ lex.Sign (codes "{") ∷ spell_code n b in
-    omega (arith, length-append (local_names y) (local_names n ++ local_names r), length-append (local_names n) (local_names r),
-      longer t (lex.Sign (codes ")") ∷ lex.Sign (codes "{") ∷ spell_code y a), locals_within y a, locals_within n b, locals_within r k)
+    omega (
+      arith,
+      length-append (local_names y) (local_names n ++ local_names r),
+      length-append (local_names n) (local_names r),
+      longer t (lex.Sign (codes ")") ∷ lex.Sign (codes "{") ∷ spell_code y a),
+      locals_within y a,
+      locals_within n b,
+      locals_within r k,
+    )
 locals_within (while_loop t b r) k =
     let a = lex.Sign (codes "}") ∷ spell_code r k in
     omega (arith, length-append (local_names b) (local_names r), longer t (lex.Sign (codes ")") ∷ lex.Sign (codes "{") ∷ spell_code b a), locals_within b a, locals_within r k)
@@ -86,9 +93,10 @@ draft_shorter (drafts.Session s) k = omega (arith, code_longer s.body (lex.Sign 
 
 drafts_bounded : (ds : List Draft) (k : List Lexeme) → AllFit 1048576 (spell_drafts ds k) → length (spell_drafts ds k) < 2 ^ 64 → AreBounded ds
 drafts_bounded [] k h l = tt
-drafts_bounded (d ∷ ds) k h l =
-    (draft_bounded d (spell_drafts ds k) h l,
-    drafts_bounded ds k (draft_rest 1048576 d (spell_drafts ds k) h) (omega (arith, draft_shorter d (spell_drafts ds k))))
+drafts_bounded (d ∷ ds) k h l = (
+  draft_bounded d (spell_drafts ds k) h l,
+  drafts_bounded ds k (draft_rest 1048576 d (spell_drafts ds k) h) (omega (arith, draft_shorter d (spell_drafts ds k))),
+)
 
 pub service_bounded : (bytes : List ℕ) (ls : List Lexeme) (name : List ℕ) (ds : List Draft) → IsText bytes ls → ls ≡ spell_service name ds → length ls < 2 ^ 64 → AreBounded ds
 service_bounded bytes ls name ds t e l =

@@ -1,39 +1,31 @@
 -- A text has one answer.
-use Rattle.std.proofs.Common.{◌≡◌, ◌≢◌, ◌≤◌, ◌<◌, ◌⊎◌, inl, inr, ℕ, List, [], ◌∷◌, length, map, Option, Some, None, refl, sym, ap, ◌∙◌, subst, arith}
+use Rattle.std.proofs.Common.{◌≡◌, ◌≢◌, ◌<◌, ◌⊎◌, inl, inr, ℕ, List, [], ◌∷◌, length, map, Option, Some, None, refl, sym, ap, ◌∙◌, subst, arith}
 use Rattle.bw_lang.specs.declared.declaration.Declaration.{Declaration}
 use Rattle.bw_lang.specs.declared.declaration.Declaration.TheVariants as declarations
 use Rattle.bw_lang.specs.declared.declaration.Draft.{Draft}
 use Rattle.bw_lang.specs.declared.declaration.Draft.TheVariants as drafts
 use Rattle.bw_lang.specs.declared.limits.Limit.{Limit}
-use Rattle.bw_lang.specs.declared.service.Service.{Service}
-use Rattle.bw_lang.specs.declared.service.Template.{Template}
 use Rattle.bw_lang.specs.declared.token.Lexeme.{Lexeme}
 use Rattle.bw_lang.specs.Brackets.{too_deep}
-use Rattle.bw_lang.specs.Drafts.{AreFormed, spell_service}
 use Rattle.bw_lang.specs.Forest.{Forest}
 use Rattle.bw_lang.specs.Lexemes.{lexeme}
 use Rattle.bw_lang.specs.Limits.{too_many}
 use Rattle.bw_lang.specs.Names.{with_names}
 use Rattle.bw_lang.specs.PieceGaps.{gap_names}
-use Rattle.bw_lang.specs.Reads.{Reads, IsText, IsDraft, IsInside, IsRead, AreRead, service_of}
+use Rattle.bw_lang.specs.Reads.{IsText, IsDraft, IsInside, IsRead, AreRead, service_of}
 use Rattle.bw_lang.specs.Templates.{IsTemplate}
-use Rattle.bw_lang.specs.Words.{IsName}
 use Rattle.bw_lex.specs.Refusals.{IsRefused as IsUntokened}
 use Rattle.bw_lex.specs.declared.LexFault.{LexFault}
-use Rattle.bw_lex.specs.Tokens.{tokens_of}
 use Rattle.bw_lex.proofs.Cutting.{cut_once, read_exactly}
 use Rattle.bw_lex.proofs.Refusing.{refused_exactly}
 use Rattle.bw_parse.proofs.Drafts.{service_gives}
 use Rattle.bw_parse.specs.Services.{parse_service}
-use Rattle.bw_tmpl.specs.Refusals.{IsRefused}
-use Rattle.bw_tmpl.specs.declared.fault.TmplFault.{TmplFault}
-use Rattle.bw_tmpl.specs.declared.fault.TmplFault.TheVariants as templates
 use Rattle.bw_tmpl.proofs.Deciding.{one_template, not_both, one_reason}
 use Rattle.bw_tmpl.proofs.Spelled.{spelled_once}
 use Rattle.bw_syntax.specs.declared.fault.SyntaxFault.{SyntaxFault}
 use Rattle.bw_syntax.specs.declared.fault.SyntaxFault.TheVariants as faults
 use Rattle.bw_syntax.specs.Laws.{ReadsOnce, NotBoth, OneReason}
-use Rattle.bw_syntax.specs.Refusals.{IsUnread, IsFirstUnread, SpellNothing, IsDeep, IsNoService, IsUnreadDraft, IsGreat, Refuses, IsSameFault}
+use Rattle.bw_syntax.specs.Refusals.{IsUnread, IsFirstUnread, IsDeep, IsNoService, IsUnreadDraft, IsGreat, Refuses}
 
 some_is : {A : Type 0} (x y : A) (o : Option A) → o ≡ Some x → o ≡ Some y → x ≡ y
 some_is x y o p q = cc
@@ -49,8 +41,8 @@ one_text bytes ls ms t u = t.says ∙ ap (map (lexeme bytes)) (cut_once bytes t.
 one_draft : (bytes n m : List ℕ) (ds es : List Draft) → IsDraft bytes n ds → IsDraft bytes m es → (n ≡ m) × (ds ≡ es)
 one_draft bytes n m ds es d e =
     let same = some_is (n, ds) (m, es) (parse_service d.lexemes)
-      (ap parse_service d.spelled ∙ service_gives n ds d.named d.formed)
-      (ap parse_service (one_text bytes d.lexemes e.lexemes d.text e.text ∙ e.spelled) ∙ service_gives m es e.named e.formed) in
+    (ap parse_service d.spelled ∙ service_gives n ds d.named d.formed)
+    (ap parse_service (one_text bytes d.lexemes e.lexemes d.text e.text ∙ e.spelled) ∙ service_gives m es e.named e.formed) in
     (ap (λ x. x.0) same, ap (λ x. x.1) same)
 
 one_inside : (gaps next last : List (List ℕ)) (inside : List ℕ) (f g : Forest) → IsInside gaps inside f next → IsInside gaps inside g last → (f ≡ g) × (next ≡ last)

@@ -1,8 +1,6 @@
 -- What follows the front of lexemes is among them.
-use Rattle.std.proofs.Common.{◌≡◌, ℕ, ◌+◌, ◌*◌, ◌≤◌, ◌<◌, ◌^◌, List, [], ◌∷◌, ◌++◌, length, map, refl, sym, ap, ◌∙◌, subst, arith, codes, length-append}
-use Rattle.std.specs.Prelude.{All, ⊤}
-use Rattle.bw_lang.specs.declared.declaration.Declaration.{Declaration}
-use Rattle.bw_lang.specs.declared.declaration.Declaration.TheVariants as declarations
+use Rattle.std.proofs.Common.{ℕ, ◌≤◌, List, [], ◌∷◌, length, codes}
+use Rattle.std.specs.Prelude.{⊤}
 use Rattle.bw_lang.specs.declared.declaration.Draft.{Draft}
 use Rattle.bw_lang.specs.declared.declaration.Draft.TheVariants as drafts
 use Rattle.bw_lang.specs.declared.declaration.Written.{Written}
@@ -10,20 +8,10 @@ use Rattle.bw_lang.specs.declared.declaration.Written.TheVariants as written
 use Rattle.bw_lang.specs.declared.stmt.Receive.{Receive}
 use Rattle.bw_lang.specs.declared.token.Lexeme.{Lexeme}
 use Rattle.bw_lang.specs.declared.token.Lexeme.TheVariants as lex
-use Rattle.bw_lang.specs.declared.token.Token.{Token}
-use Rattle.bw_lang.specs.declared.token.TokenKind.{TokenKind}
-use Rattle.bw_lang.specs.declared.token.TokenKind.TheVariants as kinds
 use Rattle.bw_lang.specs.Code.{Code, done, declare, assign, if_then, if_else, while_loop, block, show, exit}
-use Rattle.bw_lang.specs.CodeNames.{local_names}
-use Rattle.bw_lang.specs.Drafts.{spell_literal, spell_draft, spell_drafts, spell_service}
-use Rattle.bw_lang.specs.Lexemes.{lexeme, lexeme_of}
-use Rattle.bw_lang.specs.Limits.{templates_of, sessions_of}
-use Rattle.bw_lang.specs.Measures.{constant_weight}
-use Rattle.bw_lang.specs.Reads.{lexemes, IsText, AreRead, IsRead}
+use Rattle.bw_lang.specs.Drafts.{spell_literal, spell_draft}
 use Rattle.bw_lang.specs.Spelling.{spell, spell_pairs, spell_each, spell_receives, spell_test, spell_code}
 use Rattle.bw_lang.specs.Term.{Term, int, truth, string, name, paren, not, neg, binary, call, plug, Fillings, no_more, filling}
-use Rattle.bw_parse.proofs.Steps.{longer}
-use Rattle.bw_syntax.specs.Stages.{IsBounded}
 
 -- a template's inside has at most so many bytes
 abbrev pub Fits : ℕ → Lexeme → Type 0

@@ -1,6 +1,6 @@
 -- What was read from bounded declarations is bounded.
-use Rattle.std.proofs.Common.{◌≡◌, ℕ, ◌+◌, ◌*◌, ◌≤◌, ◌<◌, ◌^◌, List, [], ◌∷◌, length, sym, subst, arith}
-use Rattle.std.specs.Prelude.{All, ⊤}
+use Rattle.std.proofs.Common.{ℕ, ◌<◌, ◌^◌, List, [], ◌∷◌, length, sym, subst, arith}
+use Rattle.std.specs.Prelude.{All}
 use Rattle.std.proofs.lemmas.List.Elements.{All-nil, All-cons}
 use Rattle.bw_lang.specs.declared.declaration.Declaration.{Declaration}
 use Rattle.bw_lang.specs.declared.declaration.Declaration.TheVariants as declarations
@@ -13,7 +13,7 @@ use Rattle.bw_lang.specs.Limits.{templates_of, sessions_of}
 use Rattle.bw_lang.specs.Measures.{constant_weight}
 use Rattle.bw_lang.specs.Reads.{AreRead}
 use Rattle.bw_tmpl.proofs.Weights.{items_bounded}
-use Rattle.bw_syntax.specs.Stages.{IsBounded, AreBounded}
+use Rattle.bw_syntax.specs.Stages.{AreBounded}
 
 abbrev pub IsLight : Template → Type 0
 IsLight t = constant_weight t.items < 2 ^ 64

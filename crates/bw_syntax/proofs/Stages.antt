@@ -1,15 +1,14 @@
 -- The steps of reading make the answer.
-use Rattle.std.proofs.Common.{◌≡◌, ◌≢◌, ◌≤◌, ◌⊎◌, inl, inr, ℕ, List, [], ◌∷◌, length, Option, Some, None, Ok, Err, refl, sym, ap, ◌∙◌, subst}
+use Rattle.std.proofs.Common.{◌≡◌, ◌≢◌, ◌⊎◌, inl, inr, ℕ, List, [], ◌∷◌, length, Ok, Err, refl, sym, ap, subst}
 use Rattle.std.specs.Prelude.{Result, IfOk, IfErr, ⊤}
-use Rattle.bw_lang.specs.declared.declaration.Declaration.{Declaration}
 use Rattle.bw_lang.specs.declared.declaration.Draft.{Draft}
 use Rattle.bw_lang.specs.declared.declaration.Draft.TheVariants as drafts
 use Rattle.bw_lang.specs.declared.service.Service.{Service}
 use Rattle.bw_lang.specs.declared.token.Lexeme.{Lexeme}
-use Rattle.bw_lang.specs.Reads.{Reads, IsText, IsDraft, IsRead, service_of}
+use Rattle.bw_lang.specs.Reads.{Reads, IsText, IsDraft}
 use Rattle.bw_syntax.specs.declared.fault.SyntaxFault.{SyntaxFault}
 use Rattle.bw_syntax.specs.declared.fault.SyntaxFault.TheVariants as faults
-use Rattle.bw_syntax.specs.Refusals.{IsUnread, IsFirstUnread, IsDeep, IsNoService, IsUnreadDraft, IsGreat, Refuses, IsSameFault, IsSameAnswer}
+use Rattle.bw_syntax.specs.Refusals.{IsUnread, IsFirstUnread, Refuses, IsSameFault, IsSameAnswer}
 use Rattle.bw_syntax.specs.Stages.{IsUntold, IsUnparsed, IsParsed, IsRefusedDraft, IsServiceOf}
 use Rattle.bw_syntax.proofs.OneAnswer.{reads_once, read_or_refused, one_reason_each}
 

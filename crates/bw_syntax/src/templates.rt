@@ -17,11 +17,7 @@ pub struct Declared {
 }
 
 /// A declaration, with its template read, where it is one. The names of its gaps are taken into `gaps`.
-fn read_one(
-    alloc: Global,
-    draft: Draft,
-    gaps: &mut GapNames,
-) -> Result<Declaration, SyntaxFault>
+fn read_one(alloc: Global, draft: Draft, gaps: &mut GapNames) -> Result<Declaration, SyntaxFault>
     requires { IsFormed draft }
     ensures read { IfOk result (λ d. IsRead gaps.old draft d gaps.new) }
     ensures unread { IfErr result (IsUnread draft) }

@@ -1,4 +1,4 @@
-use Rattle.std.proofs.Common.{◌≡◌, ◌≤◌, length, []}
+use Rattle.std.proofs.Common.{◌≡◌, length, []}
 use Rattle.bw_parse.specs.Services.{parse_drafts}
 use Rattle.bw_parse.proofs.services.drafts.Given as goal
 

@@ -1,4 +1,4 @@
-use Rattle.std.proofs.Common.{◌∙◌, sym, ap, Some}
+use Rattle.std.proofs.Common.{◌∙◌, sym, ap}
 use Rattle.bw_parse.specs.Services.{parse_service}
 use Rattle.bw_parse.proofs.Drafts.{service_gives}
 use Rattle.bw_parse.proofs.FrontLaws.{some_is}

@@ -11,9 +11,9 @@ returns-in-Err-clause-refused c = first_unread_refuses c.args.draft.name c.args.
 pub too_many-requires-clause-locals : goal.too_many-requires-clause-locals
 too_many-requires-clause-locals c =
     subst (λ rs. All HasFewLocals (sessions_of rs)) (sym c.deref.ensures.value)
-      (read_small [] c.in-Ok.declared.gaps c.args.draft.drafts.items c.in-Ok.declared.declarations.items c.in-Ok.ensures.read c.requires.bounded).sessions
+    (read_small [] c.in-Ok.declared.gaps c.args.draft.drafts.items c.in-Ok.declared.declarations.items c.in-Ok.ensures.read c.requires.bounded).sessions
 
 pub too_many-requires-clause-weights : goal.too_many-requires-clause-weights
 too_many-requires-clause-weights c =
     subst (λ rs. All IsLight (templates_of rs)) (sym c.deref.ensures.value)
-      (read_small [] c.in-Ok.declared.gaps c.args.draft.drafts.items c.in-Ok.declared.declarations.items c.in-Ok.ensures.read c.requires.bounded).templates
+    (read_small [] c.in-Ok.declared.gaps c.args.draft.drafts.items c.in-Ok.declared.declarations.items c.in-Ok.ensures.read c.requires.bounded).templates
