@@ -16,3 +16,4 @@ pub mod Few
 pub mod SoundKinds
 pub mod SoundTemplates
 pub mod SoundNames
+pub mod CompleteKinds
