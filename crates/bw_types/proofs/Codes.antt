@@ -1,5 +1,5 @@
 -- The statements of a block, one after the other.
-use Rattle.std.proofs.Common.{◌≡◌, ℕ, zero, suc, ◌+◌, ◌-◌, ◌<◌, ◌≤◌, Bool, true, false, List, [], ◌∷◌, ◌++◌, length, get_or, take, drop, refl, ap, sym, ◌∙◌, arith, append_assoc, Option, Some, None}
+use Rattle.std.proofs.Common.{◌≡◌, ℕ, zero, suc, ◌+◌, ◌-◌, ◌<◌, ◌≤◌, false, List, [], ◌∷◌, ◌++◌, length, get_or, take, drop, refl, ap, sym, ◌∙◌, arith, append_assoc, Some, None}
 use Rattle.std.proofs.lemmas.List.{take_more, take-append-drop, append-nil, length-append}
 use Rattle.std.proofs.Math.Seq.{drop-append_seam}
 use denote.Param.Weighed.{at_most}
@@ -11,7 +11,6 @@ use Rattle.bw_lang.specs.declared.stmt.Stmt.TheVariants.{Declare, Assign, If, Wh
 use Rattle.bw_lang.specs.Code.{Code, done, declare, assign, if_then, if_else, while_loop, block, show, exit, append, code_size}
 use Rattle.bw_lang.specs.CodeFalls.{most_le-code_size}
 use Rattle.bw_lang.specs.CodeView.{before, code}
-use Rattle.bw_types.specs.declared.fault.TypeFault.{TypeFault}
 use Rattle.std.specs.Prelude.{slice_get}
 use Rattle.bw_lang.specs.Term.{Term}
 use Rattle.bw_lang.specs.TermView.{term}

@@ -1,7 +1,7 @@
 -- An expression that has a kind fails no test, and typed statements fail none.
-use Rattle.std.proofs.Common.{◌≡◌, ◌≢◌, ℕ, ◌+◌, ◌<◌, Bool, true, false, ◌⊎◌, inl, inr, List, [], ◌∷◌, ◌++◌, length, get_or, zero, suc, Option, Some, None, refl, ap, sym, ◌∙◌, arith}
-use Rattle.std.specs.Prelude.{not, ◌||◌, if◌then◌else◌}
-use Rattle.std.specs.List.{All, Contains, list_any}
+use Rattle.std.proofs.Common.{◌≡◌, ℕ, Bool, true, false, inl, inr, List, [], ◌∷◌, ◌++◌, suc, Option, Some, refl, ap, sym, ◌∙◌, arith}
+use Rattle.std.specs.Prelude.{◌||◌}
+use Rattle.std.specs.List.{All, Contains}
 use Rattle.std.proofs.lemmas.List.Elements.{All-head, All-tail}
 use Rattle.bw_lang.specs.declared.service.Service.{Service}
 use Rattle.bw_lang.specs.declared.stmt.Kind.{Kind}
@@ -15,7 +15,7 @@ use Rattle.bw_types.specs.declared.fault.GapKind.{GapKind}
 use Rattle.bw_types.specs.declared.fault.GapKind.TheVariants.{Content, Attribute}
 use Rattle.bw_types.specs.declared.fault.TypeFault.{TypeFault}
 use Rattle.bw_types.specs.declared.fault.TypeFault.TheVariants as faults
-use Rattle.bw_types.specs.ExpressionFaults.{OpSort, joins_truths, tests_equality, compares, adds, computes, op_sort, op_kind, fun_takes, fun_gives, kind_of, demand, demand_same, demand_no_document, demand_sum, left_demand, right_demand, gap_demand, gap_unknown, name_unknown, faults_in, faults_in_pairs, wanted}
+use Rattle.bw_types.specs.ExpressionFaults.{OpSort, joins_truths, tests_equality, compares, adds, computes, op_sort, op_kind, fun_takes, kind_of, demand, demand_same, demand_sum, left_demand, right_demand, gap_demand, gap_unknown, name_unknown, faults_in, faults_in_pairs, wanted}
 use Rattle.bw_types.specs.Faults.{code_faults, receive_faults, local_repeated}
 use Rattle.bw_types.specs.Gaps.{kind_of_gap}
 use Rattle.bw_types.specs.Scopes.{Scope, is_among, declared_names, name_kind, variable_kind, with_local, behind}
@@ -77,10 +77,11 @@ Passes s k e kind = (faults_in s k e ≡ []) × (kind_of s k e ≡ Some kind)
 
 binary_passes : (s : Service) (k : Scope) (sort : OpSort) (l r : Term) (side kind : Kind) → Passes s k l side → Passes s k r side → Takes sort side kind
     → (faults_in s k l ++ (left_demand sort (kind_of s k l) ++ (faults_in s k r ++ right_demand sort (kind_of s k l) (kind_of s k r))) ≡ []) × (op_kind sort (kind_of s k l) ≡ Some kind)
-binary_passes s k sort l r side kind p q h =
-    (none_of_both (faults_in s k l) _ p.0 (none_of_both (left_demand sort (kind_of s k l)) _ (ap (left_demand sort) p.1 ∙ left_met sort side kind h)
-     (none_of_both (faults_in s k r) _ q.0 (ap (λ o. right_demand sort o (kind_of s k r)) p.1 ∙ ap (right_demand sort (Some side)) q.1 ∙ right_met sort side kind h))),
-     ap (op_kind sort) p.1 ∙ gives sort side kind h)
+binary_passes s k sort l r side kind p q h = (
+  none_of_both (faults_in s k l) _ p.0 (none_of_both (left_demand sort (kind_of s k l)) _ (ap (left_demand sort) p.1 ∙ left_met sort side kind h)
+      (none_of_both (faults_in s k r) _ q.0 (ap (λ o. right_demand sort o (kind_of s k r)) p.1 ∙ ap (right_demand sort (Some side)) q.1 ∙ right_met sort side kind h))),
+  ap (op_kind sort) p.1 ∙ gives sort side kind h,
+)
 
 mutual
   pub kind_passes : (s : Service) (k : Scope) (e : Term) (kind : Kind) → HasKind s k e kind → Passes s k e kind

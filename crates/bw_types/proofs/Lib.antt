@@ -17,3 +17,4 @@ pub mod SoundKinds
 pub mod SoundTemplates
 pub mod SoundNames
 pub mod CompleteKinds
+pub mod CompleteService
