@@ -20,6 +20,7 @@ use Rattle.bw_lang.specs.declared.stmt.Kind.TheVariants as kinds
 use Rattle.bw_types.specs.Places.{after, outside}
 use Rattle.bw_lang.specs.CodeNames.{local_names}
 use Rattle.bw_types.specs.Scopes.{Scope, with_local, behind, variable_kind}
+use Rattle.bw_types.proofs.Joined.{behind_one}
 
 -- ---- one statement more
 
@@ -47,9 +48,6 @@ after-append k (while_loop t y a) b = after-append (behind k y) a b
 after-append k (block y a) b = after-append (behind k y) a b
 after-append k (show p rs a) b = after-append k a b
 after-append k (exit p a) b = after-append k a b
-
-behind_one : {A : Type 0} (a b c d : List A) → b ≡ c ++ d → a ++ b ≡ (a ++ c) ++ d
-behind_one a b c d e = ap (λ l. a ++ l) e ∙ sym (append_assoc a c d)
 
 pub faults-append : (s : Service) (k : Scope) (a b : Code) → code_faults s k (append a b) ≡ code_faults s k a ++ code_faults s (after k a) b
 faults-append s k done b = refl

@@ -11,9 +11,7 @@ use Rattle.bw_types.specs.ExpressionFaults.{demand}
 use Rattle.bw_types.specs.Faults.{code_faults, ends_in_exit, literal_kind, literal_unknown, shared_faults, session_faults}
 use Rattle.bw_types.specs.Scopes.{is_among, no_locals}
 use Rattle.bw_types.specs.TemplateFaults.{fault_if}
-
-behind_one : {A : Type 0} (a b c d : List A) → b ≡ c ++ d → a ++ b ≡ (a ++ c) ++ d
-behind_one a b c d e = ap (λ l. a ++ l) e ∙ sym (append_assoc a c d)
+use Rattle.bw_types.proofs.Joined.{behind_one}
 
 pub shared-append : (s : Service) (E : List (List ℕ)) (xs ys : List Shared) → shared_faults s E (xs ++ ys) ≡ shared_faults s E xs ++ shared_faults s (E ++ map (λ v. v.name) xs) ys
 shared-append s E [] ys = ap (λ e. shared_faults s e ys) (sym (append-nil E))

@@ -18,3 +18,4 @@ pub mod SoundTemplates
 pub mod SoundNames
 pub mod CompleteKinds
 pub mod CompleteService
+pub mod Joined

@@ -23,6 +23,7 @@ use Rattle.bw_types.specs.TemplateFaults.{Front, past, nothing_in_front, fault_i
 use Rattle.bw_types.specs.Typing.{EachElement}
 use Rattle.bw_types.proofs.Seek.{gap_kind-append, beside-append}
 use Rattle.bw_types.proofs.SoundKinds.{nothing_first, nothing_behind, passes}
+use Rattle.bw_types.proofs.Joined.{past-past, past_nothing}
 
 -- ---- a look-up that finds the kind of each pair of a list
 
@@ -112,12 +113,6 @@ element_more t names f tag xs h a =
       gaps = attrs_more names f.gaps xs (nothing_behind (field_faults f.fields (field_of tag xs)) _ d) a.gaps;
       fields = fields_more f.fields (control_name tag xs) (field_kind tag xs) (nothing_first _ _ d) a.fields;
     }
-
-past-past : (f : Front) (u v : List (ℕ × GapKind)) (m o : List (List ℕ × FieldKind)) → past (past f u m) v o ≡ past f (u ++ v) (m ++ o)
-past-past f u v m o = ap (λ l. record { gaps = l; fields = (f.fields ++ m) ++ o }) (append_assoc f.gaps u v) ∙ ap (λ l. record { gaps = f.gaps ++ (u ++ v); fields = l }) (append_assoc f.fields m o)
-
-past_nothing : (f : Front) → past f [] [] ≡ f
-past_nothing f = ap (λ l. record { gaps = l; fields = f.fields ++ [] }) (append-nil f.gaps) ∙ ap (λ l. record { gaps = f.gaps; fields = l }) (append-nil f.fields)
 
 gap_past : (names : List (List ℕ)) (f : Front) (g : ℕ) → gap_fault names f.gaps g Content ≡ [] → Consistent f → Consistent (past f ((g, Content) ∷ []) [])
 gap_past names f g h a = record { gaps = gap_more names f.gaps g Content h a.gaps; fields = rw (append-nil f.fields) a.fields }
