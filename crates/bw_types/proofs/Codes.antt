@@ -1,5 +1,5 @@
 -- The statements of a block, one after the other.
-use Rattle.std.proofs.Common.{◌≡◌, ℕ, zero, suc, ◌+◌, ◌-◌, ◌<◌, ◌≤◌, Bool, true, false, List, [], ◌∷◌, ◌++◌, length, get_or, take, drop, refl, ap, sym, ◌∙◌, arith, append_assoc, Option, Some, None}
+use Rattle.std.proofs.Common.{◌≡◌, ℕ, zero, suc, ◌+◌, ◌-◌, ◌<◌, ◌≤◌, false, List, [], ◌∷◌, ◌++◌, length, get_or, take, drop, refl, ap, sym, ◌∙◌, arith, append_assoc, Some, None}
 use Rattle.std.proofs.lemmas.List.{take_more, take-append-drop, append-nil, length-append}
 use Rattle.std.proofs.Math.Seq.{drop-append_seam}
 use denote.Param.Weighed.{at_most}
@@ -11,7 +11,6 @@ use Rattle.bw_lang.specs.declared.stmt.Stmt.TheVariants.{Declare, Assign, If, Wh
 use Rattle.bw_lang.specs.Code.{Code, done, declare, assign, if_then, if_else, while_loop, block, show, exit, append, code_size}
 use Rattle.bw_lang.specs.CodeFalls.{most_le-code_size}
 use Rattle.bw_lang.specs.CodeView.{before, code}
-use Rattle.bw_types.specs.declared.fault.TypeFault.{TypeFault}
 use Rattle.std.specs.Prelude.{slice_get}
 use Rattle.bw_lang.specs.Term.{Term}
 use Rattle.bw_lang.specs.TermView.{term}
@@ -21,6 +20,7 @@ use Rattle.bw_lang.specs.declared.stmt.Kind.TheVariants as kinds
 use Rattle.bw_types.specs.Places.{after, outside}
 use Rattle.bw_lang.specs.CodeNames.{local_names}
 use Rattle.bw_types.specs.Scopes.{Scope, with_local, behind, variable_kind}
+use Rattle.bw_types.proofs.Joined.{behind_one}
 
 -- ---- one statement more
 
@@ -48,9 +48,6 @@ after-append k (while_loop t y a) b = after-append (behind k y) a b
 after-append k (block y a) b = after-append (behind k y) a b
 after-append k (show p rs a) b = after-append k a b
 after-append k (exit p a) b = after-append k a b
-
-behind_one : {A : Type 0} (a b c d : List A) → b ≡ c ++ d → a ++ b ≡ (a ++ c) ++ d
-behind_one a b c d e = ap (λ l. a ++ l) e ∙ sym (append_assoc a c d)
 
 pub faults-append : (s : Service) (k : Scope) (a b : Code) → code_faults s k (append a b) ≡ code_faults s k a ++ code_faults s (after k a) b
 faults-append s k done b = refl

@@ -1,5 +1,5 @@
 -- The faults of shared variables and of sessions, one after the other.
-use Rattle.std.proofs.Common.{◌≡◌, ℕ, ◌+◌, ◌<◌, List, [], ◌∷◌, ◌++◌, length, get_or, take, drop, map, refl, ap, sym, ◌∙◌, append_assoc}
+use Rattle.std.proofs.Common.{◌≡◌, ℕ, ◌+◌, ◌<◌, List, [], ◌∷◌, ◌++◌, length, get_or, take, drop, map, ap, sym, ◌∙◌, append_assoc}
 use Rattle.std.specs.Prelude.{not}
 use Rattle.std.proofs.lemmas.List.{take_more, take-append-drop, append-nil}
 use Rattle.bw_lang.specs.declared.service.Service.{Service}
@@ -11,9 +11,7 @@ use Rattle.bw_types.specs.ExpressionFaults.{demand}
 use Rattle.bw_types.specs.Faults.{code_faults, ends_in_exit, literal_kind, literal_unknown, shared_faults, session_faults}
 use Rattle.bw_types.specs.Scopes.{is_among, no_locals}
 use Rattle.bw_types.specs.TemplateFaults.{fault_if}
-
-behind_one : {A : Type 0} (a b c d : List A) → b ≡ c ++ d → a ++ b ≡ (a ++ c) ++ d
-behind_one a b c d e = ap (λ l. a ++ l) e ∙ sym (append_assoc a c d)
+use Rattle.bw_types.proofs.Joined.{behind_one}
 
 pub shared-append : (s : Service) (E : List (List ℕ)) (xs ys : List Shared) → shared_faults s E (xs ++ ys) ≡ shared_faults s E xs ++ shared_faults s (E ++ map (λ v. v.name) xs) ys
 shared-append s E [] ys = ap (λ e. shared_faults s e ys) (sym (append-nil E))

@@ -1,5 +1,5 @@
 -- A service that some text reads as has few sessions.
-use Rattle.std.proofs.Common.{◌≡◌, ℕ, ◌<◌, ◌≤◌, Bool, true, false, cond, List, [], ◌∷◌, length, Option, Some, None, refl, ap, ◌∙◌, arith}
+use Rattle.std.proofs.Common.{◌≡◌, ℕ, ◌<◌, ◌≤◌, Bool, true, false, cond, List, [], ◌∷◌, length, Option, Some, None, refl, ap, arith}
 use Rattle.std.specs.Prelude.{nat_lt, option_map, position}
 use Rattle.std.specs.Coded.{le_prop}
 use Rattle.std.specs.Option.{option_or}

@@ -1,5 +1,5 @@
 -- The names of fields, one statement or item after the other.
-use Rattle.std.proofs.Common.{◌≡◌, ℕ, ◌+◌, ◌<◌, ◌≤◌, List, [], ◌∷◌, ◌++◌, length, get_or, take, map, refl, ap, sym, ◌∙◌, append_assoc}
+use Rattle.std.proofs.Common.{◌≡◌, ℕ, ◌+◌, ◌<◌, List, ◌++◌, length, get_or, take, map, refl, ap, sym, ◌∙◌}
 use Rattle.std.specs.Option.{option_to_list}
 use Rattle.std.proofs.lemmas.List.Sums.{fold-append}
 use Rattle.bw_lang.specs.declared.items.Item.{Item}
@@ -15,9 +15,7 @@ use Rattle.bw_lang.specs.View.{forest, before}
 use Rattle.bw_lang.proofs.Forests.{forest-take}
 use Rattle.bw_lang.specs.CodeNames.{received_fields}
 use Rattle.bw_types.proofs.Codes.{code-more}
-
-behind_one : {A : Type 0} (a b c d : List A) → b ≡ c ++ d → a ++ b ≡ (a ++ c) ++ d
-behind_one a b c d e = ap (λ l. a ++ l) e ∙ sym (append_assoc a c d)
+use Rattle.bw_types.proofs.Joined.{behind_one}
 
 -- taking names in, and then more
 pub takes_more : (k l m past here more : List (List ℕ)) → l ≡ with_names k past → m ≡ with_names l here → more ≡ past ++ here → m ≡ with_names k more

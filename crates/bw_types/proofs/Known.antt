@@ -1,5 +1,5 @@
 -- What look-ups in the tables of a service find.
-use Rattle.std.proofs.Common.{◌≡◌, ℕ, Bool, List, [], Option, ap, ◌∙◌}
+use Rattle.std.proofs.Common.{◌≡◌, ℕ, List, [], ap, ◌∙◌}
 use Rattle.bw_lang.specs.declared.service.Service.{Service}
 use Rattle.bw_lang.specs.declared.stmt.Kind.{Kind}
 use Rattle.bw_lang.specs.Names.{number}

@@ -16,3 +16,6 @@ pub mod Few
 pub mod SoundKinds
 pub mod SoundTemplates
 pub mod SoundNames
+pub mod CompleteKinds
+pub mod CompleteService
+pub mod Joined

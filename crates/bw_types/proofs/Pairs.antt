@@ -1,7 +1,6 @@
 -- The faults of the pairs of a plug.
 use Rattle.std.proofs.Common.{◌≡◌, ℕ, ◌+◌, ◌<◌, List, [], ◌∷◌, ◌++◌, length, get_or, take, drop, zero, suc, refl, ap, sym, ◌∙◌, arith, append_assoc}
-use Rattle.std.proofs.lemmas.List.{take_more, take-append-drop, append-nil}
-use Rattle.std.proofs.Math.Seq.{drop-cons}
+use Rattle.std.proofs.lemmas.List.{take_more, take-append-drop}
 use Rattle.bw_lang.specs.declared.expr.Pair.{Pair}
 use Rattle.bw_lang.specs.declared.service.Service.{Service}
 use Rattle.bw_lang.specs.Term.{nodes, nodes_in, filling, no_more}

@@ -1,7 +1,7 @@
 -- An expression in which no test fails has a kind, and statements in which none fails are typed.
-use Rattle.std.proofs.Common.{◌≡◌, ◌≢◌, ℕ, ◌<◌, Bool, true, false, ◌⊎◌, inl, inr, List, [], ◌∷◌, ◌++◌, length, get_or, Option, Some, None, refl, ap, sym, ◌∙◌}
-use Rattle.std.specs.Prelude.{not, ◌||◌, if◌then◌else◌}
-use Rattle.std.specs.List.{All, Contains, list_any}
+use Rattle.std.proofs.Common.{◌≡◌, ◌≢◌, ℕ, Bool, true, false, ◌⊎◌, inl, inr, List, [], ◌∷◌, ◌++◌, Option, Some, None, refl, ap, sym, ◌∙◌}
+use Rattle.std.specs.Prelude.{◌||◌}
+use Rattle.std.specs.List.{All, Contains}
 use Rattle.std.proofs.lemmas.List.Elements.{All-cons, All-nil}
 use Rattle.std.proofs.lemmas.List.Folds.{list_any_at}
 use Rattle.std.proofs.lemmas.Cmp.{nat_list_eq_equiv}
@@ -16,7 +16,7 @@ use Rattle.bw_lang.specs.Term.{Term, Fillings, no_more, filling}
 use Rattle.bw_types.specs.declared.fault.GapKind.{GapKind}
 use Rattle.bw_types.specs.declared.fault.GapKind.TheVariants.{Content, Attribute}
 use Rattle.bw_types.specs.declared.fault.TypeFault.{TypeFault}
-use Rattle.bw_types.specs.ExpressionFaults.{OpSort, joins_truths, tests_equality, compares, adds, computes, op_sort, op_kind, fun_takes, fun_gives, kind_of, demand, demand_same, demand_no_document, demand_sum, demand_content, left_demand, right_demand, gap_demand, gap_unknown, name_unknown, faults_in, faults_in_pairs, wanted}
+use Rattle.bw_types.specs.ExpressionFaults.{OpSort, joins_truths, tests_equality, compares, adds, computes, op_sort, op_kind, fun_takes, fun_gives, kind_of, demand, demand_same, demand_no_document, demand_sum, left_demand, right_demand, gap_demand, gap_unknown, name_unknown, faults_in, faults_in_pairs, wanted}
 use Rattle.bw_types.specs.Faults.{code_faults, receive_faults, local_repeated}
 use Rattle.bw_types.specs.Gaps.{kind_of_gap}
 use Rattle.bw_types.specs.Scopes.{Scope, is_among, declared_names, name_kind, variable_kind, with_local, behind}

@@ -1,6 +1,6 @@
 -- In a service in which no test fails names differ.
-use Rattle.std.proofs.Common.{◌≡◌, ◌≢◌, ℕ, ◌+◌, ◌<◌, Bool, true, false, ◌⊎◌, inl, inr, List, [], ◌∷◌, ◌++◌, length, get_or, zero, suc, Option, Some, None, map, refl, ap, sym, ◌∙◌, append_assoc, arith}
-use Rattle.std.specs.Prelude.{not, ◌||◌}
+use Rattle.std.proofs.Common.{◌≡◌, ◌≢◌, ℕ, ◌<◌, Bool, true, false, List, [], ◌∷◌, ◌++◌, length, get_or, zero, suc, Some, map, refl, ap, sym, ◌∙◌, append_assoc, arith}
+use Rattle.std.specs.Prelude.{not}
 use Rattle.std.specs.List.{All, AllPairs, Contains}
 use Rattle.std.proofs.lemmas.List.{append-nil}
 use Rattle.std.proofs.lemmas.List.Elements.{All-cons, All-nil, All-push}
@@ -16,14 +16,12 @@ use Rattle.bw_lang.specs.declared.stmt.Kind.TheVariants.{Int, Bool as Truth, Str
 use Rattle.bw_lang.specs.Code.{Code, done, declare, assign, if_then, if_else, while_loop, block, show, exit}
 use Rattle.bw_lang.specs.CodeNames.{local_names}
 use Rattle.bw_lang.specs.Controls.{fields}
-use Rattle.bw_types.specs.declared.fault.TypeFault.TheVariants as faults
 use Rattle.bw_types.specs.ExpressionFaults.{demand, faults_in, kind_of, name_unknown, demand_same, wanted}
 use Rattle.bw_types.specs.Faults.{code_faults, local_repeated, receive_faults, literal_kind, literal_unknown, shared_faults, session_faults, ends_in_exit}
 use Rattle.bw_types.specs.Gaps.{gap_uses}
 use Rattle.bw_types.specs.Scopes.{Scope, is_among, declared_names, template_kind, variable_kind, no_locals, with_local, behind}
 use Rattle.bw_types.specs.TemplateFaults.{Front, past, fault_if, items_faults, template_faults}
-use Rattle.bw_types.specs.Typing.{IsTypedSession}
-use Rattle.bw_types.proofs.SoundKinds.{nothing_first, nothing_behind, passes, not_among, either_false, is_known, is_demanded, code_typed}
+use Rattle.bw_types.proofs.SoundKinds.{nothing_first, nothing_behind, passes, not_among, either_false, is_known, is_demanded}
 
 abbrev pub Differ : List (List ℕ) → Type 0
 Differ names = AllPairs (λ v w. v ≢ w) names

@@ -1,11 +1,9 @@
 -- In templates in which no test fails each gap and each field has one kind, and each element is allowed.
-use Rattle.std.proofs.Common.{◌≡◌, ◌≢◌, ℕ, ◌+◌, ◌<◌, Bool, true, false, List, [], ◌∷◌, ◌++◌, length, get_or, Option, Some, None, map, refl, ap, sym, subst, ◌∙◌, append_assoc, arith}
-use Rattle.std.specs.Prelude.{◌==◌, if◌then◌else◌}
-use Rattle.std.specs.List.{All, AllPairs, Contains}
+use Rattle.std.proofs.Common.{◌≡◌, ℕ, false, List, [], ◌∷◌, ◌++◌, get_or, Option, Some, None, refl, ap, sym, subst, ◌∙◌, append_assoc, arith}
+use Rattle.std.specs.List.{All, AllPairs}
 use Rattle.std.specs.Option.{option_or}
 use Rattle.std.proofs.lemmas.List.{append-nil}
 use Rattle.std.proofs.lemmas.List.Elements.{All-cons, All-nil, All-push}
-use Rattle.std.proofs.lemmas.List.Quantifiers.{all_pairs_push}
 use Rattle.std.proofs.lemmas.Cmp.{nat_list_eq_equiv}
 use Rattle.std.proofs.lemmas.Bool.{eq-eqb}
 use Rattle.bw_lang.specs.declared.controls.FieldKind.{FieldKind}
@@ -16,7 +14,6 @@ use Rattle.bw_lang.specs.declared.items.AttrValue.TheVariants.{Fixed, Hole}
 use Rattle.bw_lang.specs.declared.service.Template.{Template}
 use Rattle.bw_lang.specs.Controls.{control_name, field_kind, named_kind, fields, field_of}
 use Rattle.bw_lang.specs.Forest.{Forest, none, text, gap, element}
-use Rattle.bw_lang.specs.Names.{same}
 use Rattle.bw_types.specs.declared.fault.GapKind.{GapKind}
 use Rattle.bw_types.specs.declared.fault.GapKind.TheVariants.{Content, Attribute}
 use Rattle.bw_types.specs.Gaps.{gap_kind, value_use, attr_uses, gap_uses, template_uses}
@@ -24,8 +21,9 @@ use Rattle.bw_types.specs.Scopes.{beside, is_among}
 use Rattle.bw_types.specs.Tables.{template_fields}
 use Rattle.bw_types.specs.TemplateFaults.{Front, past, nothing_in_front, fault_if, is_other_gap_kind, is_other_field_kind, gap_fault, value_fault, attr_faults, field_faults, is_reserved, is_file_input, is_bad_control, element_faults, items_faults, template_faults}
 use Rattle.bw_types.specs.Typing.{EachElement}
-use Rattle.bw_types.proofs.Seek.{gap_kind-append, beside-append, same_is}
+use Rattle.bw_types.proofs.Seek.{gap_kind-append, beside-append}
 use Rattle.bw_types.proofs.SoundKinds.{nothing_first, nothing_behind, passes}
+use Rattle.bw_types.proofs.Joined.{past-past, past_nothing}
 
 -- ---- a look-up that finds the kind of each pair of a list
 
@@ -115,12 +113,6 @@ element_more t names f tag xs h a =
       gaps = attrs_more names f.gaps xs (nothing_behind (field_faults f.fields (field_of tag xs)) _ d) a.gaps;
       fields = fields_more f.fields (control_name tag xs) (field_kind tag xs) (nothing_first _ _ d) a.fields;
     }
-
-past-past : (f : Front) (u v : List (ℕ × GapKind)) (m o : List (List ℕ × FieldKind)) → past (past f u m) v o ≡ past f (u ++ v) (m ++ o)
-past-past f u v m o = ap (λ l. record { gaps = l; fields = (f.fields ++ m) ++ o }) (append_assoc f.gaps u v) ∙ ap (λ l. record { gaps = f.gaps ++ (u ++ v); fields = l }) (append_assoc f.fields m o)
-
-past_nothing : (f : Front) → past f [] [] ≡ f
-past_nothing f = ap (λ l. record { gaps = l; fields = f.fields ++ [] }) (append-nil f.gaps) ∙ ap (λ l. record { gaps = f.gaps; fields = l }) (append-nil f.fields)
 
 gap_past : (names : List (List ℕ)) (f : Front) (g : ℕ) → gap_fault names f.gaps g Content ≡ [] → Consistent f → Consistent (past f ((g, Content) ∷ []) [])
 gap_past names f g h a = record { gaps = gap_more names f.gaps g Content h a.gaps; fields = rw (append-nil f.fields) a.fields }

@@ -20,10 +20,7 @@ use Rattle.bw_types.specs.Scopes.{is_among}
 use Rattle.bw_types.specs.Tables.{noted, with_uses, template_fields}
 use Rattle.bw_types.specs.TemplateFaults.{Front, past, fault_if, gap_fault, value_fault, attr_faults, field_faults, is_reserved, is_file_input, is_bad_control, element_faults, items_faults, template_faults}
 use Rattle.bw_types.proofs.Alike.{items_noted, attrs_noted, templates_noted, noted-noted}
-
--- behind a list whose end is another list
-behind_one : {A : Type 0} (a b c d : List A) → b ≡ c ++ d → a ++ b ≡ (a ++ c) ++ d
-behind_one a b c d e = ap (λ l. a ++ l) e ∙ sym (append_assoc a c d)
+use Rattle.bw_types.proofs.Joined.{behind_one, past-past, past_nothing}
 
 -- ---- attributes
 
@@ -74,12 +71,6 @@ fields-append none b = refl
 fields-append (text s r) b = fields-append r b
 fields-append (gap g r) b = fields-append r b
 fields-append (element t xs i r) b = behind_one (field_of t xs) _ (fields i ++ fields r) (fields b) (behind_one (fields i) _ (fields r) (fields b) (fields-append r b))
-
-past-past : (f : Front) (u v : List (ℕ × GapKind)) (m o : List (List ℕ × FieldKind)) → past (past f u m) v o ≡ past f (u ++ v) (m ++ o)
-past-past f u v m o = ap (λ l. record { gaps = l; fields = (f.fields ++ m) ++ o }) (append_assoc f.gaps u v) ∙ ap (λ l. record { gaps = f.gaps ++ (u ++ v); fields = l }) (append_assoc f.fields m o)
-
-past_nothing : (f : Front) → past f [] [] ≡ f
-past_nothing f = ap (λ l. record { gaps = l; fields = f.fields ++ [] }) (append-nil f.gaps) ∙ ap (λ l. record { gaps = f.gaps; fields = l }) (append-nil f.fields)
 
 pub items-append : (t : List ℕ) (names : List (List ℕ)) (f : Front) (a b : Forest) → items_faults t names f (append a b) ≡ items_faults t names f a ++ items_faults t names (past f (gap_uses a) (fields a)) b
 items-append t names f none b = ap (λ k. items_faults t names k b) (sym (past_nothing f))

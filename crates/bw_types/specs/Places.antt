@@ -1,5 +1,5 @@
 -- The scopes of a session's places.
-use Rattle.std.specs.Prelude.{ℕ, ◌-◌, List, length, drop}
+use Rattle.std.specs.Prelude.{ℕ, ◌-◌, length, drop}
 use Rattle.bw_lang.specs.Code.{Code, done, declare, assign, if_then, if_else, while_loop, block, show, exit}
 use Rattle.bw_types.specs.Scopes.{Scope, with_local, behind}
 

@@ -1,12 +1,9 @@
 -- What it means that a service is typed, said without tests and without faults.
-use Rattle.std.specs.Prelude.{◌≡◌, ◌≢◌, ◌⊎◌, ℕ, true, false, List, [], ◌∷◌, Option, Some, None}
+use Rattle.std.specs.Prelude.{◌≡◌, ◌≢◌, ◌⊎◌, ℕ, true, false, List, Some}
 use Rattle.std.specs.List.{All, AllPairs, Contains}
-use Rattle.bw_lang.specs.declared.controls.FieldKind.{FieldKind}
 use Rattle.bw_lang.specs.declared.items.Attr.{Attr}
 use Rattle.bw_lang.specs.declared.service.Service.{Service}
 use Rattle.bw_lang.specs.declared.service.Session.{Session}
-use Rattle.bw_lang.specs.declared.service.Shared.{Shared}
-use Rattle.bw_lang.specs.declared.service.Template.{Template}
 use Rattle.bw_lang.specs.declared.stmt.Kind.{Kind}
 use Rattle.bw_lang.specs.declared.stmt.Kind.TheVariants.{Int, Bool as Truth, Str, Html}
 use Rattle.bw_lang.specs.declared.stmt.Receive.{Receive}

@@ -1,7 +1,7 @@
-//! What operators, functions and gaps demand, and what they give.
+//! What operators, functions and gaps demand, and what they give. None of these takes memory.
 ghost use Rattle.std.specs.Prelude.{◌≡◌, Some, IfErr, OnOk, []};
 ghost use Rattle.bw_types.specs.ExpressionFaults as spec;
-ghost use Rattle.bw_types.specs.First.{IsFirst};
+ghost use Rattle.bw_types.specs.Faults.{first_member};
 
 use crate::fault::{GapKind, TypeFault};
 use bw_lang::{Fun, Kind, Op};
@@ -9,7 +9,7 @@ use bw_lang::{Fun, Kind, Op};
 /// A value of this kind is demanded. `Kind` where another one was found.
 pub fn demand(kind: Kind, found: Kind) -> Result<(), TypeFault>
     ensures none { OnOk result (spec.demand kind (Some found) ≡ []) }
-    ensures first { IfErr result (λ e. IsFirst e (spec.demand kind (Some found))) }
+    ensures first { IfErr result (λ e. first_member (spec.demand kind (Some found)) ≡ Some e) }
 {
     match (kind, found) {
         (Kind::Int, Kind::Int)
@@ -23,7 +23,7 @@ pub fn demand(kind: Kind, found: Kind) -> Result<(), TypeFault>
 /// What an operator demands of its left side.
 pub fn demand_left(op: Op, left: Kind) -> Result<(), TypeFault>
     ensures none { OnOk result (spec.left_demand (spec.op_sort op) (Some left) ≡ []) }
-    ensures first { IfErr result (λ e. IsFirst e (spec.left_demand (spec.op_sort op) (Some left))) }
+    ensures first { IfErr result (λ e. first_member (spec.left_demand (spec.op_sort op) (Some left)) ≡ Some e) }
 {
     match op {
         Op::Or | Op::And => demand(Kind::Bool, left),
@@ -39,7 +39,7 @@ pub fn demand_left(op: Op, left: Kind) -> Result<(), TypeFault>
 /// What an operator demands of its right side, whose left side has this kind.
 pub fn demand_right(op: Op, left: Kind, right: Kind) -> Result<(), TypeFault>
     ensures none { OnOk result (spec.right_demand (spec.op_sort op) (Some left) (Some right) ≡ []) }
-    ensures first { IfErr result (λ e. IsFirst e (spec.right_demand (spec.op_sort op) (Some left) (Some right))) }
+    ensures first { IfErr result (λ e. first_member (spec.right_demand (spec.op_sort op) (Some left) (Some right)) ≡ Some e) }
 {
     match op {
         Op::Or | Op::And => demand(Kind::Bool, right),
@@ -86,7 +86,7 @@ pub fn fun_gives(fun: Fun) -> Kind
 /// What a gap of this kind demands of what fills it.
 pub fn demand_of_gap(gap: GapKind, found: Kind) -> Result<(), TypeFault>
     ensures none { OnOk result (spec.gap_demand (Some gap) (Some found) ≡ []) }
-    ensures first { IfErr result (λ e. IsFirst e (spec.gap_demand (Some gap) (Some found))) }
+    ensures first { IfErr result (λ e. first_member (spec.gap_demand (Some gap) (Some found)) ≡ Some e) }
 {
     match (gap, found) {
         (GapKind::Content, Kind::Str) => Ok(()),
@@ -98,7 +98,7 @@ pub fn demand_of_gap(gap: GapKind, found: Kind) -> Result<(), TypeFault>
 /// What isn't a document is demanded, since documents can't be compared.
 fn demand_no_document(found: Kind) -> Result<(), TypeFault>
     ensures none { OnOk result (spec.demand_no_document (Some found) ≡ []) }
-    ensures first { IfErr result (λ e. IsFirst e (spec.demand_no_document (Some found))) }
+    ensures first { IfErr result (λ e. first_member (spec.demand_no_document (Some found)) ≡ Some e) }
 {
     match found {
         Kind::Html => Err(TypeFault::Kind(Kind::Str, Kind::Html)),
@@ -109,7 +109,7 @@ fn demand_no_document(found: Kind) -> Result<(), TypeFault>
 /// A number or a string is demanded.
 fn demand_sum(found: Kind) -> Result<(), TypeFault>
     ensures none { OnOk result (spec.demand_sum (Some found) ≡ []) }
-    ensures first { IfErr result (λ e. IsFirst e (spec.demand_sum (Some found))) }
+    ensures first { IfErr result (λ e. first_member (spec.demand_sum (Some found)) ≡ Some e) }
 {
     match found {
         Kind::Int | Kind::Str => Ok(()),

@@ -1,4 +1,4 @@
-use Rattle.std.proofs.Common.{◌+◌, [], ◌∷◌, take}
+use Rattle.std.proofs.Common.{[], ◌∷◌, take}
 use Rattle.bw_lang.specs.declared.service.Template.{Template}
 use Rattle.bw_types.specs.TemplateFaults.{template_faults}
 use Rattle.bw_types.proofs.First.{exits, none_more}

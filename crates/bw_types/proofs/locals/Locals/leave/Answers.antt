@@ -1,7 +1,6 @@
-use Rattle.std.proofs.Common.{◌≡◌, ap, map, ◌∙◌}
+use Rattle.std.proofs.Common.{ap, map, ◌∙◌}
 use Rattle.std.specs.Prelude.{reverse}
 use Rattle.bw_types.specs.Places.{outside}
-use Rattle.bw_types.specs.Scopes.{Scope}
 use Rattle.bw_types.proofs.LocalLaws.{named, oldest}
 use Rattle.bw_types.proofs.locals.Locals.leave.Goals as goal
 

@@ -1,5 +1,5 @@
 use Rattle.std.proofs.Common.{ap, ◌+◌, ◌∙◌, sym, take, drop}
-use Rattle.bw_lang.specs.TermView.{term, fillings}
+use Rattle.bw_lang.specs.TermView.{fillings}
 use Rattle.bw_types.specs.ExpressionFaults.{faults_in_pairs}
 use Rattle.bw_types.proofs.First.{exits, none_more}
 use Rattle.bw_types.proofs.Pairs.{pair_faults, pairs-more, pairs-parts}

@@ -1,5 +1,4 @@
-use Rattle.std.proofs.Common.{ap, ◌∙◌}
-use Rattle.bw_types.specs.Gaps.{gap_kind}
+use Rattle.std.proofs.Common.{◌∙◌}
 use Rattle.bw_types.proofs.TableLaws.{gap_kind-lookup}
 use Rattle.bw_types.proofs.tables.GapKinds.get.Goals as goal
 

@@ -1,4 +1,4 @@
-use Rattle.std.proofs.Common.{◌+◌, ◌++◌, [], ap, sym, ◌∙◌, take, drop}
+use Rattle.std.proofs.Common.{◌+◌, [], ap, sym, ◌∙◌, take, drop}
 use Rattle.bw_lang.specs.Controls.{fields}
 use Rattle.bw_lang.specs.Forest.{none}
 use Rattle.bw_lang.specs.View.{before, forest}

@@ -1,4 +1,4 @@
-use Rattle.std.proofs.Common.{◌+◌, ◌++◌, [], ap, sym, ◌∙◌, take, drop}
+use Rattle.std.proofs.Common.{◌+◌, ◌++◌, ap, sym, ◌∙◌, take, drop}
 use Rattle.bw_types.specs.Gaps.{attr_uses}
 use Rattle.bw_types.specs.TemplateFaults.{attr_faults, value_fault}
 use Rattle.bw_types.proofs.First.{exits, none_more}
