@@ -1,5 +1,5 @@
 -- Services that are loaded, and why others aren't.
-use Rattle.std.proofs.Common.{Vec, Global, ◌≡◌, ◌≢◌, ◌<◌, ◌≤◌, ◌⊎◌, IsTrue, Bool, false, ℕ, List, inl, inr, refl, sym, ap, ◌∙◌, subst, Some, None, IfSome, Result, Ok, Err, IfOk, IfErr, take, length, arith}
+use Rattle.std.proofs.Common.{Vec, Global, ◌≡◌, ◌≢◌, ◌<◌, ◌≤◌, ◌⊎◌, IsTrue, Bool, false, ℕ, List, inl, inr, sym, ap, ◌∙◌, subst, Some, None, IfSome, Result, Ok, Err, IfOk, IfErr, take, length, arith}
 use Rattle.std.specs.declared.option.Option.{Option}
 use Rattle.std.proofs.lemmas.Grind.{common_steps}
 use Rattle.std.proofs.lemmas.Bool.{cases_lt}

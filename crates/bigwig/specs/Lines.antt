@@ -1,5 +1,5 @@
 -- The lines that tell why a service is refused, without their ends.
-use Rattle.std.specs.Prelude.{ℕ, Bool, ◌==◌, if◌then◌else◌, List, [], ◌∷◌, ◌++◌, map, codes, decimal}
+use Rattle.std.specs.Prelude.{ℕ, ◌==◌, if◌then◌else◌, List, [], ◌++◌, map, codes, decimal}
 use Rattle.bw_lang.specs.declared.limits.Limit.{Limit}
 use Rattle.bw_lang.specs.declared.limits.Limit.TheVariants as limits
 use Rattle.bw_lang.specs.declared.stmt.Kind.{Kind}
