@@ -1,3 +1,4 @@
+pub mod Codes
 pub mod Commands
 pub mod Laws
 pub mod Lines

@@ -12,7 +12,7 @@ use Rattle.bigwig.specs.Replies as replies
 use Rattle.bigwig.specs.Replies.{Reply, final, no_such}
 use Rattle.bigwig.specs.Requests.{Path, index, start}
 
--- the document of the template of this name (and an empty one where there is none, which no service has that is read)
+-- the document of the template of this name (and an empty one where there is none, which no service has that is served)
 abbrev pub template_of : List Template → List ℕ → Forest
 template_of [] name = none
 template_of (t ∷ templates) name = if bytes_eq t.name name then t.items else template_of templates name
