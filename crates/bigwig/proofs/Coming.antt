@@ -1,20 +1,19 @@
 -- What comes, from what is due.
-use Rattle.std.proofs.Common.{◌≡◌, ◌≢◌, ◌⊎◌, ◌<◌, ◌≤◌, ℕ, List, [], ◌++◌, refl, sym, ◌∙◌, subst, inl, inr, None, Some, IfSome, take, length, arith}
+use Rattle.std.proofs.Common.{◌≡◌, ◌≢◌, ◌⊎◌, ℕ, List, [], ◌++◌, refl, sym, subst, inl, inr, None, Some, IfSome}
 use Rattle.std.specs.declared.option.Option.{Option}
 use Rattle.std.proofs.KnownBytes.{Appends-nil}
-use Rattle.std.proofs.lemmas.Grind.{common_steps}
 use Rattle.bw_lang.specs.declared.service.Service.{Service}
 use Rattle.bw_out.specs.Told.{Disk, Finds}
-use Rattle.bw_syntax.specs.Reads.{Reads, ReadsNothing}
 use Rattle.bigwig.specs.Commands.{command_of, replay}
-use Rattle.bigwig.specs.Outcomes.{Due, Comes, ComesBy, Leaves, Prints, Replays, usage_line, not_yet_line, no_file_line}
+use Rattle.bigwig.specs.Loads.{IsServed, IsRefused}
+use Rattle.bigwig.specs.Outcomes.{Due, Comes, ComesBy, Leaves, Prints, Replays, usage_line, line, no_file_line}
 use Rattle.bigwig.specs.Outcomes.Comes.{whole, read_fault, cut_short, write_fault, broken, memory}
 use Rattle.bigwig.specs.Outcomes.Due.{usage, no_service, refused, no_requests, served}
 use Rattle.bigwig.specs.Stops.{Stops}
 use Rattle.bigwig.specs.Streams.{Serves}
 use Rattle.bigwig.specs.declared.status.Status.{Status}
 use Rattle.bigwig.specs.declared.status.Status.TheVariants as status
-use Rattle.bigwig.specs.declared.program.Stop.TheVariants as stop
+use Rattle.bigwig.specs.declared.loading.Stop.TheVariants as stop
 use Rattle.bigwig.specs.declared.stream.StreamEnd.{StreamEnd}
 use Rattle.bigwig.specs.declared.stream.StreamEnd.TheVariants as end
 
@@ -40,12 +39,13 @@ no_service_comes (Some disk) None a b words service requests r e none p = tt
 no_service_comes (Some disk) (Some keys) a b words service requests r e none p =
     line_comes words disk keys a b status.NoFile (no_file_line service) r (λ e. cc) (no_service service requests e none refl refl) p
 
-pub refused_comes : (told : Option Disk) (coming a b : Option (List ℕ)) (words : List (List ℕ)) (service requests : List ℕ) (r : Status) → command_of words ≡ Some (replay service requests)
-    → IfSome told (λ disk. Stops disk service stop.Refused) → Prints a b status.ServiceRefused not_yet_line r → ComesBy told coming coming a b words r
-refused_comes None coming a b words service requests r e why p = tt
-refused_comes (Some disk) None a b words service requests r e why p = tt
-refused_comes (Some disk) (Some keys) a b words service requests r e why p =
-    line_comes words disk keys a b status.ServiceRefused not_yet_line r (λ e. cc) (refused service requests why.0 e why.1 why.2 refl refl) p
+pub refused_comes : (told : Option Disk) (coming a b : Option (List ℕ)) (words : List (List ℕ)) (service requests why text : List ℕ) (r : Status) → command_of words ≡ Some (replay service requests)
+    → IfSome told (λ disk. (content : List ℕ) × (disk service ≡ Some content) × IsRefused content why) → text ≡ why → Prints a b status.ServiceRefused (line text) r → ComesBy told coming coming a b words r
+refused_comes None coming a b words service requests why text r e stops same p = tt
+refused_comes (Some disk) None a b words service requests why text r e stops same p = tt
+refused_comes (Some disk) (Some keys) a b words service requests why text r e stops same p =
+    line_comes words disk keys a b status.ServiceRefused (line why) r (λ e. cc) (refused service requests stops.0 why e stops.1 stops.2 refl refl)
+    (subst (λ t. Prints a b status.ServiceRefused (line t) r) same p)
 
 pub read_fault_comes : (told : Option Disk) (coming a : Option (List ℕ)) (words : List (List ℕ)) → ComesBy told coming coming a a words status.ReadFault
 read_fault_comes None coming a words = tt
@@ -59,7 +59,7 @@ no_memory_comes (Some disk) (Some keys) a words = (keys, [], refl, Appends-nil a
 
 -- a service that was loaded from the folder
 abbrev pub IsLoaded : Option Disk → List ℕ → Service → Type 0
-IsLoaded told service tree = IfSome told (λ disk. (content : List ℕ) × (disk service ≡ Some content) × Reads content tree)
+IsLoaded told service tree = IfSome told (λ disk. (content : List ℕ) × (disk service ≡ Some content) × IsServed content tree)
 
 -- there is no request file
 pub no_requests_comes : {File : Type 0} (left : File → Option (List ℕ)) (told : Option Disk) (coming a b : Option (List ℕ)) (words : List (List ℕ)) (service requests : List ℕ) (tree : Service) (r : Status)
@@ -99,27 +99,6 @@ served_comes left (Some disk) file found (Some keys) later a b taken new unread 
       content = loaded.0;
       asked = c;
       found = loaded.1;
-      reads = loaded.2;
+      served = loaded.2;
       given = file_is.1;
     }) (subst (λ x. Serves tree file_is.0 keys 1000000 later a b new unread x) same three)
-
-take_all : (n : ℕ) (s : List ℕ) → length s ≤ n → take n s ≡ s
-take_all n s h = grind (arith, common_steps)
-
-take_short : (n : ℕ) (s : List ℕ) → length (take n s) < n → take n s ≡ s
-take_short n s h = grind (arith, common_steps)
-
--- one byte more than a service may have tells what the whole file reads as
-pub loaded_so : (told : Option Disk) (name bytes given : List ℕ) (n : ℕ) (tree : Service) → n ≡ 1048577 → IfSome told (λ disk. (content : List ℕ) × (disk name ≡ Some content) × (bytes ≡ take n content)) → given ≡ bytes
-    → Reads given tree → IsLoaded told name tree
-loaded_so None name bytes given n tree h found e r = tt
-loaded_so (Some disk) name bytes given n tree h found e r =
-    let read : Reads (take n found.0) tree = subst (λ b. Reads b tree) (e ∙ found.2) r in
-    let short : length (take n found.0) < n = omega (arith, read.short) in
-    (found.0, found.1, subst (λ b. Reads b tree) (take_short n found.0 short) read)
-
-pub refused_so : (told : Option Disk) (name bytes given : List ℕ) (n : ℕ) → n ≡ 1048577 → IfSome told (λ disk. (content : List ℕ) × (disk name ≡ Some content) × (bytes ≡ take n content)) → given ≡ bytes
-    → ReadsNothing given → IfSome told (λ disk. Stops disk name stop.Refused)
-refused_so None name bytes given n h found e none = tt
-refused_so (Some disk) name bytes given n h found e none =
-    (found.0, found.1, λ tree r. let long : length found.0 ≤ n = omega (arith, r.short) in none tree (subst (λ b. Reads b tree) (sym (e ∙ found.2 ∙ take_all n found.0 long)) r))

@@ -1,8 +1,12 @@
+pub mod Absent
 pub mod Asking
 pub mod Coming
+pub mod Exits
 pub mod Follows
 pub mod Fronts
+pub mod Gaps
 pub mod Intakes
+pub mod Loads
 pub mod Messages
 pub mod OneOutcome
 pub mod Runs

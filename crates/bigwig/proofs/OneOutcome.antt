@@ -2,8 +2,9 @@
 use Rattle.std.proofs.Common.{◌≡◌, ◌⊎◌, ℕ, arith, List, ◌++◌, refl, sym, ap, ◌∙◌, subst, inl, inr, Some}
 use Rattle.bw_lang.specs.declared.service.Service.{Service}
 use Rattle.bw_out.specs.Told.{Disk, later_keys}
-use Rattle.bw_syntax.specs.Reads.{Reads, ReadsNothing}
 use Rattle.bigwig.specs.Commands.{command_of, replay}
+use Rattle.bigwig.specs.Loads.{IsServed, IsRefused}
+use Rattle.bigwig.proofs.Loads.{served_or_refused}
 use Rattle.bigwig.specs.Laws.{OneStatusIsDue, ComesWhereDue, AsksOnce, LeavesOnce, AnswersOnce}
 use Rattle.bigwig.specs.Meaning.{reply_to}
 use Rattle.bigwig.specs.Outcomes.Comes.{whole, read_fault, cut_short, write_fault, broken, memory}
@@ -15,36 +16,36 @@ use Rattle.bigwig.specs.Runs.Ends.{ended, refused as more_refused}
 use Rattle.bigwig.specs.Runs.Run.{over, ends, request, no_memory}
 use Rattle.bigwig.proofs.Asking.{one_request_path, one_request_rest}
 
--- the two words name the same service file, whose content reads as nothing and as something
-unread : {P : Type 0} (words : List (List ℕ)) (disk : Disk) (service requests other more content found : List ℕ) (tree : Service) → command_of words ≡ Some (replay service requests) → command_of words ≡ Some (replay other more)
-    → disk service ≡ Some content → disk other ≡ Some found → ReadsNothing content → Reads found tree → P
-unread words disk service requests other more content found tree e f d g none reads =
-    let same : found ≡ content = cc in absurd (none tree (subst (λ b. Reads b tree) same reads))
+-- the two words name the same service file, which is refused and served
+clash : {P : Type 0} (words : List (List ℕ)) (disk : Disk) (service requests other more content found why : List ℕ) (tree : Service) → command_of words ≡ Some (replay service requests) → command_of words ≡ Some (replay other more)
+    → disk service ≡ Some content → disk other ≡ Some found → IsRefused content why → IsServed found tree → P
+clash words disk service requests other more content found why tree e f d g refusal loaded =
+    let same : found ≡ content = cc in absurd (served_or_refused content why tree (subst (λ b. IsServed b tree) same loaded) refusal)
 
 pub one_status : OneStatusIsDue
 one_status words disk keys s t left bytes later others (usage e l b) (usage f m d) = refl
 one_status words disk keys s t left bytes later others (usage e l b) (no_service service requests f g m d) = cc
-one_status words disk keys s t left bytes later others (usage e l b) (refused service requests content f g h m d) = cc
+one_status words disk keys s t left bytes later others (usage e l b) (refused service requests content why f g h m d) = cc
 one_status words disk keys s t left bytes later others (usage e l b) (no_requests service requests content tree f g h i m d) = cc
 one_status words disk keys s t left bytes later others (usage e l b) (served tree stream r m) = cc
 one_status words disk keys s t left bytes later others (no_service a c e n l b) (usage f m d) = cc
 one_status words disk keys s t left bytes later others (no_service a c e n l b) (no_service service requests f g m d) = refl
-one_status words disk keys s t left bytes later others (no_service a c e n l b) (refused service requests content f g h m d) = cc
+one_status words disk keys s t left bytes later others (no_service a c e n l b) (refused service requests content why f g h m d) = cc
 one_status words disk keys s t left bytes later others (no_service a c e n l b) (no_requests service requests content tree f g h i m d) = cc
 one_status words disk keys s t left bytes later others (no_service a c e n l b) (served tree stream r m) = cc
-one_status words disk keys s t left bytes later others (refused a c k e n o l b) (usage f m d) = cc
-one_status words disk keys s t left bytes later others (refused a c k e n o l b) (no_service service requests f g m d) = cc
-one_status words disk keys s t left bytes later others (refused a c k e n o l b) (refused service requests content f g h m d) = refl
-one_status words disk keys s t left bytes later others (refused a c k e n o l b) (no_requests service requests content tree f g h i m d) = unread words disk a c service requests k content tree e f n g o h
-one_status words disk keys s t left bytes later others (refused a c k e n o l b) (served tree stream r m) = unread words disk a c r.service r.requests k r.content tree e r.asked n r.found o r.reads
+one_status words disk keys s t left bytes later others (refused a c k y e n o l b) (usage f m d) = cc
+one_status words disk keys s t left bytes later others (refused a c k y e n o l b) (no_service service requests f g m d) = cc
+one_status words disk keys s t left bytes later others (refused a c k y e n o l b) (refused service requests content why f g h m d) = refl
+one_status words disk keys s t left bytes later others (refused a c k y e n o l b) (no_requests service requests content tree f g h i m d) = clash words disk a c service requests k content y tree e f n g o h
+one_status words disk keys s t left bytes later others (refused a c k y e n o l b) (served tree stream r m) = clash words disk a c r.service r.requests k r.content y tree e r.asked n r.found o r.served
 one_status words disk keys s t left bytes later others (no_requests a c k u e n o p l b) (usage f m d) = cc
 one_status words disk keys s t left bytes later others (no_requests a c k u e n o p l b) (no_service service requests f g m d) = cc
-one_status words disk keys s t left bytes later others (no_requests a c k u e n o p l b) (refused service requests content f g h m d) = unread words disk service requests a c content k u f e g n h o
+one_status words disk keys s t left bytes later others (no_requests a c k u e n o p l b) (refused service requests content why f g h m d) = clash words disk service requests a c content k why u f e g n h o
 one_status words disk keys s t left bytes later others (no_requests a c k u e n o p l b) (no_requests service requests content tree f g h i m d) = refl
 one_status words disk keys s t left bytes later others (no_requests a c k u e n o p l b) (served tree stream r m) = cc
 one_status words disk keys s t left bytes later others (served u v r n) (usage f m d) = cc
 one_status words disk keys s t left bytes later others (served u v r n) (no_service service requests f g m d) = cc
-one_status words disk keys s t left bytes later others (served u v r n) (refused service requests content f g h m d) = unread words disk service requests r.service r.requests content r.content u f r.asked g r.found h r.reads
+one_status words disk keys s t left bytes later others (served u v r n) (refused service requests content why f g h m d) = clash words disk service requests r.service r.requests content r.content why u f r.asked g r.found h r.served
 one_status words disk keys s t left bytes later others (served u v r n) (no_requests service requests content tree f g h i m d) = cc
 one_status words disk keys s t left bytes later others (served u v r n) (served tree stream q m) = refl
 

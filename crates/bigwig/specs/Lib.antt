@@ -1,7 +1,11 @@
+pub mod Codes
 pub mod Commands
 pub mod Laws
+pub mod Lines
+pub mod Loads
 pub mod Meaning
 pub mod Outcomes
+pub mod Plain
 pub mod Replies
 pub mod Requests
 pub mod Runs

@@ -1,36 +1,30 @@
 -- What a service answers to a request for a path.
-use Rattle.std.specs.Prelude.{ℕ, List, [], ◌∷◌, ◌++◌, bytes_eq, if◌then◌else◌}
+use Rattle.std.specs.Prelude.{ℕ, List, [], ◌∷◌, ◌++◌, bytes_eq, if◌then◌else◌, Option, None, Some}
 use Rattle.bw_lang.specs.declared.service.Service.{Service}
 use Rattle.bw_lang.specs.declared.service.Template.{Template}
 use Rattle.bw_lang.specs.declared.service.Session.{Session}
-use Rattle.bw_lang.specs.declared.service.Stmt.{Stmt}
-use Rattle.bw_lang.specs.declared.service.Stmt.TheVariants.{Exit}
-use Rattle.bw_lang.specs.declared.service.Expr.{Expr}
-use Rattle.bw_lang.specs.declared.service.Expr.TheVariants.{Name}
+use Rattle.bw_lang.specs.Code.{Code}
 use Rattle.bw_lang.specs.Forest.{Forest, none}
 use Rattle.bw_lang.specs.Print.{print}
 use Rattle.bw_page.specs.Pages.{exit_page}
+use Rattle.bigwig.specs.Plain.{exit_name}
 use Rattle.bigwig.specs.Replies as replies
 use Rattle.bigwig.specs.Replies.{Reply, final, no_such}
 use Rattle.bigwig.specs.Requests.{Path, index, start}
 
--- the document of the template of this name (and an empty one where there is none, which no service has that is read)
+-- the document of the template of this name (and an empty one where there is none, which no service has that is served)
 abbrev pub template_of : List Template → List ℕ → Forest
 template_of [] name = none
 template_of (t ∷ templates) name = if bytes_eq t.name name then t.items else template_of templates name
 
--- an expression's document
-abbrev pub value : List Template → Expr → Forest
-value templates (Name name) = template_of templates name
-
--- the document that a session exits with
-abbrev pub exits_with : List Template → List Stmt → Forest
-exits_with templates [] = none
-exits_with templates (Exit page ∷ rest) = value templates page
+-- the document that a session exits with (and an empty one for a session that does more, which isn't served yet)
+abbrev pub exit_document : List Template → Option (List ℕ) → Forest
+exit_document templates None = none
+exit_document templates (Some name) = template_of templates name
 
 -- the last page of a session with this body
-abbrev pub last_page : Service → List Stmt → List ℕ
-last_page service body = print (exit_page service.name (exits_with service.templates body))
+abbrev pub last_page : Service → Code → List ℕ
+last_page service body = print (exit_page service.name (exit_document service.templates (exit_name body)))
 
 -- the reply to a request for a name, by the sessions from the first to the last
 abbrev pub reply_among : Service → List Session → List ℕ → Reply

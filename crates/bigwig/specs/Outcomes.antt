@@ -5,8 +5,8 @@ use Rattle.std.specs.Io.KnownBytes.{Appends}
 use Rattle.bw_lang.specs.declared.service.Service.{Service}
 use Rattle.bw_out.specs.Causes.{Rose}
 use Rattle.bw_out.specs.Told.{Disk}
-use Rattle.bw_syntax.specs.Reads.{Reads, ReadsNothing}
 use Rattle.bigwig.specs.Commands.{command_of, replay}
+use Rattle.bigwig.specs.Loads.{IsServed, IsRefused}
 use Rattle.bigwig.specs.Runs.{Run, IsCutShort, IsBroken}
 use Rattle.bigwig.specs.declared.status.Status.{Status}
 use Rattle.bigwig.specs.declared.status.Status.TheVariants.{Done, Usage, ServiceRefused, ReadFault, WriteFault, Memory, NoFile}
@@ -18,20 +18,17 @@ line text = text ++ 10 ∷ []
 abbrev pub usage_line : List ℕ
 usage_line = line (codes "usage: bigwig check SERVICE | replay SERVICE REQUESTS | serve SERVICE | valid PAGE | make N")
 
-abbrev pub not_yet_line : List ℕ
-not_yet_line = line (codes "not yet")
-
 abbrev pub no_file_line : List ℕ → List ℕ
 no_file_line name = codes "no file " ++ line name
 
--- the words name a file that reads as this service, and a file of these requests
+-- the words name a file of this service, which is served, and a file of these requests
 pub record Replays (words : List (List ℕ)) (disk : Disk) (tree : Service) (stream : List ℕ) : Type 0 where
   pub service : List ℕ
   pub requests : List ℕ
   pub content : List ℕ
   pub asked : command_of words ≡ Some (replay service requests)
   pub found : disk service ≡ Some content
-  pub reads : Reads content tree
+  pub served : IsServed content tree
   pub given : disk requests ≡ Some stream
 
 -- What is due by the words, the files and the keys to come: a status, the keys that are left, and the bytes printed.
@@ -40,10 +37,10 @@ pub data Due (words : List (List ℕ)) (disk : Disk) (keys : List ℕ) : Status 
   usage : {left bytes : List ℕ} → command_of words ≡ None → left ≡ keys → bytes ≡ usage_line → Due words disk keys Usage left bytes
   no_service : {left bytes : List ℕ} (service requests : List ℕ) → command_of words ≡ Some (replay service requests)
       → disk service ≡ None → left ≡ keys → bytes ≡ no_file_line service → Due words disk keys NoFile left bytes
-  refused : {left bytes : List ℕ} (service requests content : List ℕ) → command_of words ≡ Some (replay service requests)
-      → disk service ≡ Some content → ReadsNothing content → left ≡ keys → bytes ≡ not_yet_line → Due words disk keys ServiceRefused left bytes
+  refused : {left bytes : List ℕ} (service requests content why : List ℕ) → command_of words ≡ Some (replay service requests)
+      → disk service ≡ Some content → IsRefused content why → left ≡ keys → bytes ≡ line why → Due words disk keys ServiceRefused left bytes
   no_requests : {left bytes : List ℕ} (service requests content : List ℕ) (tree : Service) → command_of words ≡ Some (replay service requests)
-      → disk service ≡ Some content → Reads content tree → disk requests ≡ None → left ≡ keys → bytes ≡ no_file_line requests → Due words disk keys NoFile left bytes
+      → disk service ≡ Some content → IsServed content tree → disk requests ≡ None → left ≡ keys → bytes ≡ no_file_line requests → Due words disk keys NoFile left bytes
   served : {left bytes : List ℕ} (tree : Service) (stream : List ℕ) → Replays words disk tree stream → Run tree stream keys 1000000 left bytes
       → Due words disk keys Done left bytes
 

@@ -4,6 +4,9 @@
 mod command;
 mod intake;
 mod laws;
+mod lines;
+mod loading;
+mod plain;
 mod program;
 mod reply;
 mod request;

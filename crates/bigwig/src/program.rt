@@ -1,43 +1,23 @@
 //! All that the program does.
-ghost use Rattle.std.specs.Prelude.{◌≡◌, ◌≢◌, ◌⊎◌, ◌++◌, ℕ, List, None, Some, IfOk, IfErr, IfSome, IsErrOf, take};
+ghost use Rattle.std.specs.Prelude.{◌≡◌, ◌≢◌, ◌⊎◌, ◌++◌, ℕ, List, None, Some, IfSome};
 ghost use Rattle.bw_out.specs.Causes.{HasCause};
 ghost use Rattle.bw_out.specs.Writes.{Writes};
-ghost use Rattle.bw_syntax.specs.Reads.{Reads};
 ghost use Rattle.bigwig.specs.Commands.{command_of, replay};
+ghost use Rattle.bigwig.specs.Loads.{IsServed};
 ghost use Rattle.bigwig.specs.Outcomes.{Comes, ComesBy, Leaves, Shows, Prints, line};
-ghost use Rattle.bigwig.specs.Stops.{Stops};
 
 use crate::command::command_of;
 use crate::intake::Intake;
+use crate::loading::{Stop, load_service};
 use crate::status::Status;
 use crate::stream::{StreamEnd, answer_source};
 use bw_lang::{Service, Words};
-use bw_out::{
-    Door, Failed, Files, Keys, Pulse, ReadStop, Sink, Steps, WriteFault, read_up_to, write_all,
-    write_parts,
-};
-use bw_syntax::{SyntaxFault, read_service};
+use bw_out::{Door, Failed, Files, Keys, Pulse, Sink, Steps, WriteFault, write_all, write_parts};
 use std::alloc::Global;
 use std::sync::ledger::Ledger;
 
-/// One byte more than a service file may have.
-const SERVICE_FRONT: usize = 1_048_577;
-
 /// The greatest number of requests that are answered.
 const REQUESTS_MOST: u32 = 1_000_000;
-
-/// Why a file isn't loaded.
-#[derive(Clone, Copy, Debug, PartialEq, Eq)]
-pub enum Stop {
-    /// There is no file of that name.
-    NoFile,
-    /// It is refused.
-    Refused,
-    /// It could not be read.
-    ReadFault,
-    /// There was no memory.
-    Memory,
-}
 
 /// Does all that the program does: reads the words of the command line, the files that they name, and so on, and
 /// prints on `out`.
@@ -91,54 +71,13 @@ fn replay<F: Files, K: Keys, W: Sink>(
     ensures write_fault { Shows (result ≡ Status.WriteFault) (W.write_faults out.old) (W.write_faults out.new) }
 {
     match load_service(alloc, files, service) {
-        Ok(tree) => serve_file(alloc, &tree, requests, files, keys, out),
-        Err(Stop::NoFile) => print_line(out, Status::NoFile, b"no file ", service.as_bytes()),
-        Err(Stop::Refused) => print_line(out, Status::ServiceRefused, b"not yet", b""),
-        Err(Stop::ReadFault) => Status::ReadFault,
-        Err(Stop::Memory) => Status::Memory,
-    }
-}
-
-/// The service of a file.
-fn load_service<F: Files>(alloc: Global, files: &mut F, name: &str) -> Result<Service, Stop>
-    ensures loaded { IfOk result (λ tree. IfSome (F.told files.old) (λ disk. (content : List ℕ) × (disk name.now ≡ Some content) × Reads content tree)) }
-    ensures stops { IfErr result (λ stop. IfSome (F.told files.old) (λ disk. Stops disk name.now stop)) }
-    ensures told { F.told files.new ≡ F.told files.old }
-    ensures read_fault { Shows (IsErrOf result Stop.ReadFault) (F.faults files.old) (F.faults files.new) }
-{
-    let bytes = fetch_bytes(alloc, files, name, SERVICE_FRONT)?;
-    match read_service(alloc, &bytes) {
-        Ok(tree) => Ok(tree),
-        Err(SyntaxFault::NotYet) => Err(Stop::Refused),
-        Err(SyntaxFault::Memory) => Err(Stop::Memory),
-    }
-}
-
-/// The first `most` bytes of a file, or all of them. The file is closed again.
-fn fetch_bytes<F: Files>(
-    alloc: Global,
-    files: &mut F,
-    name: &str,
-    most: usize,
-) -> Result<Vec<u8>, Stop>
-    ensures found { IfOk result (λ bytes. IfSome (F.told files.old) (λ disk. (content : List ℕ) × (disk name.now ≡ Some content) × (bytes.items ≡ take most content))) }
-    ensures missing { IsErrOf result Stop.NoFile → IfSome (F.told files.old) (λ disk. disk name.now ≡ None) }
-    ensures not_refused { IsErrOf result Stop.Refused → ⊥ }
-    ensures told { F.told files.new ≡ F.told files.old }
-    ensures read_fault { Shows (IsErrOf result Stop.ReadFault) (F.faults files.old) (F.faults files.new) }
-{
-    match files.fetch(name) {
-        Err(Failed) => Err(Stop::ReadFault),
-        Ok(None) => Err(Stop::NoFile),
-        Ok(Some(mut file)) => {
-            let read = read_up_to(alloc, &mut file, most);
-            files.close(file);
-            match read {
-                Ok(bytes) => Ok(bytes),
-                Err(ReadStop::Fault) => Err(Stop::ReadFault),
-                Err(ReadStop::Memory) => Err(Stop::Memory),
-            }
-        }
+        Ok(typed) => serve_file(alloc, typed.service(), requests, files, keys, out),
+        Err(stop) => match stop {
+            Stop::NoFile => print_line(out, Status::NoFile, b"no file ", service.as_bytes()),
+            Stop::Refused(line) => print_line(out, Status::ServiceRefused, &line, b""),
+            Stop::ReadFault => Status::ReadFault,
+            Stop::Memory => Status::Memory,
+        },
     }
 }
 
@@ -152,7 +91,7 @@ fn serve_file<F: Files, K: Keys, W: Sink>(
     out: &mut W,
 ) -> Status
     ensures comes { (words : List (List ℕ)) (service : List ℕ) → command_of words ≡ Some (replay service name.now)
-        → IfSome (F.told files.old) (λ disk. (content : List ℕ) × (disk service ≡ Some content) × Reads content tree.now)
+        → IfSome (F.told files.old) (λ disk. (content : List ℕ) × (disk service ≡ Some content) × IsServed content tree.now)
         → ComesBy (F.told files.old) (K.coming keys.old) (K.coming keys.new) (W.held out.old) (W.held out.new) words result }
     ensures not_usage { result ≢ Status.Usage }
     ensures not_door { result ≢ Status.DoorFault }

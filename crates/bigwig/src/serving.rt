@@ -2,13 +2,15 @@
 ghost use Rattle.std.specs.Prelude.{◌≡◌, IfOk, MatchOption};
 ghost use Rattle.bw_lang.specs.Forest.{none};
 ghost use Rattle.bigwig.specs.Meaning as spec;
+ghost use Rattle.bigwig.specs.Plain.{exit_name};
 ghost use Rattle.bigwig.specs.Replies.{Sends};
 ghost use Rattle.bigwig.specs.Requests.{start};
 ghost use Rattle.bigwig.specs.Sent.{path_of, stands_for};
 
+use crate::plain::exit_name;
 use crate::reply::Reply;
 use crate::request::Path;
-use bw_lang::{Block, Expr, Items, Memory, Name, Service, Stmt, Template, Text, Tree};
+use bw_lang::{Block, Items, Memory, Name, Service, Template, Text, Tree};
 use bw_page::{Sheet, wrap_exit};
 use std::alloc::Global;
 
@@ -24,37 +26,25 @@ fn template_named<'a>(templates: &'a [Template], name: &Name) -> Option<&'a Temp
     None
 }
 
-/// The document that an expression stands for.
-fn value(alloc: Global, templates: &[Template], expr: &Expr) -> Result<Tree, Memory>
-    ensures { IfOk result (λ t. t.items ≡ spec.value templates.now expr.now) }
-{
-    match expr {
-        Expr::Name(name) => match template_named(templates, name) {
-            Some(template) => Tree::constant(template),
-            None => Ok(Tree {
-                items: Items::new(alloc),
-            }),
-        },
-    }
-}
-
 /// The document that a session with this body exits with.
-fn exits_with(alloc: Global, templates: &[Template], body: &Block) -> Result<Tree, Memory>
-    ensures { IfOk result (λ t. t.items ≡ spec.exits_with templates.now body.now) }
+fn exit_document(alloc: Global, templates: &[Template], body: &Block) -> Result<Tree, Memory>
+    ensures { IfOk result (λ t. t.items ≡ spec.exit_document templates.now (exit_name body.now)) }
 {
-    match body.as_slice() {
-        [] => Ok(Tree {
-            items: Items::new(alloc),
-        }),
-        [Stmt::Exit { page }, ..] => value(alloc, templates, page),
+    if let Some(name) = exit_name(body)
+        && let Some(template) = template_named(templates, name)
+    {
+        return Tree::constant(template);
     }
+    Ok(Tree {
+        items: Items::new(alloc),
+    })
 }
 
 /// The last page of a session with this body.
 fn last_page(alloc: Global, service: &Service, body: &Block) -> Result<Sheet, Memory>
     ensures { IfOk result (λ sheet. sheet ≡ spec.last_page service.now body.now) }
 {
-    let document = exits_with(alloc, service.templates.as_slice(), body)?;
+    let document = exit_document(alloc, service.templates.as_slice(), body)?;
     let page = wrap_exit(&service.name, &document)?;
     Sheet::of(alloc, &page)
 }

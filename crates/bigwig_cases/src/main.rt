@@ -15,6 +15,7 @@ mod fault;
 mod kinds;
 mod retries;
 mod runs;
+mod shapes;
 mod tables;
 mod templates;
 mod texts;
@@ -31,7 +32,14 @@ use std::rt::Files;
 
 fn main(rt: HostRuntime) -> ExitCode {
     let mut code = ExitCode::SUCCESS;
-    for kind in [Kind::Runs, Kind::Tokens, Kind::Templates, Kind::Retries] {
+    for kind in [
+        Kind::Runs,
+        Kind::Services,
+        Kind::Shapes,
+        Kind::Tokens,
+        Kind::Templates,
+        Kind::Retries,
+    ] {
         match try_file(&rt, kind) {
             Ok(tally) => {
                 if tally.has_wrong() {

@@ -11,6 +11,9 @@
 //!
 //! and wants, by `status N`, `drawn N` and `output PARTS`, the exit code, how many keys are drawn, and all that is
 //! printed; 0, 0 and nothing.
+//!
+//! A case of a service has the service's text for its name, and is run over no request. Its line `line TEXT` is the
+//! line that is printed, with code 3; where there is none, nothing is printed.
 ghost use Rattle.std.specs.Prelude.{◌≡◌, ◌<◌};
 
 use crate::fault::Fault;
@@ -68,6 +71,21 @@ pub fn try_case(alloc: Global, texts: &Texts<'_>, case: &Case<'_>) -> Result<Ver
     Ok(Verdict::of(run_case.wanted.shown(alloc)?, got.shown(alloc)?))
 }
 
+/// Tries the run of the service that is the case's name.
+pub fn try_service(alloc: Global, case: &Case<'_>) -> Result<Verdict, Fault> {
+    let mut run_case = RunCase::new(alloc)?;
+    run_case.files.push(CaseFile::with(alloc, "s", case.name)?)?;
+    run_case.files.push(CaseFile::with(alloc, "r", "")?)?;
+    for line in &case.lines {
+        match line.key {
+            "line" => run_case.wanted = Outcome::refusal(alloc, line.value)?,
+            _ => return Err(Fault::Malformed),
+        }
+    }
+    let got = outcome_of(alloc, &run_case)?;
+    Ok(Verdict::of(run_case.wanted.shown(alloc)?, got.shown(alloc)?))
+}
+
 /// These words, parted by blanks.
 fn words_of(alloc: Global, text: &str) -> Result<Words, Memory> {
     let mut words = Words::new(alloc);
@@ -84,6 +102,16 @@ impl<'a> CaseFile<'a> {
         Ok(CaseFile {
             name,
             content: texts.join(alloc, parts)?,
+            piece: NonZeroUsize::MAX,
+            failing_reads: Vec::new(alloc),
+        })
+    }
+
+    /// The file of this name with this content.
+    fn with(alloc: Global, name: &'a str, content: &str) -> Result<CaseFile<'a>, Fault> {
+        Ok(CaseFile {
+            name,
+            content: content.as_bytes().to_vec(alloc)?,
             piece: NonZeroUsize::MAX,
             failing_reads: Vec::new(alloc),
         })
@@ -110,6 +138,17 @@ impl<'a> CaseFile<'a> {
 }
 
 impl Outcome {
+    /// A service is refused by this line.
+    fn refusal(alloc: Global, line: &str) -> Result<Outcome, Fault> {
+        let mut output = line.as_bytes().to_vec(alloc)?;
+        output.push(b'\n')?;
+        Ok(Outcome {
+            status: 3,
+            drawn: 0,
+            output,
+        })
+    }
+
     fn shown(&self, alloc: Global) -> Result<String, AllocError> {
         let status = self.status;
         let drawn = self.drawn;

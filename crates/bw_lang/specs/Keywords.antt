@@ -1,5 +1,5 @@
 -- The words that are no names.
-use Rattle.std.specs.Prelude.{◌≡◌, ◌≤◌, ℕ, Bool, true, false, ◌||◌, List, codes, bytes_eq, length}
+use Rattle.std.specs.Prelude.{◌≡◌, ◌≤◌, ℕ, Bool, false, ◌||◌, List, codes, bytes_eq, length}
 
 -- the word is this one
 abbrev pub is : List ℕ → List ℕ → Bool

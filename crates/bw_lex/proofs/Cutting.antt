@@ -10,9 +10,10 @@ use Rattle.bw_lang.specs.declared.token.TokenKind.{TokenKind}
 use Rattle.bw_lex.specs.declared.LexFault.TheVariants as faults
 use Rattle.bw_lex.specs.declared.pieces.Piece.{Piece}
 use Rattle.bw_lex.specs.declared.pieces.Piece.TheVariants as pieces
-use Rattle.bw_lex.specs.Cuts.{IsLongest, Cuts, AreTokens, IsWithin, IsCutOnce, IsReadExactly}
-use Rattle.bw_lex.specs.Cuts as cuts
-use Rattle.bw_lex.specs.Forms.{HasForm, IsHeld, IsGap}
+use Rattle.bw_lang.specs.Cuts.{IsLongest, Cuts, AreTokens, IsWithin}
+use Rattle.bw_lex.specs.Laws.{IsCutOnce, IsReadExactly}
+use Rattle.bw_lang.specs.Cuts as cuts
+use Rattle.bw_lang.specs.TokenForms.{HasForm, IsHeld, IsGap}
 use Rattle.bw_lex.specs.Pieces.{piece}
 use Rattle.bw_lex.specs.Tokens.{scan, onto, with_rest, piece_len, Reading, tokens_of}
 use Rattle.bw_lex.proofs.Branches.{if_branch}

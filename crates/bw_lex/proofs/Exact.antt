@@ -7,10 +7,11 @@ use Rattle.bw_lang.specs.declared.token.TokenKind.TheVariants as kinds
 use Rattle.bw_lex.specs.declared.pieces.Piece.{Piece}
 use Rattle.bw_lex.specs.declared.pieces.Piece.TheVariants as pieces
 use Rattle.bw_lex.specs.declared.pieces.FaultKind.TheVariants as faults
-use Rattle.bw_lex.specs.Bytes.{is_digit, is_word_byte, is_on_line, is_sign, is_pair}
-use Rattle.bw_lex.specs.Cuts.{IsLongest}
-use Rattle.bw_lex.specs.Forms.{HasForm, IsHeld, IsGap, IsPiece}
-use Rattle.bw_lex.specs.Pieces.{value, sign, piece}
+use Rattle.bw_lang.specs.Bytes.{is_digit, is_word_byte, is_on_line, is_sign, is_pair}
+use Rattle.bw_lang.specs.Cuts.{IsLongest}
+use Rattle.bw_lang.specs.TokenForms.{HasForm, IsHeld, IsGap, IsTokenPiece}
+use Rattle.bw_lang.specs.TokenForms.{value}
+use Rattle.bw_lex.specs.Pieces.{sign, piece}
 use Rattle.bw_lex.proofs.Branches.{Branch, blank, word, digits, quoted, comment, markup, other, branch}
 use Rattle.bw_lex.proofs.Digits.{number_fits}
 use Rattle.bw_lex.proofs.Fronts.{piece-blank, piece-word, piece-number, piece-string, piece-comment, piece-template, piece-pair, sign_alone}
@@ -22,7 +23,7 @@ cons_is_more : (c : ℕ) (cs : List ℕ) → c ∷ cs ≡ [] → ⊥
 cons_is_more c cs e = cc
 
 -- a front of which each byte passes, and which would do so with one more, ends where the test fails
-counted : (p : ℕ → Bool) (own rest : List ℕ) → AllPass p own → IsLongest own rest → ((c : ℕ) → AllPass p (own ++ c ∷ []) → IsPiece (own ++ c ∷ [])) → prefix_len p (own ++ rest) ≡ length own
+counted : (p : ℕ → Bool) (own rest : List ℕ) → AllPass p own → IsLongest own rest → ((c : ℕ) → AllPass p (own ++ c ∷ []) → IsTokenPiece (own ++ c ∷ [])) → prefix_len p (own ++ rest) ≡ length own
 counted p own rest all longest form = elim (next p own rest all) [
   | inl e ↦ e
   | inr h ↦ absurd (cons_is_more h.0 [] (longest (h.0 ∷ []) h.1 h.2 (form h.0 (all_push p own h.0 all h.3))))

@@ -6,10 +6,11 @@ use Rattle.bw_lang.specs.declared.token.TokenKind.{TokenKind}
 use Rattle.bw_lang.specs.declared.token.TokenKind.TheVariants as kinds
 use Rattle.bw_lex.specs.declared.pieces.Piece.{Piece}
 use Rattle.bw_lex.specs.declared.pieces.Piece.TheVariants as pieces
-use Rattle.bw_lex.specs.Bytes.{is_digit, is_word_byte, is_on_line}
-use Rattle.bw_lex.specs.Cuts.{IsLongest}
-use Rattle.bw_lex.specs.Forms.{HasForm, IsGap, IsPiece, IsTemplate, BeginsTemplate}
-use Rattle.bw_lex.specs.Pieces.{value, piece}
+use Rattle.bw_lang.specs.Bytes.{is_digit, is_word_byte, is_on_line}
+use Rattle.bw_lang.specs.Cuts.{IsLongest}
+use Rattle.bw_lang.specs.TokenForms.{HasForm, IsGap, IsTokenPiece, IsTemplateToken, BeginsTemplate}
+use Rattle.bw_lang.specs.TokenForms.{value}
+use Rattle.bw_lex.specs.Pieces.{piece}
 use Rattle.bw_lex.specs.Tokens.{piece_len}
 use Rattle.bw_lex.proofs.Branches.{if_branch}
 use Rattle.bw_lex.proofs.Ends.{Ends, piece-ends}
@@ -32,7 +33,7 @@ gap-reached bad own rest (inr h) =
     subst (λ l. Reaches (length l) (piece bad (l ++ rest))) (sym h.1)
     (subst (Reaches (length (codes "//" ++ h.0))) (sym (piece-comment bad (h.0 ++ rest))) (reaches is_on_line (codes "//" ++ h.0) rest all))
 
-template-reached : (bad : Bool) (own rest : List ℕ) → IsTemplate own → Reaches (length own) (piece bad (own ++ rest))
+template-reached : (bad : Bool) (own rest : List ℕ) → IsTemplateToken own → Reaches (length own) (piece bad (own ++ rest))
 template-reached bad own rest h =
     let split = ap (λ l. codes "<html>" ++ l) (append_assoc h.0 (codes "</html>") rest) in
     let is = ap (λ l. piece bad (l ++ rest)) h.1 ∙ ap (piece bad) split ∙ piece-template bad (h.0 ++ (codes "</html>" ++ rest)) ∙ template-whole bad 6 h.0 rest h.2 in
@@ -62,7 +63,7 @@ begun-reached bad own rest h =
     (subst (Reaches (length (codes "<html>" ++ h.0))) (sym (piece-template bad (h.0 ++ rest))) (template-begun bad 6 (length (codes "<html>" ++ h.0)) h.0 rest h.2 (omega arith)))
 
 -- whatever stands at the front, no less is taken
-reached : (bad : Bool) (own rest : List ℕ) → IsPiece own → Reaches (length own) (piece bad (own ++ rest))
+reached : (bad : Bool) (own rest : List ℕ) → IsTokenPiece own → Reaches (length own) (piece bad (own ++ rest))
 reached bad own rest (inl h) = gap-reached bad own rest h
 reached bad own rest (inr (inl h)) = token-reached bad h.0 own rest h.1
 reached bad own rest (inr (inr h)) = begun-reached bad own rest h

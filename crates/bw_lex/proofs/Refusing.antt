@@ -13,10 +13,11 @@ use Rattle.bw_lex.specs.declared.pieces.FaultKind.{FaultKind}
 use Rattle.bw_lex.specs.declared.pieces.FaultKind.TheVariants as faults
 use Rattle.bw_lex.specs.declared.pieces.Piece.{Piece}
 use Rattle.bw_lex.specs.declared.pieces.Piece.TheVariants as pieces
-use Rattle.bw_lex.specs.Cuts.{AreTokens}
-use Rattle.bw_lex.specs.Forms.{HasForm, IsHeld}
+use Rattle.bw_lang.specs.Cuts.{AreTokens}
+use Rattle.bw_lang.specs.TokenForms.{HasForm, IsHeld}
 use Rattle.bw_lex.specs.Pieces.{piece}
-use Rattle.bw_lex.specs.Refusals.{Stops, Refuses, IsRefused, IsRefusedExactly, IsReadOrRefused}
+use Rattle.bw_lex.specs.Refusals.{Stops, Refuses, IsRefused}
+use Rattle.bw_lex.specs.Laws.{IsRefusedExactly, IsReadOrRefused}
 use Rattle.bw_lex.specs.Refusals as refusals
 use Rattle.bw_lex.specs.Tokens.{scan, onto, piece_len, Reading, fault_at, tokens_of}
 use Rattle.bw_lex.proofs.Cutting.{gap_has_bytes, scanned, front_is_text, is_text, tokens-found}

@@ -7,7 +7,7 @@ use Rattle.bw_lang.specs.declared.token.TokenKind.TheVariants as kinds
 use Rattle.bw_lex.specs.declared.pieces.Piece.TheVariants as pieces
 use Rattle.bw_lex.specs.declared.pieces.StringByte.{StringByte}
 use Rattle.bw_lex.specs.declared.pieces.StringByte.TheVariants as inside
-use Rattle.bw_lex.specs.Forms.{StandsFor, Spells}
+use Rattle.bw_lang.specs.TokenForms.{StandsFor, SpellsText}
 use Rattle.bw_lex.specs.Pieces.{string_byte, string_at, string}
 use Rattle.bw_lex.proofs.Strings.{stands_plain, stands_escaped, escapes_is, closes_is}
 
@@ -16,9 +16,9 @@ StandsFor-append c bytes rest more (inl h) = inl (ap (λ l. l ++ more) h.0, h.1,
 StandsFor-append c bytes rest more (inr (inl h)) = inr (inl (ap (λ l. l ++ more) h.0, h.1))
 StandsFor-append c bytes rest more (inr (inr h)) = inr (inr (ap (λ l. l ++ more) h.0, h.1))
 
-pub Spells-append : (text bytes rest more : List ℕ) → Spells text bytes rest → Spells text (bytes ++ more) (rest ++ more)
-Spells-append [] bytes rest more h = ap (λ l. l ++ more) h
-Spells-append (c ∷ text) bytes rest more h = (h.0 ++ more, StandsFor-append c bytes h.0 more h.1, Spells-append text h.0 rest more h.2)
+pub SpellsText-append : (text bytes rest more : List ℕ) → SpellsText text bytes rest → SpellsText text (bytes ++ more) (rest ++ more)
+SpellsText-append [] bytes rest more h = ap (λ l. l ++ more) h
+SpellsText-append (c ∷ text) bytes rest more h = (h.0 ++ more, StandsFor-append c bytes h.0 more h.1, SpellsText-append text h.0 rest more h.2)
 
 -- The scan of a string goes over the bytes that stand for a byte of its text,
 over_byte : (bad : Bool) (c : ℕ) (bytes rest text : List ℕ) (n : ℕ) → StandsFor c bytes rest → (m : ℕ) × (m + length rest ≡ n + length bytes) × (string bad false text n bytes ≡ string bad false (text ++ c ∷ []) m rest)
@@ -32,7 +32,7 @@ over_byte bad c bytes rest text n (inr (inr h)) =
     (n + 1 + 1, omega (arith, ap length h.0), ap (string bad false text n) h.0 ∙ ap (λ c. string bad false (text ++ c ∷ []) (n + 1 + 1) rest) (sym h.1))
 
 -- and over those that stand for a text
-pub over_text : (bad : Bool) (more bytes rest text : List ℕ) (n : ℕ) → Spells more bytes rest → (m : ℕ) × (m + length rest ≡ n + length bytes) × (string bad false text n bytes ≡ string bad false (text ++ more) m rest)
+pub over_text : (bad : Bool) (more bytes rest text : List ℕ) (n : ℕ) → SpellsText more bytes rest → (m : ℕ) × (m + length rest ≡ n + length bytes) × (string bad false text n bytes ≡ string bad false (text ++ more) m rest)
 over_text bad [] bytes rest text n h = (n, omega (arith, ap length h), ap (string bad false text n) h ∙ ap (λ t. string bad false t n rest) (sym (append-nil text)))
 over_text bad (c ∷ more) bytes rest text n h =
     let first = over_byte bad c bytes h.0 text n h.1 in
@@ -40,9 +40,9 @@ over_text bad (c ∷ more) bytes rest text n h =
     (others.0, omega (arith, first.1, others.1), first.2 ∙ others.2 ∙ ap (λ t. string bad false t others.0 rest) (append_assoc text (c ∷ []) more))
 
 -- a string is read to its end
-pub string-whole : (bad : Bool) (text inner rest : List ℕ) → Spells text inner (34 ∷ []) → string bad false [] 1 (inner ++ rest) ≡ pieces.Token (kinds.Str text) (suc (length inner))
+pub string-whole : (bad : Bool) (text inner rest : List ℕ) → SpellsText text inner (34 ∷ []) → string bad false [] 1 (inner ++ rest) ≡ pieces.Token (kinds.Str text) (suc (length inner))
 string-whole bad text inner rest h =
-    let over = over_text bad text (inner ++ rest) (34 ∷ rest) [] 1 (Spells-append text inner (34 ∷ []) rest h) in
+    let over = over_text bad text (inner ++ rest) (34 ∷ rest) [] 1 (SpellsText-append text inner (34 ∷ []) rest h) in
     over.2 ∙ ap (pieces.Token (kinds.Str text)) (omega (arith, over.1, length-append inner rest))
 
 abbrev pub behind : Bool → List ℕ → List ℕ
@@ -57,7 +57,7 @@ pub record Found (escaped : Bool) (text : List ℕ) (n : ℕ) (bytes : List ℕ)
   pub is : kind ≡ kinds.Str (text ++ more)
   pub front : bytes ≡ inner ++ rest
   pub len : end ≡ n + length inner
-  pub spelled : Spells more (behind escaped inner) (34 ∷ [])
+  pub spelled : SpellsText more (behind escaped inner) (34 ∷ [])
 
 pub stood : (escaped : Bool) (b c : ℕ) (inner : List ℕ) → string_byte escaped b ≡ inside.Stands c → StandsFor c (behind escaped (b ∷ inner)) inner
 stood true b c inner e = elim (stands_escaped b c e) [
@@ -98,7 +98,7 @@ found_at inside.Escapes escaped bad text n b bytes kind end q stands escapes e =
       is = f.is;
       front = ap (λ l. b ∷ l) f.front;
       len = omega (arith, f.len);
-      spelled = subst (λ x. Spells f.more (behind x (b ∷ f.inner)) (34 ∷ [])) (sym h.0) (subst (λ d. Spells f.more (d ∷ f.inner) (34 ∷ [])) (sym h.1) f.spelled);
+      spelled = subst (λ x. SpellsText f.more (behind x (b ∷ f.inner)) (34 ∷ [])) (sym h.0) (subst (λ d. SpellsText f.more (d ∷ f.inner) (34 ∷ [])) (sym h.1) f.spelled);
     }
 found_at inside.Closes escaped bad text n b bytes kind end q stands escapes e =
     let h = closes_is escaped b q in

@@ -13,15 +13,16 @@ use Rattle.bw_lex.specs.declared.pieces.Piece.{Piece}
 use Rattle.bw_lex.specs.declared.pieces.Piece.TheVariants as pieces
 use Rattle.bw_lex.specs.declared.pieces.StringByte.{StringByte}
 use Rattle.bw_lex.specs.declared.pieces.StringByte.TheVariants as inside
-use Rattle.bw_lex.specs.Bytes.{is_blank, is_digit, is_letter, is_sign, is_pair}
-use Rattle.bw_lex.specs.Forms.{HasForm, IsGap, IsNumber, StandsFor, Spells, HasNoEnd}
-use Rattle.bw_lex.specs.Pieces.{value, number, string_byte, string_at, string, template, sign, piece}
+use Rattle.bw_lang.specs.Bytes.{is_blank, is_digit, is_letter, is_sign, is_pair}
+use Rattle.bw_lang.specs.TokenForms.{HasForm, IsGap, IsNumber, StandsFor, SpellsText, HasNoEnd}
+use Rattle.bw_lang.specs.TokenForms.{value}
+use Rattle.bw_lex.specs.Pieces.{number, string_byte, string_at, string, template, sign, piece}
 use Rattle.bw_lex.specs.Refusals.{BeginsNothing, Stops, stray_byte, bad_byte_in_string, no_escape, broken_string, open_string, bad_byte_in_template, open_template, big_number}
 use Rattle.bw_lex.specs.Tokens.{fault_at}
 use Rattle.bw_lex.proofs.Branches.{Branch, blank, word, digits, quoted, comment, markup, other, branch, starts_there, if_branch}
 use Rattle.bw_lex.proofs.Ends.{some}
 use Rattle.bw_lex.proofs.Passes.{passing, all_head, take_first, true_or_false}
-use Rattle.bw_lex.proofs.Spelled.{behind, stood, Spells-append}
+use Rattle.bw_lex.proofs.Spelled.{behind, stood, SpellsText-append}
 use Rattle.bw_lex.proofs.Strings.{escapes_is}
 use Rattle.bw_lex.proofs.Templates.{none_in_nil, no_end_in_front}
 
@@ -35,12 +36,12 @@ same : (bad : Bool) (at n m : ℕ) (bytes more : List ℕ) (kind : FaultKind) �
 same bad at n m bytes more kind e f h = subst (λ l. Stops bad at l (fault_at kind (at + m))) e (subst (λ k. Stops bad at bytes (fault_at kind (at + k))) f h)
 
 -- one byte more is spelled
-Spells-join : (text more bytes rest : List ℕ) → Spells text bytes rest → Spells more rest [] → Spells (text ++ more) bytes []
-Spells-join [] more bytes rest h g = subst (λ l. Spells more l []) (sym h) g
-Spells-join (c ∷ text) more bytes rest h g = (h.0, h.1, Spells-join text more h.0 rest h.2 g)
+SpellsText-join : (text more bytes rest : List ℕ) → SpellsText text bytes rest → SpellsText more rest [] → SpellsText (text ++ more) bytes []
+SpellsText-join [] more bytes rest h g = subst (λ l. SpellsText more l []) (sym h) g
+SpellsText-join (c ∷ text) more bytes rest h g = (h.0, h.1, SpellsText-join text more h.0 rest h.2 g)
 
-spelled_more : (text inner own : List ℕ) (c : ℕ) → Spells text inner [] → StandsFor c own [] → Spells (text ++ c ∷ []) (inner ++ own) []
-spelled_more text inner own c h g = Spells-join text (c ∷ []) (inner ++ own) own (Spells-append text inner [] own h) ([], g, refl)
+spelled_more : (text inner own : List ℕ) (c : ℕ) → SpellsText text inner [] → StandsFor c own [] → SpellsText (text ++ c ∷ []) (inner ++ own) []
+spelled_more text inner own c h g = SpellsText-join text (c ∷ []) (inner ++ own) own (SpellsText-append text inner [] own h) ([], g, refl)
 
 behind-append : (escaped : Bool) (b : ℕ) (bs : List ℕ) → behind escaped (b ∷ bs) ≡ behind escaped (b ∷ []) ++ bs
 behind-append true b bs = refl
@@ -63,7 +64,7 @@ before_own : (escaped : Bool) (b : ℕ) (inner own : List ℕ) → own ≡ behin
 before_own true b inner own e = omega (arith, length-append inner own, ap length e)
 before_own false b inner own e = omega (arith, length-append inner own, ap length e)
 
-string_at-stops : (s : StringByte) (bad escaped : Bool) (at b : ℕ) (text inner bs : List ℕ) → string_byte escaped b ≡ s → Spells text inner [] →
+string_at-stops : (s : StringByte) (bad escaped : Bool) (at b : ℕ) (text inner bs : List ℕ) → string_byte escaped b ≡ s → SpellsText text inner [] →
     ((c : ℕ) (own : List ℕ) → StandsFor c own [] → own ≡ behind escaped (b ∷ []) → StopsAt bad at (34 ∷ ((inner ++ own) ++ bs)) (string bad false (text ++ c ∷ []) (before escaped inner + 1) bs)) →
     (escaped ≡ false → b ≡ 92 → StopsAt bad at (34 ∷ (inner ++ 92 ∷ bs)) (string bad true text (before escaped inner + 1) bs)) →
     StopsAt bad at (34 ∷ (inner ++ behind escaped (b ∷ bs))) (string_at s text (before escaped inner) (λ c. string bad false (text ++ c ∷ []) (before escaped inner + 1) bs) (string bad true text (before escaped inner + 1) bs))
@@ -86,7 +87,7 @@ string_at-stops inside.NoEscape bad escaped at b text inner bs e h stands escape
     let len : 1 + length inner ≡ before escaped inner - 1 = omega (arith, ap (λ x. before x inner) k.0) in
     same bad at (1 + length inner) (before escaped inner - 1) _ _ faults.BadByte whole len (no_escape text inner (b ∷ bs) h (k.1.0, k.1.1, k.1.2))
 
-string-stops : (bad escaped : Bool) (at : ℕ) (text inner bs : List ℕ) → Spells text inner [] → StopsAt bad at (34 ∷ (inner ++ behind escaped bs)) (string bad escaped text (before escaped inner) bs)
+string-stops : (bad escaped : Bool) (at : ℕ) (text inner bs : List ℕ) → SpellsText text inner [] → StopsAt bad at (34 ∷ (inner ++ behind escaped bs)) (string bad escaped text (before escaped inner) bs)
 string-stops bad true at text inner [] h =
     let len : 1 + length inner ≡ before true inner - 1 = omega arith in
     same bad at (1 + length inner) (before true inner - 1) _ _ faults.BadByte refl len (no_escape text inner [] h tt)

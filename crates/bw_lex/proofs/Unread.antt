@@ -8,27 +8,28 @@ use Rattle.bw_lex.specs.declared.pieces.FaultKind.TheVariants as faults
 use Rattle.bw_lex.specs.declared.pieces.Piece.{Piece}
 use Rattle.bw_lex.specs.declared.pieces.Piece.TheVariants as pieces
 use Rattle.bw_lex.specs.declared.pieces.StringByte.TheVariants as inside
-use Rattle.bw_lex.specs.Bytes.{is_digit, is_word_byte, is_on_line, is_sign, is_pair}
-use Rattle.bw_lex.specs.Forms.{IsPiece, IsNumber, Spells, HasNoEnd}
-use Rattle.bw_lex.specs.Pieces.{value, string_byte, string_at, string, template, sign, piece}
+use Rattle.bw_lang.specs.Bytes.{is_digit, is_word_byte, is_on_line, is_sign, is_pair}
+use Rattle.bw_lang.specs.TokenForms.{IsTokenPiece, IsNumber, SpellsText, HasNoEnd}
+use Rattle.bw_lang.specs.TokenForms.{value}
+use Rattle.bw_lex.specs.Pieces.{string_byte, string_at, string, template, sign, piece}
 use Rattle.bw_lex.specs.Refusals.{EndsNoEscape, BeginsNothing}
 use Rattle.bw_lex.proofs.Branches.{Branch, blank, word, digits, quoted, comment, markup, other, branch, starts}
 use Rattle.bw_lex.proofs.Digits.{value-take-le, number_is_too_big}
 use Rattle.bw_lex.proofs.Fronts.{piece-string, piece-template, piece-number}
 use Rattle.bw_lex.proofs.Passes.{all_nil, all_cons, all_head, reaches, true_or_false}
-use Rattle.bw_lex.proofs.Spelled.{Spells-append, over_text}
+use Rattle.bw_lex.proofs.Spelled.{SpellsText-append, over_text}
 use Rattle.bw_lex.proofs.Templates.{none_in_nil, no_end_behind}
 
 -- a string up to a place in front of its end
-string-over : (bad : Bool) (text inner rest : List ℕ) → Spells text inner [] → piece bad (34 ∷ (inner ++ rest)) ≡ string bad false text (1 + length inner) rest
+string-over : (bad : Bool) (text inner rest : List ℕ) → SpellsText text inner [] → piece bad (34 ∷ (inner ++ rest)) ≡ string bad false text (1 + length inner) rest
 string-over bad text inner rest h =
-    let over = over_text bad text (inner ++ rest) rest [] 1 (Spells-append text inner [] rest h) in
+    let over = over_text bad text (inner ++ rest) rest [] 1 (SpellsText-append text inner [] rest h) in
     piece-string bad (inner ++ rest) ∙ over.2 ∙ ap (λ m. string bad false text m rest) (omega (arith, over.1, length-append inner rest))
 
-pub string-cut : (bad : Bool) (text inner : List ℕ) → Spells text inner [] → piece bad (34 ∷ inner) ≡ (if bad then pieces.Fault faults.BadByte (1 + length inner) else pieces.Fault faults.OpenString 0)
+pub string-cut : (bad : Bool) (text inner : List ℕ) → SpellsText text inner [] → piece bad (34 ∷ inner) ≡ (if bad then pieces.Fault faults.BadByte (1 + length inner) else pieces.Fault faults.OpenString 0)
 string-cut bad text inner h = ap (λ l. piece bad (34 ∷ l)) (sym (append-nil inner)) ∙ string-over bad text inner [] h
 
-pub string-broken : (bad : Bool) (text inner rest : List ℕ) → Spells text inner [] → piece bad (34 ∷ (inner ++ 10 ∷ rest)) ≡ pieces.Fault faults.OpenString 0
+pub string-broken : (bad : Bool) (text inner rest : List ℕ) → SpellsText text inner [] → piece bad (34 ∷ (inner ++ 10 ∷ rest)) ≡ pieces.Fault faults.OpenString 0
 string-broken bad text inner rest h = string-over bad text inner (10 ∷ rest) h
 
 no-escape : (bad : Bool) (text : List ℕ) (n : ℕ) (rest : List ℕ) → EndsNoEscape rest → string bad true text (n + 1) rest ≡ pieces.Fault faults.BadByte n
@@ -38,7 +39,7 @@ no-escape bad text n (b ∷ bs) h =
     ap (λ s. string_at s text (n + 1) (λ c. string bad false (text ++ c ∷ []) (n + 1 + 1) bs) (string bad true text (n + 1 + 1) bs)) e
     ∙ ap (pieces.Fault faults.BadByte) (omega arith)
 
-pub string-no-escape : (bad : Bool) (text inner rest : List ℕ) → Spells text inner [] → EndsNoEscape rest → piece bad (34 ∷ (inner ++ 92 ∷ rest)) ≡ pieces.Fault faults.BadByte (1 + length inner)
+pub string-no-escape : (bad : Bool) (text inner rest : List ℕ) → SpellsText text inner [] → EndsNoEscape rest → piece bad (34 ∷ (inner ++ 92 ∷ rest)) ≡ pieces.Fault faults.BadByte (1 + length inner)
 string-no-escape bad text inner rest h g = string-over bad text inner (92 ∷ rest) h ∙ no-escape bad text (1 + length inner) rest g
 
 -- a template whose end isn't there
@@ -68,7 +69,7 @@ number-too-big bad v (b ∷ bs) rest h g =
     ∙ number_is_too_big bytes (omega (arith, most, ap value own, h.2, g))
 
 -- a byte at which no piece begins
-nothing-there : (b : ℕ) (bs : List ℕ) → BeginsNothing (b ∷ bs) → IsPiece (b ∷ []) → ⊥
+nothing-there : (b : ℕ) (bs : List ℕ) → BeginsNothing (b ∷ bs) → IsTokenPiece (b ∷ []) → ⊥
 nothing-there b bs h p = let e = h (b ∷ []) bs refl p in cc
 
 no-sign : (b : ℕ) (bs : List ℕ) → BeginsNothing (b ∷ bs) → sign (b ∷ bs) ≡ pieces.Fault faults.BadByte 0

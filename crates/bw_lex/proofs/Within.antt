@@ -6,10 +6,10 @@ use Rattle.std.proofs.lemmas.List.{append_assoc, append-nil, length-append, take
 use Rattle.bw_lang.specs.declared.token.Token.{Token}
 use Rattle.bw_lang.specs.declared.token.TokenKind.{TokenKind}
 use Rattle.bw_lang.specs.declared.token.TokenKind.TheVariants as kinds
-use Rattle.bw_lex.specs.Cuts.{Cuts, AreTokens, HasText, IsWithin}
-use Rattle.bw_lex.specs.Cuts as cuts
-use Rattle.bw_lex.specs.Forms.{HasForm, IsHeld, StandsFor, Spells}
-use Rattle.bw_lex.proofs.Spelled.{Spells-append}
+use Rattle.bw_lang.specs.Cuts.{Cuts, AreTokens, HasText, IsWithin}
+use Rattle.bw_lang.specs.Cuts as cuts
+use Rattle.bw_lang.specs.TokenForms.{HasForm, IsHeld, StandsFor, SpellsText}
+use Rattle.bw_lex.proofs.Spelled.{SpellsText-append}
 use Rattle.bw_lex.proofs.Utf8.{front, behind, joined}
 
 pub form_has_bytes : (kind : TokenKind) (own : List ℕ) → HasForm kind own → 1 ≤ length own
@@ -31,7 +31,7 @@ byte-text c bytes rest text (inr (inl h)) u =
 byte-text c bytes rest text (inr (inr h)) u =
     joined text rest 92 110 c (omega arith) (omega arith) (omega (arith, h.1)) (subst (λ l. IsUtf8 (text ++ l)) h.0 u)
 
-spelled-text : (more bytes rest text : List ℕ) → Spells more bytes rest → IsUtf8 (text ++ bytes) → IsUtf8 ((text ++ more) ++ rest)
+spelled-text : (more bytes rest text : List ℕ) → SpellsText more bytes rest → IsUtf8 (text ++ bytes) → IsUtf8 ((text ++ more) ++ rest)
 spelled-text [] bytes rest text h u = subst IsUtf8 (ap (λ l. text ++ l) h ∙ ap (λ t. t ++ rest) (sym (append-nil text))) u
 spelled-text (c ∷ more) bytes rest text h u =
     subst (λ t. IsUtf8 (t ++ rest)) (append_assoc text (c ∷ []) more) (spelled-text more h.0 rest (text ++ c ∷ []) h.2 (byte-text c bytes h.0 text h.1 u))
@@ -42,7 +42,7 @@ has_text before own rest (kinds.Number v) h u = tt
 has_text before own rest (kinds.Str text) h u =
     let quoted = subst (λ l. IsUtf8 (before ++ (l ++ rest))) h.1 u in
     let inner = behind before (h.0 ++ rest) 34 (omega arith) quoted in
-    front text rest 34 (omega arith) (spelled-text text (h.0 ++ rest) (34 ∷ rest) [] (Spells-append text h.0 (34 ∷ []) rest h.2) inner)
+    front text rest 34 (omega arith) (spelled-text text (h.0 ++ rest) (34 ∷ rest) [] (SpellsText-append text h.0 (34 ∷ []) rest h.2) inner)
 has_text before own rest kinds.Template h u = tt
 has_text before own rest kinds.Sign h u = tt
 

@@ -1,6 +1,4 @@
-pub mod Bytes
-pub mod Cuts
-pub mod Forms
+pub mod Laws
 pub mod Pieces
 pub mod Refusals
 pub mod Tokens

@@ -1,5 +1,5 @@
 -- The piece that stands at the front of some bytes: blanks or a comment, a token, or a fault.
-use Rattle.std.specs.Prelude.{ℕ, ◌+◌, ◌-◌, ◌*◌, Bool, true, false, nat_eq, nat_le, ◌==◌, ◌||◌, if◌then◌else◌, List, [], ◌∷◌, ◌++◌, codes, fold, take_while, drop}
+use Rattle.std.specs.Prelude.{ℕ, ◌+◌, ◌-◌, Bool, true, false, nat_eq, nat_le, ◌==◌, ◌||◌, if◌then◌else◌, List, [], ◌∷◌, ◌++◌, codes, take_while, drop}
 use Rattle.std.specs.List.{prefix_len, starts_with}
 use Rattle.std.specs.Str.{byte}
 use Rattle.bw_lang.specs.declared.token.TokenKind.TheVariants as kinds
@@ -8,11 +8,8 @@ use Rattle.bw_lex.specs.declared.pieces.Piece.{Piece}
 use Rattle.bw_lex.specs.declared.pieces.Piece.TheVariants as pieces
 use Rattle.bw_lex.specs.declared.pieces.StringByte.{StringByte}
 use Rattle.bw_lex.specs.declared.pieces.StringByte.TheVariants as inside
-use Rattle.bw_lex.specs.Bytes.{is_blank, is_letter, is_digit, is_word_byte, is_on_line, is_sign, is_pair}
-
--- the value of decimal digits
-abbrev pub value : List ℕ → ℕ
-value digits = fold (λ v d. v * 10 + (d - byte "0")) 0 digits
+use Rattle.bw_lang.specs.Bytes.{is_blank, is_letter, is_digit, is_word_byte, is_on_line, is_sign, is_pair}
+use Rattle.bw_lang.specs.TokenForms.{value}
 
 -- the digits at the front, as a number
 abbrev pub number : List ℕ → Piece

@@ -1,13 +1,11 @@
 -- A text is refused for the first fault in it.
-use Rattle.std.specs.Prelude.{◌≡◌, ◌≢◌, ◌⊎◌, ℕ, ◌+◌, ◌≤◌, ◌^◌, Bool, true, false, List, [], ◌∷◌, ◌++◌, length, take, codes, Err, ◌↔◌}
+use Rattle.std.specs.Prelude.{◌≡◌, ◌≢◌, ◌⊎◌, ℕ, ◌+◌, ◌≤◌, ◌^◌, Bool, true, false, List, [], ◌∷◌, ◌++◌, length, take, codes}
 use Rattle.std.specs.Str.{IsUtf8, IsValidUpTo, byte}
-use Rattle.bw_lang.specs.declared.token.Token.{Token}
 use Rattle.bw_lang.specs.declared.token.TokenKind.{TokenKind}
 use Rattle.bw_lex.specs.declared.LexFault.{LexFault}
 use Rattle.bw_lex.specs.declared.LexFault.TheVariants as faults
-use Rattle.bw_lex.specs.Cuts.{IsLongest, AreTokens}
-use Rattle.bw_lex.specs.Forms.{HasForm, IsHeld, IsGap, IsPiece, IsNumber, Spells, HasNoEnd}
-use Rattle.bw_lex.specs.Tokens.{tokens_of}
+use Rattle.bw_lang.specs.Cuts.{IsLongest}
+use Rattle.bw_lang.specs.TokenForms.{HasForm, IsHeld, IsGap, IsTokenPiece, IsNumber, SpellsText, HasNoEnd}
 
 -- none of the three that may stand behind a backslash
 abbrev pub EndsNoEscape : List ℕ → Type 0
@@ -16,7 +14,7 @@ EndsNoEscape (b ∷ bs) = (b ≢ byte "\"") × (b ≢ byte "\\") × (b ≢ byte 
 
 -- no piece stands at the front
 abbrev pub BeginsNothing : List ℕ → Type 0
-BeginsNothing bytes = (own rest : List ℕ) → bytes ≡ own ++ rest → IsPiece own → own ≡ []
+BeginsNothing bytes = (own rest : List ℕ) → bytes ≡ own ++ rest → IsTokenPiece own → own ≡ []
 
 -- The fault that stands at place at, from which on the text has these bytes; bad: it ends at a byte that is no UTF-8.
 pub data Stops (bad : Bool) (at : ℕ) : List ℕ → LexFault → Type 0 where
@@ -25,15 +23,15 @@ pub data Stops (bad : Bool) (at : ℕ) : List ℕ → LexFault → Type 0 where
   -- no string begins here, and nothing else that may stand here
   stray_byte : (b : ℕ) (bs : List ℕ) → b ≢ byte "\"" → BeginsNothing (b ∷ bs) → Stops bad at (b ∷ bs) (faults.BadByte at)
   -- a string comes to that byte
-  bad_byte_in_string : (text inside : List ℕ) → bad ≡ true → Spells text inside [] →
+  bad_byte_in_string : (text inside : List ℕ) → bad ≡ true → SpellsText text inside [] →
       Stops bad at (byte "\"" ∷ inside) (faults.BadByte (at + (1 + length inside)))
   -- a string comes to a backslash that begins no escape
-  no_escape : (text inside rest : List ℕ) → Spells text inside [] → EndsNoEscape rest →
+  no_escape : (text inside rest : List ℕ) → SpellsText text inside [] → EndsNoEscape rest →
       Stops bad at (byte "\"" ∷ (inside ++ byte "\\" ∷ rest)) (faults.BadByte (at + (1 + length inside)))
   -- a string comes to the end of its line, or of the text
-  broken_string : (text inside rest : List ℕ) → Spells text inside [] →
+  broken_string : (text inside rest : List ℕ) → SpellsText text inside [] →
       Stops bad at (byte "\"" ∷ (inside ++ byte "\n" ∷ rest)) (faults.OpenString at)
-  open_string : (text inside : List ℕ) → bad ≡ false → Spells text inside [] → Stops bad at (byte "\"" ∷ inside) (faults.OpenString at)
+  open_string : (text inside : List ℕ) → bad ≡ false → SpellsText text inside [] → Stops bad at (byte "\"" ∷ inside) (faults.OpenString at)
   -- a template comes to that byte, or to the end of the text
   bad_byte_in_template : (inside : List ℕ) → bad ≡ true → HasNoEnd inside →
       Stops bad at (codes "<html>" ++ inside) (faults.BadByte (at + (6 + length inside)))
@@ -53,11 +51,3 @@ pub data Refuses (bad : Bool) : ℕ → List ℕ → LexFault → Type 0 where
 -- the first fault of a text: in it, or in its longest front that is UTF-8 and at the byte behind that
 abbrev pub IsRefused : List ℕ → LexFault → Type 0
 IsRefused bytes fault = (IsUtf8 bytes × Refuses false 0 bytes fault) ⊎ ((n : ℕ) × IsValidUpTo bytes n × Refuses true 0 (take n bytes) fault)
-
--- a text is read as a fault exactly where that is its first
-abbrev pub IsRefusedExactly : Type 0
-IsRefusedExactly = (bytes : List ℕ) (fault : LexFault) → IsRefused bytes fault ↔ (tokens_of bytes ≡ Err fault)
-
--- each text has its tokens or a first fault
-abbrev pub IsReadOrRefused : Type 0
-IsReadOrRefused = (bytes : List ℕ) → ((tokens : List Token) × AreTokens bytes tokens) ⊎ ((fault : LexFault) × IsRefused bytes fault)

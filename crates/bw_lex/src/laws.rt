@@ -1,6 +1,5 @@
 //! Laws of tokens. A law is the contract of an empty function.
-ghost use Rattle.bw_lex.specs.Cuts.{IsCutOnce, IsReadExactly};
-ghost use Rattle.bw_lex.specs.Refusals.{IsRefusedExactly, IsReadOrRefused};
+ghost use Rattle.bw_lex.specs.Laws.{IsCutOnce, IsReadExactly, IsRefusedExactly, IsReadOrRefused};
 
 /// A text has one list of tokens or one first fault, and is read as that.
 pub fn reads_exactly()

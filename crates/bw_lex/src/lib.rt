@@ -16,7 +16,7 @@ mod pieces;
 ghost use Rattle.std.specs.Prelude.{◌≡◌, ◌⊎◌, List, All, IfOk, IfErr, Ok, Err};
 ghost use Rattle.std.specs.Str.{IsUtf8};
 ghost use Rattle.bw_lang.specs.declared.token.Token.{Token};
-ghost use Rattle.bw_lex.specs.Cuts.{AreTokens, IsWithin};
+ghost use Rattle.bw_lang.specs.Cuts.{AreTokens, IsWithin};
 ghost use Rattle.bw_lex.specs.Refusals.{IsRefused};
 ghost use Rattle.bw_lex.specs.Tokens.{scan, tokens_of, fault_at};
 ghost use Rattle.bw_lex.specs.declared.LexFault.{LexFault};

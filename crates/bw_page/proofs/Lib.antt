@@ -1,2 +1,3 @@
 pub mod Printed
-pub mod Wrapped
+pub mod Listed
+pub mod Sizes

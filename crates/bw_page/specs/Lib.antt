@@ -1,1 +1,4 @@
+pub mod Bytes
+pub mod Fields
+pub mod Laws
 pub mod Pages

@@ -1,4 +1,7 @@
-pub mod OneReading
+pub mod Bounds
+pub mod Declared
+pub mod OneAnswer
 pub mod Rests
-pub mod Same
+pub mod Sizes
+pub mod Stages
 pub mod Words

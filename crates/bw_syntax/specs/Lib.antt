@@ -1,4 +1,3 @@
-pub mod Drafts
-pub mod Reads
-pub mod Spelling
-pub mod View
+pub mod Laws
+pub mod Refusals
+pub mod Stages

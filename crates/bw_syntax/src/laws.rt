@@ -1,7 +1,10 @@
 //! Laws of reading.
-ghost use Rattle.bw_syntax.specs.Reads.{ReadsOnce};
+ghost use Rattle.bw_syntax.specs.Laws.{ReadsOnce, NotBoth, OneReason};
 
-/// The bytes of a file read as one service at most.
-pub fn reads_once()
-    ensures { ReadsOnce }
+/// The bytes of a file read as one service at most, or are refused for one reason at most, want of memory aside; the
+/// place of a fault of syntax is left open.
+pub fn one_answer()
+    ensures once { ReadsOnce }
+    ensures not_both { NotBoth }
+    ensures reason { OneReason }
 {}

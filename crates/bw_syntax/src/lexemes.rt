@@ -1,88 +1,29 @@
-//! Tokens with what they say, and how the parser takes them one after another.
-ghost use Rattle.std.specs.Prelude.{◌≡◌, ◌∷◌, List, ℕ, All, map, IfNone, IfSome, IfOk};
-ghost use Rattle.bw_lang.specs.Keywords.{IsFree};
-ghost use Rattle.bw_lang.specs.Lexemes.{Lexeme as Said, word, template, sign, lexeme};
-ghost use Rattle.bw_lex.specs.Cuts.{IsWithin};
-ghost use Rattle.bw_lex.specs.Forms.{IsWord};
-ghost use Rattle.bw_syntax.specs.View.{said, says};
+//! What the tokens of a text say.
+ghost use Rattle.std.specs.Prelude.{◌≡◌, All, IfOk};
+ghost use Rattle.bw_lang.specs.Cuts.{IsWithin};
+ghost use Rattle.bw_lang.specs.Lexemes.{lexeme};
+ghost use Rattle.bw_lang.specs.Reads.{lexemes};
+ghost use Rattle.bw_lang.specs.TokenForms.{IsWord};
 
-use bw_lang::{Memory, Token, TokenKind, is_keyword};
+use bw_lang::{Bytes, Lexeme, Memory, Name, Token, TokenKind};
 use std::alloc::Global;
 use std::str;
 
-/// What a token says, borrowed from the text and its tokens.
-#[derive(Clone, Copy, Debug)]
-pub enum Lexeme<'a> {
-    Word(&'a str),
-    Number(u64),
-    Str(&'a str),
-    /// What stands between `<html>` and `</html>`.
-    Template(&'a [u8]),
-    Sign(&'a [u8]),
-}
-
-/// What follows this word.
-pub fn after_word<'a, 'b>(which: &str, lexemes: &'b [Lexeme<'a>]) -> Option<&'b [Lexeme<'a>]>
-    ensures found { IfSome result (λ rest. says lexemes.now ≡ word which.now ∷ says rest.now) }
-    ensures none { IfNone result ((rest : List Said) → says lexemes.now ≡ word which.now ∷ rest → ⊥) }
-{
-    match lexemes {
-        [Lexeme::Word(other), rest @ ..] => { if *other == which { Some(rest) } else { None } }
-        _ => None,
-    }
-}
-
-/// What follows this sign.
-pub fn after_sign<'a, 'b>(which: &[u8], lexemes: &'b [Lexeme<'a>]) -> Option<&'b [Lexeme<'a>]>
-    ensures found { IfSome result (λ rest. says lexemes.now ≡ sign which.now ∷ says rest.now) }
-    ensures none { IfNone result ((rest : List Said) → says lexemes.now ≡ sign which.now ∷ rest → ⊥) }
-{
-    match lexemes {
-        [Lexeme::Sign(other), rest @ ..] => { if *other == which { Some(rest) } else { None } }
-        _ => None,
-    }
-}
-
-/// A name, and what follows it.
-pub fn name_at<'a, 'b>(lexemes: &'b [Lexeme<'a>]) -> Option<(&'a str, &'b [Lexeme<'a>])>
-    ensures found { IfSome result (λ x. says lexemes.now ≡ word x.0.now ∷ says x.1.now) }
-    ensures free { IfSome result (λ x. IsFree x.0.now) }
-    ensures none { IfNone result ((name : List ℕ) (rest : List Said) → IsFree name → says lexemes.now ≡ word name ∷ rest → ⊥) }
-{
-    match lexemes {
-        [Lexeme::Word(name), rest @ ..] => {
-            if is_keyword(name) || name.len() > 64 {
-                None
-            } else {
-                Some((*name, rest))
-            }
-        }
-        _ => None,
-    }
-}
-
-/// The inside of a template, and what follows it.
-pub fn template_at<'a, 'b>(lexemes: &'b [Lexeme<'a>]) -> Option<(&'a [u8], &'b [Lexeme<'a>])>
-    ensures found { IfSome result (λ x. says lexemes.now ≡ template x.0.now ∷ says x.1.now) }
-    ensures none { IfNone result ((inside : List ℕ) (rest : List Said) → says lexemes.now ≡ template inside ∷ rest → ⊥) }
-{
-    match lexemes {
-        [Lexeme::Template(inside), rest @ ..] => Some((*inside, rest)),
-        _ => None,
-    }
-}
-
 /// What a token says.
-fn lexeme_of<'a>(bytes: &'a [u8], token: &'a Token) -> Lexeme<'a>
+fn lexeme_of(alloc: Global, bytes: &[u8], token: &Token) -> Result<Lexeme, Memory>
     requires { IsWithin bytes.now token.now }
-    ensures { said result ≡ lexeme bytes.now token.now }
+    ensures { IfOk result (λ l. l ≡ lexeme bytes.now token.now) }
 {
+    let own = &bytes[token.start..token.end];
     match &token.what {
-        TokenKind::Word => Lexeme::Word(word_of(&bytes[token.start..token.end])),
-        TokenKind::Number(value) => Lexeme::Number(*value),
-        TokenKind::Str(text) => Lexeme::Str(text.as_str()),
-        TokenKind::Template => Lexeme::Template(&bytes[token.start + 6..token.end - 7]),
-        TokenKind::Sign => Lexeme::Sign(&bytes[token.start..token.end]),
+        TokenKind::Word => Ok(Lexeme::Word(Name::of(alloc, word_of(own))?)),
+        TokenKind::Number(value) => Ok(Lexeme::Number(*value)),
+        TokenKind::Str(text) => Ok(Lexeme::Str(text.copy()?)),
+        TokenKind::Template => Ok(Lexeme::Template(Bytes::of(
+            alloc,
+            &bytes[token.start + 6..token.end - 7],
+        )?)),
+        TokenKind::Sign => Ok(Lexeme::Sign(Bytes::of(alloc, own)?)),
     }
 }
 
@@ -98,17 +39,13 @@ fn word_of(bytes: &[u8]) -> &str
 }
 
 /// What the tokens of a text say.
-pub fn lexemes_of<'a>(
-    alloc: Global,
-    bytes: &'a [u8],
-    tokens: &'a [Token],
-) -> Result<Vec<Lexeme<'a>>, Memory>
+pub fn lexemes_of(alloc: Global, bytes: &[u8], tokens: &[Token]) -> Result<Vec<Lexeme>, Memory>
     requires { All (IsWithin bytes.now) tokens.now }
-    ensures { IfOk result (λ lexemes. says lexemes.items ≡ map (lexeme bytes.now) tokens.now) }
+    ensures { IfOk result (λ ls. ls.items ≡ lexemes bytes.now tokens.now) }
 {
-    let mut lexemes = Vec::new(alloc);
+    let mut list = Vec::new(alloc);
     for token in tokens {
-        lexemes.push(lexeme_of(bytes, token))?;
+        list.push(lexeme_of(alloc, bytes, token)?)?;
     }
-    Ok(lexemes)
+    Ok(list)
 }

@@ -1,10 +1,13 @@
-//! Reading of services: from the bytes of a file to the one service that they spell.
+//! Reading of services: from the bytes of a file to the one service that they spell, or the first reason why they spell
+//! none.
 #![tactic(auto)]
 
-mod drafts;
+mod fault;
 mod laws;
 mod lexemes;
 mod reading;
+mod templates;
 
-pub use laws::reads_once;
-pub use reading::{SyntaxFault, read_service};
+pub use fault::SyntaxFault;
+pub use laws::one_answer;
+pub use reading::read_service;

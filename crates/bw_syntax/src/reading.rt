@@ -1,124 +1,128 @@
 //! From the bytes of a file to a service.
-ghost use Rattle.std.specs.Prelude.{◌≡◌, ◌≢◌, IfOk, IsErrOf};
-ghost use Rattle.bw_lang.specs.Forest.{Forest};
-ghost use Rattle.bw_syntax.specs.Drafts.{parts_of};
-ghost use Rattle.bw_syntax.specs.Reads.{Reads, ReadsNothing, IsOnePage, service_of};
+ghost use Rattle.std.specs.Prelude.{◌≡◌, ◌≤◌, ◌⊎◌, Ok, Err, None, IfOk, IfErr, length};
+ghost use Rattle.bw_lang.specs.Brackets.{too_deep};
+ghost use Rattle.bw_lang.specs.declared.service.Service.{Service as Service_};
+ghost use Rattle.bw_lang.specs.Drafts.{AreFormed};
+ghost use Rattle.bw_lang.specs.Reads.{Reads, IsText};
+ghost use Rattle.bw_syntax.specs.declared.fault.SyntaxFault.{SyntaxFault as Fault_};
+ghost use Rattle.bw_syntax.specs.Refusals.{Refuses, IsSameAnswer};
+ghost use Rattle.bw_syntax.specs.Stages.{IsUntold, IsUnparsed, IsParsed, IsRefusedDraft, IsServiceOf, AreBounded};
 
-use crate::drafts::{Draft, draft_of};
+use crate::fault::SyntaxFault;
 use crate::lexemes::lexemes_of;
-use bw_lang::{
-    Block, Expr, Items, Memory, Name, Service, Session, Sessions, Shareds, Stmt, Template,
-    Templates,
-};
+use crate::templates::read_all;
+use bw_lang::{Lexeme, Service, Token, Tokens};
 use bw_lex::{LexFault, lex};
-use bw_tmpl::{TmplFault, read_closed};
-use std::alloc::{AllocFailed, Global};
+use bw_limits::{too_deep, too_many};
+use bw_parse::{ParseFault, ServiceDraft, parse_service};
+use std::alloc::Global;
 
 /// The greatest number of bytes of a service file.
 const FILE_MOST: usize = 1_048_576;
 
-/// The greatest number of elements inside one another in a template.
-const NESTING_MOST: u32 = 64;
-
-/// Why a file isn't read.
-#[derive(Clone, Copy, Debug, PartialEq, Eq)]
-pub enum SyntaxFault {
-    /// The bytes are no service of the kind that is read so far: one template without gaps, and one session whose
-    /// whole body is the exit of this template.
-    NotYet,
-    /// There was no memory.
-    Memory,
+/// The tokens of a text, and what they say.
+#[derive(Drop)]
+struct Told {
+    tokens: Tokens,
+    lexemes: Vec<Lexeme>,
 }
 
-impl From<Memory> for SyntaxFault {
-    ghost use Rattle.bw_syntax.specs.declared.reading.SyntaxFault.TheVariants as fault;
-
-    ghost from_gives = { λ _ e. e ≡ fault.Memory };
-
-    fn from(_error: Memory) -> SyntaxFault {
-        SyntaxFault::Memory
-    }
-}
-
-impl<T: Drop> From<AllocFailed<T>> for SyntaxFault {
-    ghost use Rattle.bw_syntax.specs.declared.reading.SyntaxFault.TheVariants as fault;
-
-    ghost from_gives = { λ _ e. e ≡ fault.Memory };
-
-    fn from(_error: AllocFailed<T>) -> SyntaxFault {
-        SyntaxFault::Memory
-    }
-}
-
-/// The service of a draft, once its template is read.
-fn service_from(alloc: Global, draft: &Draft<'_>) -> Result<Service, SyntaxFault>
-    ensures read { IfOk result (λ s. (items : Forest) × IsOnePage (parts_of draft.now) items × (s ≡ service_of (parts_of draft.now) items)) }
-    ensures not_yet { IsErrOf result SyntaxFault.NotYet → (items : Forest) → IsOnePage (parts_of draft.now) items → ⊥ }
-{
-    if draft.page != draft.template {
-        return Err(SyntaxFault::NotYet);
-    }
-    if draft.session == draft.template {
-        return Err(SyntaxFault::NotYet);
-    }
-    match read_closed(alloc, draft.inside, NESTING_MOST) {
-        Ok(items) => Ok(build(alloc, draft, items)?),
-        Err(fault) => Err(unread(fault)),
-    }
-}
-
-/// Why a file isn't read whose template isn't.
-fn unread(fault: TmplFault) -> SyntaxFault
-    ensures { result ≡ SyntaxFault.NotYet → fault ≢ TmplFault.Memory }
-{
-    match fault {
-        TmplFault::Memory => SyntaxFault::Memory,
-        TmplFault::Malformed
-        | TmplFault::RepeatedAttribute
-        | TmplFault::Mismatched
-        | TmplFault::Nesting => SyntaxFault::NotYet,
-    }
-}
-
-/// The tree of a draft whose template has these items.
-fn build(alloc: Global, draft: &Draft<'_>, items: Items) -> Result<Service, Memory>
-    ensures { IfOk result (λ s. s ≡ service_of (parts_of draft.now) items) }
-{
-    let template = Template {
-        name: Name::of(alloc, draft.template)?,
-        items,
-    };
-    let exit = Stmt::Exit {
-        page: Expr::Name(Name::of(alloc, draft.page)?),
-    };
-    let session = Session {
-        name: Name::of(alloc, draft.session)?,
-        body: Block::from_vec(vec![in alloc; exit]?),
-    };
-    Ok(Service {
-        name: Name::of(alloc, draft.name)?,
-        templates: Templates::from_vec(vec![in alloc; template]?),
-        shared: Shareds::from_vec(Vec::new(alloc)),
-        sessions: Sessions::from_vec(vec![in alloc; session]?),
-    })
-}
-
-/// The service that the bytes read as. `NotYet` comes exactly where they read as none; `Memory` may come anywhere.
-pub fn read_service(alloc: Global, bytes: &[u8]) -> Result<Service, SyntaxFault>
-    ensures read { IfOk result (Reads bytes.now) }
-    ensures not_yet { IsErrOf result SyntaxFault.NotYet → ReadsNothing bytes.now }
+/// The tokens of a text that isn't too long.
+fn tell(alloc: Global, bytes: &[u8]) -> Result<Told, SyntaxFault>
+    ensures told { IfOk result (λ t. IsText bytes.now t.lexemes.items) }
+    ensures untold { IfErr result (IsUntold bytes.now) }
 {
     if bytes.len() > FILE_MOST {
-        return Err(SyntaxFault::NotYet);
+        return Err(SyntaxFault::TooLong);
     }
-    let tokens = match lex(alloc, bytes) {
-        Ok(tokens) => tokens,
-        Err(LexFault::Memory) => return Err(SyntaxFault::Memory),
-        Err(_) => return Err(SyntaxFault::NotYet),
+    match lex(alloc, bytes) {
+        Ok(tokens) => match lexemes_of(alloc, bytes, tokens.as_slice()) {
+            Ok(lexemes) => Ok(Told { tokens, lexemes }),
+            Err(_) => Err(SyntaxFault::Memory),
+        },
+        Err(LexFault::Memory) => Err(SyntaxFault::Memory),
+        Err(fault) => Err(SyntaxFault::Lex(fault)),
+    }
+}
+
+/// The place of the first of the last `left` tokens, within a text of `len` bytes; its end, where none is left.
+fn place(tokens: &[Token], left: usize, len: usize) -> usize
+    ensures { result ≤ len }
+{
+    match tokens.len().checked_sub(left) {
+        None => 0,
+        Some(at) => match tokens.get(at) {
+            None => len,
+            Some(token) => len.min(token.start),
+        },
+    }
+}
+
+/// The service that the tokens of a text of `len` bytes are written for, with its templates unread.
+fn parse(alloc: Global, told: &Told, len: usize) -> Result<ServiceDraft, SyntaxFault>
+    ensures parsed { IfOk result (λ d. IsParsed told.now.lexemes.items d.name d.drafts.items) }
+    ensures unparsed { IfErr result (IsUnparsed told.now.lexemes.items len) }
+{
+    match too_deep(&told.lexemes) {
+        Some((limit, number)) => Err(SyntaxFault::TooMany(limit, number)),
+        None => match parse_service(alloc, &told.lexemes) {
+            Ok(draft) => Ok(draft),
+            Err(ParseFault::Memory) => Err(SyntaxFault::Memory),
+            Err(ParseFault::Syntax(left)) => {
+                let at = place(told.tokens.as_slice(), left, len);
+                Err(SyntaxFault::Syntax(at))
+            }
+        },
+    }
+}
+
+/// The service of a draft, once its templates are read.
+fn finish(alloc: Global, draft: ServiceDraft) -> Result<Service, SyntaxFault>
+    requires formed { AreFormed draft.drafts.items }
+    requires bounded { AreBounded draft.drafts.items }
+    ensures read { IfOk result (IsServiceOf draft.name draft.drafts.items) }
+    ensures refused { IfErr result (IsRefusedDraft draft.name draft.drafts.items) }
+{
+    let ServiceDraft { name, drafts } = draft;
+    let declared = match read_all(alloc, drafts) {
+        Ok(declared) => declared,
+        Err(fault) => return Err(fault),
     };
-    let lexemes = lexemes_of(alloc, bytes, tokens.as_slice())?;
-    match draft_of(&lexemes) {
-        Some(draft) => service_from(alloc, &draft),
-        None => Err(SyntaxFault::NotYet),
+    match too_many(alloc, &name, &declared.gaps, &declared.declarations) {
+        Err(_) => Err(SyntaxFault::Memory),
+        Ok(Some((limit, number))) => Err(SyntaxFault::TooMany(limit, number)),
+        Ok(None) => match Service::of(alloc, name, declared.gaps, declared.declarations) {
+            Ok(service) => Ok(service),
+            Err(_) => Err(SyntaxFault::Memory),
+        },
     }
+}
+
+fn read(alloc: Global, bytes: &[u8]) -> Result<Service, SyntaxFault>
+    ensures read { IfOk result (Reads bytes.now) }
+    ensures refused { IfErr result (Refuses bytes.now) }
+{
+    let told = match tell(alloc, bytes) {
+        Ok(told) => told,
+        Err(fault) => return Err(fault),
+    };
+    let draft = match parse(alloc, &told, bytes.len()) {
+        Ok(draft) => draft,
+        Err(fault) => return Err(fault),
+    };
+    finish(alloc, draft)
+}
+
+/// The service that the bytes of a file read as.
+///
+/// It is answered exactly where the bytes read as one, and else the reason why they read as none ([`SyntaxFault`]): the
+/// first that holds. `Memory` may come anywhere. It takes time that grows with the number of the bytes, and its depth is
+/// bounded by the limits on brackets and stretches.
+pub fn read_service(alloc: Global, bytes: &[u8]) -> Result<Service, SyntaxFault>
+    ensures read { IfOk result (Reads bytes.now) }
+    ensures only { (service : Service_) → Reads bytes.now service → (result ≡ Err Fault_.Memory) ⊎ (result ≡ Ok service) }
+    ensures refused { IfErr result (Refuses bytes.now) }
+    ensures only_refused { (fault : Fault_) → Refuses bytes.now fault → IsSameAnswer result fault }
+{
+    read(alloc, bytes)
 }

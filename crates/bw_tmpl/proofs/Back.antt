@@ -11,19 +11,20 @@ use Rattle.bw_lang.specs.declared.items.AttrValue.TheVariants as value
 use Rattle.bw_lang.specs.Forest.{Forest, none, text, gap, element}
 use Rattle.bw_lang.specs.Markup.{escaped_byte, escaped, is_void}
 use Rattle.bw_lang.specs.Print.{printed_attr, printed_attrs, printed_start, printed_end, print, text_before, joined}
-use Rattle.bw_tmpl.specs.declared.pieces.Tag.{Tag}
-use Rattle.bw_tmpl.specs.declared.pieces.Piece.{Piece}
-use Rattle.bw_tmpl.specs.declared.pieces.Piece.TheVariants as piece
-use Rattle.bw_tmpl.specs.declared.pieces.RawAttr.{RawAttr}
-use Rattle.bw_tmpl.specs.declared.pieces.RawValue.{RawValue}
-use Rattle.bw_tmpl.specs.declared.pieces.RawValue.TheVariants as raw
-use Rattle.bw_tmpl.specs.declared.pieces.NameClass.TheVariants as class
-use Rattle.bw_tmpl.specs.Numbers.{numbered, numbered_value}
-use Rattle.bw_tmpl.specs.Reads.{Reads, nesting}
-use Rattle.bw_tmpl.specs.Repeats.{repeated, attr_names, piece_repeats, repeats}
-use Rattle.bw_tmpl.specs.Spelling.{IsName, IsChar, Each, IsAttr, IsTag, IsPiece, is_text, begins_with_text, Apart, Spells}
+use Rattle.bw_lang.specs.declared.pieces.Tag.{Tag}
+use Rattle.bw_lang.specs.declared.pieces.Piece.{Piece}
+use Rattle.bw_lang.specs.declared.pieces.Piece.TheVariants as piece
+use Rattle.bw_lang.specs.declared.pieces.RawAttr.{RawAttr}
+use Rattle.bw_lang.specs.declared.pieces.RawValue.{RawValue}
+use Rattle.bw_lang.specs.declared.pieces.RawValue.TheVariants as raw
+use Rattle.bw_lang.specs.declared.pieces.NameClass.TheVariants as class
+use Rattle.bw_lang.specs.NumberedGaps.{numbered, numbered_value}
+use Rattle.bw_lang.specs.Measures.{nest}
+use Rattle.bw_lang.specs.PieceItems.{ReadsPieces}
+use Rattle.bw_lang.specs.RepeatedAttributes.{repeated, attr_names, piece_repeats, repeats}
+use Rattle.bw_lang.specs.Pieces.{IsName, IsChar, Each, IsAttr, IsTag, IsPiece, is_text, begins_with_text, Apart, SpellsPieces}
 use Rattle.bw_tmpl.specs.Markup.{IsValueOf, AreAttrs, names_of, IsClosedMarkup}
-use Rattle.bw_tmpl.specs.Gaps.{value_gaps, attr_gaps, gap_names}
+use Rattle.bw_lang.specs.PieceGaps.{value_gaps, attr_gaps, gap_names}
 use Rattle.bw_tmpl.specs.Laws.{ReadsBack}
 use Rattle.bw_tmpl.proofs.Inverse.{reads-append}
 use Rattle.bw_tmpl.proofs.GapLaws.{gap_names_append}
@@ -169,8 +170,8 @@ prints (element tag attrs inner f) s t rest = element_printed tag attrs inner f 
 
 -- ---- the pieces read as the document
 
-element_reads : (tag : List ℕ) (attrs : List Attr) (inner : Forest) (v : Bool) → is_void tag ≡ v → AreAttrs ⊥ attrs → (v ≡ true → inner ≡ none) → ((rest : List Piece) → Reads [] inner (written inner ++ rest) rest)
-    → (rest : List Piece) → Reads [] (element tag attrs inner none) (element_pieces v (tag_of tag attrs) (written inner) rest) rest
+element_reads : (tag : List ℕ) (attrs : List Attr) (inner : Forest) (v : Bool) → is_void tag ≡ v → AreAttrs ⊥ attrs → (v ≡ true → inner ≡ none) → ((rest : List Piece) → ReadsPieces [] inner (written inner ++ rest) rest)
+    → (rest : List Piece) → ReadsPieces [] (element tag attrs inner none) (element_pieces v (tag_of tag attrs) (written inner) rest) rest
 element_reads tag attrs inner true e h z ri rest = (rest, (tag_of tag attrs, refl, attrs_numbered attrs h, inl (refl, z refl)), refl)
 element_reads tag attrs inner false e h z ri rest = (rest, (tag_of tag attrs, refl, attrs_numbered attrs h, inr (inr (written inner ++ piece.End tag ∷ rest, refl, e, ri (piece.End tag ∷ rest)))), refl)
 
@@ -178,13 +179,13 @@ element_append : (v : Bool) (t : Tag) (inner ps rest : List Piece) → element_p
 element_append true t inner ps rest = refl
 element_append false t inner ps rest = ap (λ (l : List Piece). piece.Start t ∷ l) (append_assoc inner (piece.End t.name ∷ ps) rest)
 
-pub reads_written : (f : Forest) → IsClosedMarkup f → (rest : List Piece) → Reads [] f (written f ++ rest) rest
+pub reads_written : (f : Forest) → IsClosedMarkup f → (rest : List Piece) → ReadsPieces [] f (written f ++ rest) rest
 reads_written none s rest = refl
 reads_written (text x f) s rest = (written f ++ rest, refl, reads_written f s.1 rest)
 reads_written (gap g f) s rest = absurd s.0
 reads_written (element tag attrs inner f) s rest =
     let r = element_reads tag attrs inner (is_void tag) refl s.1 s.3 (reads_written inner s.4) (written f ++ rest) in
-    let m : Reads [] (element tag attrs inner none) (element_pieces (is_void tag) (tag_of tag attrs) (written inner) (written f) ++ rest) (written f ++ rest) = subst (λ (l : List Piece). Reads [] (element tag attrs inner none) l (written f ++ rest)) (sym (element_append (is_void tag) (tag_of tag attrs) (written inner) (written f) rest)) r in
+    let m : ReadsPieces [] (element tag attrs inner none) (element_pieces (is_void tag) (tag_of tag attrs) (written inner) (written f) ++ rest) (written f ++ rest) = subst (λ (l : List Piece). ReadsPieces [] (element tag attrs inner none) l (written f ++ rest)) (sym (element_append (is_void tag) (tag_of tag attrs) (written inner) (written f) rest)) r in
     reads-append [] (element tag attrs inner none) f (element_pieces (is_void tag) (tag_of tag attrs) (written inner) (written f) ++ rest) (written f ++ rest) rest m (reads_written f s.5 rest)
 
 -- ---- texts are apart, and no attribute stands twice
@@ -293,14 +294,14 @@ joined_tidy (text x f) = text_before_tidy x (joined f) (joined_tidy f)
 joined_tidy (gap g f) = joined_tidy f
 joined_tidy (element tag attrs inner f) = (joined_tidy inner, joined_tidy f)
 
-text_before_nest : (x : List ℕ) (f : Forest) → nesting (text_before x f) ≡ nesting f
+text_before_nest : (x : List ℕ) (f : Forest) → nest (text_before x f) ≡ nest f
 text_before_nest [] f = refl
 text_before_nest (b ∷ x) none = refl
 text_before_nest (b ∷ x) (text y f) = refl
 text_before_nest (b ∷ x) (gap g f) = refl
 text_before_nest (b ∷ x) (element tag attrs inner f) = refl
 
-joined_nest : (f : Forest) → nesting (joined f) ≡ nesting f
+joined_nest : (f : Forest) → nest (joined f) ≡ nest f
 joined_nest none = refl
 joined_nest (text x f) = text_before_nest x (joined f) ∙ joined_nest f
 joined_nest (gap g f) = joined_nest f
@@ -314,7 +315,7 @@ reads_back f most s le =
     let sg = joined_sound f s in
     let p : Each IsPiece (written g) (print g) [] = subst (λ (l : List ℕ). Each IsPiece (written g) l []) (append-nil (print g)) (prints g sg (joined_tidy f) []) in
     let q : Each IsPiece (written g) (print f) [] = subst (λ (l : List ℕ). Each IsPiece (written g) l []) (joined_alike f) p in
-    let r : Reads [] g (written g) [] = subst (λ (l : List Piece). Reads [] g l []) (append-nil (written g)) (reads_written g sg []) in
-    let spelled : Spells (written g) (print f) = record { apart = apart_written g sg (joined_tidy f); pieces = q } in
-    let n : nesting g ≤ most = subst (λ (k : ℕ). k ≤ most) (sym (joined_nest f)) le in
+    let r : ReadsPieces [] g (written g) [] = subst (λ (l : List Piece). ReadsPieces [] g l []) (append-nil (written g)) (reads_written g sg []) in
+    let spelled : SpellsPieces (written g) (print f) = record { apart = apart_written g sg (joined_tidy f); pieces = q } in
+    let n : nest g ≤ most = subst (λ (k : ℕ). k ≤ most) (sym (joined_nest f)) le in
     record { pieces = written g; spelled = record { spells = spelled; closed = written_gapless g sg }; once = repeats_written g sg; reads = r; nested = n }

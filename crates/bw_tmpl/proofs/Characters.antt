@@ -4,7 +4,7 @@ use Rattle.std.specs.Prelude.{if◌then◌else◌, ◌||◌, ◌==◌, codes, na
 use Rattle.std.proofs.lemmas.Bool.Decides.{nat_tests}
 use Rattle.std.proofs.lemmas.List.{length-append}
 use Rattle.bw_tmpl.specs.Reading.{stripped, as_char, ref_at, char_at, each}
-use Rattle.bw_tmpl.specs.Spelling.{IsRef, IsChar}
+use Rattle.bw_lang.specs.Pieces.{IsRef, IsChar}
 use Rattle.bw_tmpl.proofs.Many.{map_or_some, cond_none, some_is, stripped_is, Shrinks, onto, onto_more, onto_none}
 
 abbrev Written : ℕ → List ℕ → List ℕ → Type 0

@@ -1,13 +1,15 @@
 -- What reading answers is determined.
 use Rattle.std.proofs.Common.{◌≡◌, ℕ, true, false, List, [], Some, refl, sym, ap, subst, ◌∙◌, arith}
 use Rattle.bw_lang.specs.Forest.{Forest}
-use Rattle.bw_tmpl.specs.declared.pieces.Piece.{Piece}
+use Rattle.bw_lang.specs.declared.pieces.Piece.{Piece}
 use Rattle.bw_tmpl.specs.declared.fault.TmplFault.{TmplFault}
 use Rattle.bw_tmpl.specs.declared.fault.TmplFault.TheVariants as fault
-use Rattle.bw_tmpl.specs.Reads.{ReadsAs, nesting}
-use Rattle.bw_tmpl.specs.Repeats.{repeats}
-use Rattle.bw_tmpl.specs.Spelling.{Spells}
-use Rattle.bw_tmpl.specs.Templates.{ReadsBy, RefusedBy, SpellsClosed}
+use Rattle.bw_lang.specs.Measures.{nest}
+use Rattle.bw_lang.specs.PieceItems.{ReadsAs}
+use Rattle.bw_lang.specs.RepeatedAttributes.{repeats}
+use Rattle.bw_lang.specs.Pieces.{SpellsPieces}
+use Rattle.bw_lang.specs.Templates.{ReadsBy, SpellsClosed}
+use Rattle.bw_tmpl.specs.Refusals.{RefusedBy}
 use Rattle.bw_tmpl.specs.Laws.{OneTemplate, NotBoth, OneReason, OneClosedTemplate, NotBothClosed, OneClosedReason}
 use Rattle.bw_tmpl.proofs.Inverse.{reads_once}
 use Rattle.bw_tmpl.proofs.Depths.{reads_depth}
@@ -20,8 +22,8 @@ some_is : (m n : ℕ) → Some m ≡ Some n → m ≡ n
 some_is m n p = cc
 
 -- items of the same pieces stand as deep in one another, whatever the tables
-same_nesting : (ps : List Piece) (names others : List (List ℕ)) (f g : Forest) → ReadsAs names ps f → ReadsAs others ps g → nesting f ≡ nesting g
-same_nesting ps names others f g p q = some_is (nesting f) (nesting g) (sym (reads_depth names ps f p) ∙ reads_depth others ps g q)
+same_nesting : (ps : List Piece) (names others : List (List ℕ)) (f g : Forest) → ReadsAs names ps f → ReadsAs others ps g → nest f ≡ nest g
+same_nesting ps names others f g p q = some_is (nest f) (nest g) (sym (reads_depth names ps f p) ∙ reads_depth others ps g q)
 
 module _ (S : List Piece → List ℕ → Type 0) (once : (ps qs : List Piece) (bytes : List ℕ) → S ps bytes → S qs bytes → ps ≡ qs) where
   one : (names : List (List ℕ)) (most : ℕ) (bytes : List ℕ) (f g : Forest) → ReadsBy S names most bytes f → ReadsBy S names most bytes g → f ≡ g
@@ -72,13 +74,13 @@ closed_once : (ps qs : List Piece) (bytes : List ℕ) → SpellsClosed ps bytes 
 closed_once ps qs bytes p q = spelled_once ps qs bytes p.spells q.spells
 
 pub one_template : OneTemplate
-one_template = one Spells spelled_once
+one_template = one SpellsPieces spelled_once
 
 pub not_both : NotBoth
-not_both = both Spells spelled_once
+not_both = both SpellsPieces spelled_once
 
 pub one_reason : OneReason
-one_reason = reason Spells spelled_once
+one_reason = reason SpellsPieces spelled_once
 
 pub one_closed_template : OneClosedTemplate
 one_closed_template = one SpellsClosed closed_once []

@@ -5,16 +5,17 @@ use Rattle.bw_lang.specs.declared.items.Attr.{Attr}
 use Rattle.bw_lang.specs.Forest.{Forest, none, text, gap, element}
 use Rattle.bw_lang.specs.Documents.{append}
 use Rattle.bw_lang.specs.Markup.{is_void}
-use Rattle.bw_tmpl.specs.declared.pieces.Tag.{Tag}
-use Rattle.bw_tmpl.specs.declared.pieces.Piece.{Piece}
-use Rattle.bw_tmpl.specs.declared.pieces.Piece.TheVariants as piece
+use Rattle.bw_lang.specs.declared.pieces.Tag.{Tag}
+use Rattle.bw_lang.specs.declared.pieces.Piece.{Piece}
+use Rattle.bw_lang.specs.declared.pieces.Piece.TheVariants as piece
 use Rattle.bw_tmpl.specs.declared.building.OpenElement.{OpenElement}
 use Rattle.bw_tmpl.specs.declared.nesting.OpenTags.{OpenTags}
 use Rattle.bw_lang.specs.Names.{same, number}
-use Rattle.bw_tmpl.specs.Numbers.{numbered}
+use Rattle.bw_lang.specs.NumberedGaps.{numbered}
 use Rattle.bw_tmpl.specs.Building.{empty_element, element_begun, draft_after_all, finished, built}
 use Rattle.bw_tmpl.specs.Nesting.{tags_after_all, deepest_if_closed, depth}
-use Rattle.bw_tmpl.specs.Reads.{Reads, ReadsAs, nesting}
+use Rattle.bw_lang.specs.Measures.{nest}
+use Rattle.bw_lang.specs.PieceItems.{ReadsPieces, ReadsAs}
 use Rattle.bw_tmpl.proofs.Inverse.{same-refl, built_reads}
 
 abbrev at : List (List ℕ) → ℕ → Option OpenTags
@@ -24,23 +25,23 @@ deepest_is : (names : List (List ℕ)) (m n : ℕ) (ps : List Piece) → m ≡ n
 deepest_is names m n ps e = ap (λ (k : ℕ). tags_after_all (at names k) ps) e
 
 abbrev DepthAfter : List (List ℕ) → Forest → Type 0
-DepthAfter table f = (names : List (List ℕ)) (m : ℕ) (ps rest : List Piece) → length names ≤ m → Reads table f ps rest → tags_after_all (at names m) ps ≡ tags_after_all (at names (max m (length names + nesting f))) rest
+DepthAfter table f = (names : List (List ℕ)) (m : ℕ) (ps rest : List Piece) → length names ≤ m → ReadsPieces table f ps rest → tags_after_all (at names m) ps ≡ tags_after_all (at names (max m (length names + nest f))) rest
 
 element_depth : (table : List (List ℕ)) (tag : List ℕ) (attrs : List Attr) (inner : Forest) (names : List (List ℕ)) (m : ℕ) (ps qs : List Piece) (t : Tag) → DepthAfter table inner → length names ≤ m
-    → (((ps ≡ piece.Whole t ∷ qs) × (inner ≡ none)) ⊎ (((ps ≡ piece.Start t ∷ qs) × (is_void t.name ≡ true) × (inner ≡ none)) ⊎ ((mid : List Piece) × (ps ≡ piece.Start t ∷ mid) × (is_void t.name ≡ false) × Reads table inner mid (piece.End t.name ∷ qs))))
-    → tags_after_all (at names m) ps ≡ tags_after_all (at names (max m (length names + suc (nesting inner)))) qs
+    → (((ps ≡ piece.Whole t ∷ qs) × (inner ≡ none)) ⊎ (((ps ≡ piece.Start t ∷ qs) × (is_void t.name ≡ true) × (inner ≡ none)) ⊎ ((mid : List Piece) × (ps ≡ piece.Start t ∷ mid) × (is_void t.name ≡ false) × ReadsPieces table inner mid (piece.End t.name ∷ qs))))
+    → tags_after_all (at names m) ps ≡ tags_after_all (at names (max m (length names + suc (nest inner)))) qs
 element_depth table tag attrs inner names m ps qs t ih le (inl w) =
-    let k : nesting inner ≡ 0 = ap nesting w.1 in
-    ap (tags_after_all (at names m)) w.0 ∙ deepest_is names (max m (suc (length names))) (max m (length names + suc (nesting inner))) qs (omega arith)
+    let k : nest inner ≡ 0 = ap nest w.1 in
+    ap (tags_after_all (at names m)) w.0 ∙ deepest_is names (max m (suc (length names))) (max m (length names + suc (nest inner))) qs (omega arith)
 element_depth table tag attrs inner names m ps qs t ih le (inr (inl v)) =
-    let k : nesting inner ≡ 0 = ap nesting v.2 in
+    let k : nest inner ≡ 0 = ap nest v.2 in
     ap (tags_after_all (at names m)) v.0 ∙ ap (λ (x : Bool). tags_after_all (if x then at names (max m (suc (length names))) else at (t.name ∷ names) (max m (suc (length names)))) qs) v.1
-    ∙ deepest_is names (max m (suc (length names))) (max m (length names + suc (nesting inner))) qs (omega arith)
+    ∙ deepest_is names (max m (suc (length names))) (max m (length names + suc (nest inner))) qs (omega arith)
 element_depth table tag attrs inner names m ps qs t ih le (inr (inr v)) =
     ap (tags_after_all (at names m)) v.1 ∙ ap (λ (x : Bool). tags_after_all (if x then at names (max m (suc (length names))) else at (t.name ∷ names) (max m (suc (length names)))) v.0) v.2
     ∙ ih (t.name ∷ names) (max m (suc (length names))) v.0 (piece.End t.name ∷ qs) (omega arith) v.3
-    ∙ ap (λ (x : Bool). tags_after_all (if x then at names (max (max m (suc (length names))) (suc (length names) + nesting inner)) else None) qs) (same-refl t.name)
-    ∙ deepest_is names (max (max m (suc (length names))) (suc (length names) + nesting inner)) (max m (length names + suc (nesting inner))) qs (omega arith)
+    ∙ ap (λ (x : Bool). tags_after_all (if x then at names (max (max m (suc (length names))) (suc (length names) + nest inner)) else None) qs) (same-refl t.name)
+    ∙ deepest_is names (max (max m (suc (length names))) (suc (length names) + nest inner)) (max m (length names + suc (nest inner))) qs (omega arith)
 
 reads_tags : (table : List (List ℕ)) (f : Forest) → DepthAfter table f
 reads_tags table none names m ps rest le h = ap (tags_after_all (at names m)) h ∙ deepest_is names m (max m (length names + 0)) rest (omega arith)
@@ -48,11 +49,11 @@ reads_tags table (text s f) names m ps rest le h = ap (tags_after_all (at names 
 reads_tags table (gap g f) names m ps rest le h = ap (tags_after_all (at names m)) h.1.1 ∙ reads_tags table f names m h.0 rest le h.2
 reads_tags table (element tag attrs inner f) names m ps rest le h =
     element_depth table tag attrs inner names m ps h.0 h.1.0 (reads_tags table inner) le h.1.3
-    ∙ reads_tags table f names (max m (length names + suc (nesting inner))) h.0 rest (omega arith) h.2
-    ∙ deepest_is names (max (max m (length names + suc (nesting inner))) (length names + nesting f)) (max m (length names + max (suc (nesting inner)) (nesting f))) rest (omega arith)
+    ∙ reads_tags table f names (max m (length names + suc (nest inner))) h.0 rest (omega arith) h.2
+    ∙ deepest_is names (max (max m (length names + suc (nest inner))) (length names + nest f)) (max m (length names + max (suc (nest inner)) (nest f))) rest (omega arith)
 
-pub reads_depth : (table : List (List ℕ)) (ps : List Piece) (f : Forest) → ReadsAs table ps f → depth ps ≡ Some (nesting f)
-reads_depth table ps f h = ap deepest_if_closed (reads_tags table f [] 0 ps [] (omega arith) h) ∙ ap Some (max_zero (nesting f))
+pub reads_depth : (table : List (List ℕ)) (ps : List Piece) (f : Forest) → ReadsAs table ps f → depth ps ≡ Some (nest f)
+reads_depth table ps f h = ap deepest_if_closed (reads_tags table f [] 0 ps [] (omega arith) h) ∙ ap Some (max_zero (nest f))
   where
     max_zero : (n : ℕ) → max 0 (0 + n) ≡ n
     max_zero n = omega arith
@@ -96,12 +97,12 @@ there_is None b e h = absurd (cc)
 there_is (Some x) b e h = (x, refl)
 
 -- a depth is that of items that the pieces read as
-pub depth_reads : (table : List (List ℕ)) (ps : List Piece) (h : ℕ) → depth ps ≡ Some h → (f : Forest) × ReadsAs table ps f × (h ≡ nesting f)
+pub depth_reads : (table : List (List ℕ)) (ps : List Piece) (h : ℕ) → depth ps ≡ Some h → (f : Forest) × ReadsAs table ps f × (h ≡ nest f)
 depth_reads table ps h e =
     let b = there_is (built table ps) (is_some (depth ps)) (alike table ps none [] 0) (sym (ap is_some e)) in
     let r = built_reads table ps b.0 b.1 in
     let k = reads_depth table ps b.0 r in
-    let same_depth : h ≡ nesting b.0 = some_is h (nesting b.0) (sym e ∙ k) in (b.0, r, same_depth)
+    let same_depth : h ≡ nest b.0 = some_is h (nest b.0) (sym e ∙ k) in (b.0, r, same_depth)
   where
     some_is : (m n : ℕ) → Some m ≡ Some n → m ≡ n
     some_is m n p = cc

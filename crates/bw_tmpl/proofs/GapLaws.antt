@@ -10,15 +10,15 @@ use Rattle.bw_lang.specs.Documents.{is_hole, one_if, count}
 use Rattle.bw_lang.specs.Markup.{is_void}
 use Rattle.bw_lang.specs.Names.{number, with_name, with_names}
 use Rattle.bw_lang.proofs.TableLaws.{extends_refl, extends_trans, extends_with_name, added_are_there}
-use Rattle.bw_tmpl.specs.declared.pieces.Tag.{Tag}
-use Rattle.bw_tmpl.specs.declared.pieces.Piece.{Piece}
-use Rattle.bw_tmpl.specs.declared.pieces.Piece.TheVariants as piece
-use Rattle.bw_tmpl.specs.declared.pieces.RawAttr.{RawAttr}
-use Rattle.bw_tmpl.specs.declared.pieces.RawValue.{RawValue}
-use Rattle.bw_tmpl.specs.declared.pieces.RawValue.TheVariants as raw
-use Rattle.bw_tmpl.specs.Gaps.{value_gaps, attr_gaps, piece_gaps, gap_names}
-use Rattle.bw_tmpl.specs.Numbers.{numbered, numbered_value}
-use Rattle.bw_tmpl.specs.Reads.{Reads, ReadsAs}
+use Rattle.bw_lang.specs.declared.pieces.Tag.{Tag}
+use Rattle.bw_lang.specs.declared.pieces.Piece.{Piece}
+use Rattle.bw_lang.specs.declared.pieces.Piece.TheVariants as piece
+use Rattle.bw_lang.specs.declared.pieces.RawAttr.{RawAttr}
+use Rattle.bw_lang.specs.declared.pieces.RawValue.{RawValue}
+use Rattle.bw_lang.specs.declared.pieces.RawValue.TheVariants as raw
+use Rattle.bw_lang.specs.PieceGaps.{value_gaps, attr_gaps, piece_gaps, gap_names}
+use Rattle.bw_lang.specs.NumberedGaps.{numbered, numbered_value}
+use Rattle.bw_lang.specs.PieceItems.{ReadsPieces, ReadsAs}
 
 pub gap_names_append : (ps qs : List Piece) → gap_names (ps ++ qs) ≡ gap_names ps ++ gap_names qs
 gap_names_append [] qs = refl
@@ -53,14 +53,14 @@ attrs_counted names g (a ∷ attrs) =
     ∙ ap (λ (n : ℕ). one_if (is_hole g (numbered_value names a.value)) + n) (attrs_counted names g attrs) ∙ value_counted names g a.value (attr_gaps attrs)
 
 abbrev Counted : List (List ℕ) → ℕ → Forest → Type 0
-Counted names g f = (ps rest : List Piece) → Reads names f ps rest → numbers names g (gap_names ps) ≡ count g f + numbers names g (gap_names rest)
+Counted names g f = (ps rest : List Piece) → ReadsPieces names f ps rest → numbers names g (gap_names ps) ≡ count g f + numbers names g (gap_names rest)
 
 tag_counted : (names : List (List ℕ)) (g : ℕ) (attrs : List Attr) (t : Tag) (rest : List Piece) → attrs ≡ map (numbered names) t.attrs → numbers names g (attr_gaps t.attrs ++ gap_names rest) ≡ count_by (λ a. is_hole g a.value) attrs + numbers names g (gap_names rest)
 tag_counted names g attrs t rest e =
     omega (arith, numbers_append names g (attr_gaps t.attrs) (gap_names rest), attrs_counted names g t.attrs, ap (λ (l : List Attr). count_by (λ a. is_hole g a.value) l) e)
 
 element_counted : (names : List (List ℕ)) (g : ℕ) (attrs : List Attr) (inner : Forest) (ps qs : List Piece) (t : Tag) → Counted names g inner → attrs ≡ map (numbered names) t.attrs
-    → (((ps ≡ piece.Whole t ∷ qs) × (inner ≡ none)) ⊎ (((ps ≡ piece.Start t ∷ qs) × (is_void t.name ≡ true) × (inner ≡ none)) ⊎ ((mid : List Piece) × (ps ≡ piece.Start t ∷ mid) × (is_void t.name ≡ false) × Reads names inner mid (piece.End t.name ∷ qs))))
+    → (((ps ≡ piece.Whole t ∷ qs) × (inner ≡ none)) ⊎ (((ps ≡ piece.Start t ∷ qs) × (is_void t.name ≡ true) × (inner ≡ none)) ⊎ ((mid : List Piece) × (ps ≡ piece.Start t ∷ mid) × (is_void t.name ≡ false) × ReadsPieces names inner mid (piece.End t.name ∷ qs))))
     → numbers names g (gap_names ps) ≡ count_by (λ a. is_hole g a.value) attrs + count g inner + numbers names g (gap_names qs)
 element_counted names g attrs inner ps qs t ih e (inl w) =
     let p = ap (λ (l : List Piece). numbers names g (gap_names l)) w.0 in omega (arith, p, tag_counted names g attrs t qs e, ap (count g) w.1)
@@ -125,10 +125,10 @@ attrs_alike names others (a ∷ attrs) h =
     let r = attrs_alike names others attrs k.1 in λ i. record { name = a.name; value = v i } ∷ r i
 
 abbrev Alike : List (List ℕ) → List (List ℕ) → Forest → Type 0
-Alike names others f = (ps rest : List Piece) → gap_names ps ≡ [] → Reads names f ps rest → Reads others f ps rest × (gap_names rest ≡ [])
+Alike names others f = (ps rest : List Piece) → gap_names ps ≡ [] → ReadsPieces names f ps rest → ReadsPieces others f ps rest × (gap_names rest ≡ [])
 
-abbrev Ways : List (List ℕ) → Forest → Tag → List Piece → List Piece → Type 0
-Ways names inner t ps qs = ((ps ≡ piece.Whole t ∷ qs) × (inner ≡ none)) ⊎ (((ps ≡ piece.Start t ∷ qs) × (is_void t.name ≡ true) × (inner ≡ none)) ⊎ ((mid : List Piece) × (ps ≡ piece.Start t ∷ mid) × (is_void t.name ≡ false) × Reads names inner mid (piece.End t.name ∷ qs)))
+abbrev pub Ways : List (List ℕ) → Forest → Tag → List Piece → List Piece → Type 0
+Ways names inner t ps qs = ((ps ≡ piece.Whole t ∷ qs) × (inner ≡ none)) ⊎ (((ps ≡ piece.Start t ∷ qs) × (is_void t.name ≡ true) × (inner ≡ none)) ⊎ ((mid : List Piece) × (ps ≡ piece.Start t ∷ mid) × (is_void t.name ≡ false) × ReadsPieces names inner mid (piece.End t.name ∷ qs)))
 
 element_alike : (names others : List (List ℕ)) (inner : Forest) (ps qs : List Piece) (t : Tag) → Alike names others inner → gap_names ps ≡ [] → Ways names inner t ps qs → Ways others inner t ps qs × (attr_gaps t.attrs ≡ []) × (gap_names qs ≡ [])
 element_alike names others inner ps qs t ih e (inl w) = let k = both_empty (attr_gaps t.attrs) (gap_names qs) (sym (ap gap_names w.0) ∙ e) in (inl w, k.0, k.1)

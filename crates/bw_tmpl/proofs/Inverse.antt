@@ -8,15 +8,15 @@ use Rattle.bw_lang.specs.Forest.{Forest, none, text, gap, element}
 use Rattle.bw_lang.specs.Documents.{append}
 use Rattle.bw_lang.proofs.Forests.{append-none, append_assoc}
 use Rattle.bw_lang.specs.Markup.{is_void}
-use Rattle.bw_tmpl.specs.declared.pieces.Tag.{Tag}
-use Rattle.bw_tmpl.specs.declared.pieces.Piece.{Piece}
-use Rattle.bw_tmpl.specs.declared.pieces.Piece.TheVariants as piece
+use Rattle.bw_lang.specs.declared.pieces.Tag.{Tag}
+use Rattle.bw_lang.specs.declared.pieces.Piece.{Piece}
+use Rattle.bw_lang.specs.declared.pieces.Piece.TheVariants as piece
 use Rattle.bw_tmpl.specs.declared.building.OpenElement.{OpenElement}
 use Rattle.bw_tmpl.specs.declared.building.Draft.{Draft}
 use Rattle.bw_lang.specs.Names.{same, number}
-use Rattle.bw_tmpl.specs.Numbers.{numbered}
+use Rattle.bw_lang.specs.NumberedGaps.{numbered}
 use Rattle.bw_tmpl.specs.Building.{nothing_built, with_items, empty_element, element_begun, element_ended, draft_after_all, if_none_open, finished, built}
-use Rattle.bw_tmpl.specs.Reads.{Reads, ReadsAs}
+use Rattle.bw_lang.specs.PieceItems.{ReadsPieces, ReadsAs}
 
 pub same-refl : (n : List ℕ) → same n n ≡ true
 same-refl n = nat_list_eq_equiv.refl n
@@ -33,10 +33,10 @@ as_empty : (names : List (List ℕ)) (t : Tag) (tag : List ℕ) (attrs : List At
 as_empty names t tag attrs inner p q r = cc
 
 abbrev TakenAs : List (List ℕ) → Forest → Type 0
-TakenAs names f = (b : Draft) (ps rest : List Piece) → Reads names f ps rest → draft_after_all names (Some b) ps ≡ draft_after_all names (Some (with_items b f)) rest
+TakenAs names f = (b : Draft) (ps rest : List Piece) → ReadsPieces names f ps rest → draft_after_all names (Some b) ps ≡ draft_after_all names (Some (with_items b f)) rest
 
 element_taken : (names : List (List ℕ)) (tag : List ℕ) (attrs : List Attr) (inner : Forest) (b : Draft) (ps qs : List Piece) (t : Tag) → TakenAs names inner → tag ≡ t.name → attrs ≡ map (numbered names) t.attrs
-    → (((ps ≡ piece.Whole t ∷ qs) × (inner ≡ none)) ⊎ (((ps ≡ piece.Start t ∷ qs) × (is_void t.name ≡ true) × (inner ≡ none)) ⊎ ((mid : List Piece) × (ps ≡ piece.Start t ∷ mid) × (is_void t.name ≡ false) × Reads names inner mid (piece.End t.name ∷ qs))))
+    → (((ps ≡ piece.Whole t ∷ qs) × (inner ≡ none)) ⊎ (((ps ≡ piece.Start t ∷ qs) × (is_void t.name ≡ true) × (inner ≡ none)) ⊎ ((mid : List Piece) × (ps ≡ piece.Start t ∷ mid) × (is_void t.name ≡ false) × ReadsPieces names inner mid (piece.End t.name ∷ qs))))
     → draft_after_all names (Some b) ps ≡ draft_after_all names (Some (with_items b (element tag attrs inner none))) qs
 element_taken names tag attrs inner b ps qs t ih p q (inl w) =
     ap (draft_after_all names (Some b)) w.0 ∙ ap (λ (x : Forest). draft_after_all names (Some (with_items b x)) qs) (as_empty names t tag attrs inner p q w.1)
@@ -52,7 +52,7 @@ element_taken names tag attrs inner b ps qs t ih p q (inr (inr v)) =
     back : tag ≡ t.name → attrs ≡ map (numbered names) t.attrs → element t.name (map (numbered names) t.attrs) inner none ≡ element tag attrs inner none
     back p q = cc
 
-pub reads_taken : (names : List (List ℕ)) (f : Forest) (b : Draft) (ps rest : List Piece) → Reads names f ps rest → draft_after_all names (Some b) ps ≡ draft_after_all names (Some (with_items b f)) rest
+pub reads_taken : (names : List (List ℕ)) (f : Forest) (b : Draft) (ps rest : List Piece) → ReadsPieces names f ps rest → draft_after_all names (Some b) ps ≡ draft_after_all names (Some (with_items b f)) rest
 reads_taken names none b ps rest h = ap (draft_after_all names (Some b)) h ∙ ap (λ (i : Forest). draft_after_all names (state i b.parents) rest) (sym (append-none b.items))
 reads_taken names (text s f) b ps rest h =
     ap (draft_after_all names (Some b)) h.1 ∙ reads_taken names f (with_items b (text s none)) h.0 rest h.2
@@ -71,18 +71,18 @@ reads_built names ps f h = ap finished (reads_taken names f nothing_built ps [] 
 
 -- ---- what is built reads
 
-pub reads-append : (names : List (List ℕ)) (x f : Forest) (ps qs rest : List Piece) → Reads names x ps qs → Reads names f qs rest → Reads names (append x f) ps rest
-reads-append names none f ps qs rest p q = subst (λ (l : List Piece). Reads names f l rest) (sym p) q
+pub reads-append : (names : List (List ℕ)) (x f : Forest) (ps qs rest : List Piece) → ReadsPieces names x ps qs → ReadsPieces names f qs rest → ReadsPieces names (append x f) ps rest
+reads-append names none f ps qs rest p q = subst (λ (l : List Piece). ReadsPieces names f l rest) (sym p) q
 reads-append names (text s x) f ps qs rest p q = (p.0, p.1, reads-append names x f p.0 qs rest p.2 q)
 reads-append names (gap g x) f ps qs rest p q = (p.0, p.1, reads-append names x f p.0 qs rest p.2 q)
 reads-append names (element tag attrs inner x) f ps qs rest p q = (p.0, p.1, reads-append names x f p.0 qs rest p.2 q)
 
 -- what is left reads as what completes the parents
 abbrev Completes : List (List ℕ) → List OpenElement → Forest → List Piece → Forest → Type 0
-Completes names [] cur ps out = (f : Forest) × Reads names f ps [] × (out ≡ append cur f)
-Completes names (l ∷ parents) cur ps out = (f : Forest) × (qs : List Piece) × Reads names f ps (piece.End l.tag ∷ qs) × Completes names parents (append l.front (element l.tag l.attrs (append cur f) none)) qs out
+Completes names [] cur ps out = (f : Forest) × ReadsPieces names f ps [] × (out ≡ append cur f)
+Completes names (l ∷ parents) cur ps out = (f : Forest) × (qs : List Piece) × ReadsPieces names f ps (piece.End l.tag ∷ qs) × Completes names parents (append l.front (element l.tag l.attrs (append cur f) none)) qs out
 
-more : (names : List (List ℕ)) (x : Forest) (parents : List OpenElement) (cur : Forest) (ps qs : List Piece) (out : Forest) → Reads names x ps qs → Completes names parents (append cur x) qs out → Completes names parents cur ps out
+more : (names : List (List ℕ)) (x : Forest) (parents : List OpenElement) (cur : Forest) (ps qs : List Piece) (out : Forest) → ReadsPieces names x ps qs → Completes names parents (append cur x) qs out → Completes names parents cur ps out
 more names x [] cur ps qs out r c = (append x c.0, reads-append names x c.0 ps qs [] r c.1, c.2 ∙ append_assoc cur x c.0)
 more names x (l ∷ parents) cur ps qs out r c = (
   append x c.0,
@@ -98,7 +98,7 @@ nothing_left : (names : List (List ℕ)) (out items : Forest) (parents : List Op
 nothing_left names out items [] h = (none, refl, (cc) ∙ sym (append-none items))
 nothing_left names out items (l ∷ parents) h = absurd (cc)
 
-empty_reads : (names : List (List ℕ)) (t : Tag) (ps : List Piece) → Reads names (empty_element names t) (piece.Whole t ∷ ps) ps
+empty_reads : (names : List (List ℕ)) (t : Tag) (ps : List Piece) → ReadsPieces names (empty_element names t) (piece.Whole t ∷ ps) ps
 empty_reads names t ps = (ps, (t, refl, refl, inl (refl, refl)), refl)
 
 started : (names : List (List ℕ)) (out : Forest) (t : Tag) (ps : List Piece) (ih : CompletesFrom names ps out) (items : Forest) (parents : List OpenElement) (v : Bool) → is_void t.name ≡ v
@@ -136,7 +136,7 @@ completes names out (piece.End n ∷ ps) items parents h = ended_all names out n
 pub built_reads : (names : List (List ℕ)) (ps : List Piece) (f : Forest) → built names ps ≡ Some f → ReadsAs names ps f
 built_reads names ps f h =
     let c = completes names f ps none [] h in
-    subst (λ (g : Forest). Reads names g ps []) (sym c.2) c.1
+    subst (λ (g : Forest). ReadsPieces names g ps []) (sym c.2) c.1
 
 -- pieces read as one list of items at most
 pub reads_once : (names : List (List ℕ)) (ps : List Piece) (f g : Forest) → ReadsAs names ps f → ReadsAs names ps g → f ≡ g

@@ -8,10 +8,10 @@ use Rattle.bw_lang.specs.declared.items.AttrValue.TheVariants as value
 use Rattle.bw_lang.specs.Forest.{Forest, none, text, gap, element}
 use Rattle.bw_lang.specs.Documents.{append, plug, plug_text, filled_value, filled_attr, keep_fixed, closed_attrs, close}
 use Rattle.bw_lang.specs.Markup.{is_void}
-use Rattle.bw_tmpl.specs.declared.pieces.NameClass.TheVariants as class
+use Rattle.bw_lang.specs.declared.pieces.NameClass.TheVariants as class
 use Rattle.bw_lang.specs.Names.{same}
-use Rattle.bw_tmpl.specs.Repeats.{repeated}
-use Rattle.bw_tmpl.specs.Spelling.{IsName}
+use Rattle.bw_lang.specs.RepeatedAttributes.{repeated}
+use Rattle.bw_lang.specs.Pieces.{IsName}
 use Rattle.bw_tmpl.specs.Markup.{IsValueOf, AreAttrs, names_of, IsMarkup}
 use Rattle.bw_tmpl.specs.Laws.{PlugsMarkup, PlugsTextMarkup, ClosesMarkup}
 

@@ -12,3 +12,4 @@ pub mod Back
 pub mod Keeping
 pub mod Made
 pub mod Deciding
+pub mod Weights

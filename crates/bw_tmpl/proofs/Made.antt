@@ -4,17 +4,17 @@ use Rattle.std.specs.Prelude.{◌||◌, IsUtf8}
 use Rattle.bw_lang.specs.declared.items.Attr.{Attr}
 use Rattle.bw_lang.specs.Forest.{Forest, none, text, gap, element}
 use Rattle.bw_lang.specs.Markup.{is_void}
-use Rattle.bw_tmpl.specs.declared.pieces.NameClass.TheVariants as class
-use Rattle.bw_tmpl.specs.declared.pieces.RawAttr.{RawAttr}
-use Rattle.bw_tmpl.specs.declared.pieces.RawValue.{RawValue}
-use Rattle.bw_tmpl.specs.declared.pieces.RawValue.TheVariants as raw
-use Rattle.bw_tmpl.specs.declared.pieces.Tag.{Tag}
-use Rattle.bw_tmpl.specs.declared.pieces.Piece.{Piece}
-use Rattle.bw_tmpl.specs.declared.pieces.Piece.TheVariants as piece
-use Rattle.bw_tmpl.specs.Numbers.{numbered, numbered_value}
-use Rattle.bw_tmpl.specs.Reads.{Reads}
-use Rattle.bw_tmpl.specs.Repeats.{repeated, attr_names, piece_repeats, repeats}
-use Rattle.bw_tmpl.specs.Spelling.{IsName, IsAttr, IsTag, IsValue, IsPiece, Each}
+use Rattle.bw_lang.specs.declared.pieces.NameClass.TheVariants as class
+use Rattle.bw_lang.specs.declared.pieces.RawAttr.{RawAttr}
+use Rattle.bw_lang.specs.declared.pieces.RawValue.{RawValue}
+use Rattle.bw_lang.specs.declared.pieces.RawValue.TheVariants as raw
+use Rattle.bw_lang.specs.declared.pieces.Tag.{Tag}
+use Rattle.bw_lang.specs.declared.pieces.Piece.{Piece}
+use Rattle.bw_lang.specs.declared.pieces.Piece.TheVariants as piece
+use Rattle.bw_lang.specs.NumberedGaps.{numbered, numbered_value}
+use Rattle.bw_lang.specs.PieceItems.{ReadsPieces}
+use Rattle.bw_lang.specs.RepeatedAttributes.{repeated, attr_names, piece_repeats, repeats}
+use Rattle.bw_lang.specs.Pieces.{IsName, IsAttr, IsTag, IsValue, IsPiece, Each}
 use Rattle.bw_tmpl.specs.Markup.{IsValueOf, AreAttrs, names_of, IsMarkup}
 use Rattle.bw_tmpl.specs.Laws.{ReadsMarkup}
 
@@ -101,10 +101,10 @@ not_void t inner a b = absurd (true_false (sym b ∙ a))
     true_false p = cc
 
 abbrev BothRead : List (List ℕ) → Forest → Type 0
-BothRead names f = (ps rest : List Piece) → AllGood ps → Reads names f ps rest → Both f rest
+BothRead names f = (ps rest : List Piece) → AllGood ps → ReadsPieces names f ps rest → Both f rest
 
-by_case : (names : List (List ℕ)) (tag : List ℕ) (attrs : List Attr) (inner f : Forest) (t : Tag) (ps qs rest : List Piece) → BothRead names inner → BothRead names f → AllGood ps → Reads names f qs rest → tag ≡ t.name → attrs ≡ map (numbered names) t.attrs
-    → (((ps ≡ piece.Whole t ∷ qs) × (inner ≡ none)) ⊎ (((ps ≡ piece.Start t ∷ qs) × (is_void t.name ≡ true) × (inner ≡ none)) ⊎ ((mid : List Piece) × (ps ≡ piece.Start t ∷ mid) × (is_void t.name ≡ false) × Reads names inner mid (piece.End t.name ∷ qs))))
+by_case : (names : List (List ℕ)) (tag : List ℕ) (attrs : List Attr) (inner f : Forest) (t : Tag) (ps qs rest : List Piece) → BothRead names inner → BothRead names f → AllGood ps → ReadsPieces names f qs rest → tag ≡ t.name → attrs ≡ map (numbered names) t.attrs
+    → (((ps ≡ piece.Whole t ∷ qs) × (inner ≡ none)) ⊎ (((ps ≡ piece.Start t ∷ qs) × (is_void t.name ≡ true) × (inner ≡ none)) ⊎ ((mid : List Piece) × (ps ≡ piece.Start t ∷ mid) × (is_void t.name ≡ false) × ReadsPieces names inner mid (piece.End t.name ∷ qs))))
     → Both (element tag attrs inner f) rest
 by_case names tag attrs inner f t ps qs rest hi hf g r p q (inl w) =
     let a : AllGood (piece.Whole t ∷ qs) = subst AllGood w.0 g in element_kept names tag attrs inner f t rest p q a.0 (λ (v : is_void t.name ≡ true). w.1) (none_kept inner w.1) (hf qs rest a.1 r)

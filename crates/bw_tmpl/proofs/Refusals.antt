@@ -1,17 +1,19 @@
 -- The answers of reading in the words of templates.
 use Rattle.std.proofs.Common.{◌≡◌, ℕ, List, [], Option, Some, None, refl, sym, ap, subst, ◌∙◌, arith}
 use Rattle.bw_lang.specs.Forest.{Forest}
-use Rattle.bw_tmpl.specs.declared.pieces.Piece.{Piece}
+use Rattle.bw_lang.specs.declared.pieces.Piece.{Piece}
 use Rattle.bw_tmpl.specs.declared.fault.TmplFault.{TmplFault}
 use Rattle.bw_tmpl.specs.declared.fault.TmplFault.TheVariants as fault
-use Rattle.bw_tmpl.specs.Reads.{ReadsAs, nesting}
+use Rattle.bw_lang.specs.Measures.{nest}
+use Rattle.bw_lang.specs.PieceItems.{ReadsAs}
 use Rattle.bw_tmpl.specs.Reading.{pieces_of, MalformedIfNone}
 use Rattle.bw_tmpl.specs.Building.{built, MismatchedIfNone}
 use Rattle.bw_tmpl.specs.Nesting.{depth}
-use Rattle.bw_tmpl.specs.Spelling.{Spells}
-use Rattle.bw_tmpl.specs.Gaps.{gap_names}
+use Rattle.bw_lang.specs.Pieces.{SpellsPieces}
+use Rattle.bw_lang.specs.PieceGaps.{gap_names}
 use Rattle.bw_tmpl.specs.Checks.{Passes, Fails}
-use Rattle.bw_tmpl.specs.Templates.{ReadsBy, RefusedBy, SpellsClosed}
+use Rattle.bw_lang.specs.Templates.{ReadsBy, SpellsClosed}
+use Rattle.bw_tmpl.specs.Refusals.{RefusedBy}
 use Rattle.bw_tmpl.proofs.Inverse.{built_reads, reads_built}
 use Rattle.bw_tmpl.proofs.Depths.{reads_depth, depth_reads}
 use Rattle.bw_tmpl.proofs.Spelled.{spelled_pieces, spelled_once}
@@ -22,7 +24,7 @@ apart x o p q = cc
 some_is : {A : Type 0} (x y : A) → Some x ≡ Some y → x ≡ y
 some_is x y p = cc
 
-pub unread : (S : List Piece → List ℕ → Type 0) → ((ps : List Piece) (bytes : List ℕ) → S ps bytes → Spells ps bytes) → (most : ℕ) (bytes : List ℕ) (e : TmplFault) → MalformedIfNone e (pieces_of bytes) → RefusedBy S most bytes e
+pub unread : (S : List Piece → List ℕ → Type 0) → ((ps : List Piece) (bytes : List ℕ) → S ps bytes → SpellsPieces ps bytes) → (most : ℕ) (bytes : List ℕ) (e : TmplFault) → MalformedIfNone e (pieces_of bytes) → RefusedBy S most bytes e
 unread S s most bytes fault.Malformed h = λ (ps : List Piece) (k : S ps bytes). apart ps (pieces_of bytes) h (spelled_pieces ps bytes (s ps bytes k))
 unread S s most bytes fault.RepeatedAttribute h = absurd h
 unread S s most bytes fault.Mismatched h = absurd h
@@ -37,7 +39,7 @@ refused S most bytes ps fault.Mismatched p h = record {
   pieces = ps;
   spelled = p;
   once = h.0;
-  no_items = λ (names : List (List ℕ)) (f : Forest) (r : ReadsAs names ps f). apart (nesting f) (depth ps) h.1 (reads_depth names ps f r);
+  no_items = λ (names : List (List ℕ)) (f : Forest) (r : ReadsAs names ps f). apart (nest f) (depth ps) h.1 (reads_depth names ps f r);
 }
 refused S most bytes ps fault.Nesting p h = let k = depth_reads [] ps h.1.0 h.1.1 in record { pieces = ps; spelled = p; once = h.0; names = []; items = k.0; reads = k.1; deeper = omega (arith, k.2, h.1.2) }
 refused S most bytes ps fault.Memory p h = tt
@@ -46,7 +48,7 @@ refused S most bytes ps fault.Memory p h = tt
 pub read : (S : List Piece → List ℕ → Type 0) (names : List (List ℕ)) (most : ℕ) (bytes : List ℕ) (ps : List Piece) (f : Forest) → S ps bytes → Passes most ps → built names ps ≡ Some f → ReadsBy S names most bytes f
 read S names most bytes ps f p h b =
     let k = built_reads names ps f b in
-    let e : h.1.0 ≡ nesting f = some_is h.1.0 (nesting f) (sym h.1.1 ∙ reads_depth names ps f k) in
+    let e : h.1.0 ≡ nest f = some_is h.1.0 (nest f) (sym h.1.1 ∙ reads_depth names ps f k) in
     record { pieces = ps; spelled = p; once = h.0; reads = k; nested = omega (arith, h.1.2) }
 
 -- what passes is refused for want of memory alone
@@ -61,5 +63,5 @@ pub refused_for_memory : (S : List Piece → List ℕ → Type 0) (most : ℕ) (
 refused_for_memory S most bytes e h = subst (RefusedBy S most bytes) (sym h) tt
 
 -- pieces with a gap are no template without gaps
-pub has_gap : (most : ℕ) (bytes : List ℕ) (ps : List Piece) → Spells ps bytes → (gap_names ps ≡ [] → ⊥) → RefusedBy SpellsClosed most bytes fault.Malformed
+pub has_gap : (most : ℕ) (bytes : List ℕ) (ps : List Piece) → SpellsPieces ps bytes → (gap_names ps ≡ [] → ⊥) → RefusedBy SpellsClosed most bytes fault.Malformed
 has_gap most bytes ps p g qs k = g (ap gap_names (spelled_once ps qs bytes p k.spells) ∙ k.closed)

@@ -6,8 +6,8 @@ use Rattle.std.proofs.lemmas.Cmp.{nat_list_eq_equiv}
 use Rattle.std.proofs.lemmas.List.Folds.{list_any-append}
 use Rattle.bw_lang.specs.Names.{same, number, with_name}
 use Rattle.bw_lang.proofs.TableLaws.{there, not_there}
-use Rattle.bw_tmpl.specs.declared.pieces.RawAttr.{RawAttr}
-use Rattle.bw_tmpl.specs.Repeats.{repeated, attr_names}
+use Rattle.bw_lang.specs.declared.pieces.RawAttr.{RawAttr}
+use Rattle.bw_lang.specs.RepeatedAttributes.{repeated, attr_names}
 
 -- a name was seen, or stands in the list twice
 abbrev pub repeated_after : List (List ℕ) → List (List ℕ) → Bool

@@ -5,9 +5,10 @@ use Rattle.std.proofs.lemmas.Str.{IsUtf8-from_ascii, is_utf8-from_IsUtf8, IsUtf8
 use Rattle.std.proofs.lemmas.Str.Ascii.{IsAscii-nil, IsAscii-cons}
 use Rattle.std.specs.Str.{IsAscii, is_utf8}
 use Rattle.std.proofs.lemmas.Bool.Decides.{nat_tests}
-use Rattle.bw_tmpl.specs.declared.pieces.NameClass.{NameClass}
-use Rattle.bw_tmpl.specs.declared.pieces.NameClass.TheVariants as class
-use Rattle.bw_tmpl.specs.Reading.{leading, later_of, checked}
+use Rattle.bw_lang.specs.declared.pieces.NameClass.{NameClass}
+use Rattle.bw_lang.specs.declared.pieces.NameClass.TheVariants as class
+use Rattle.bw_tmpl.specs.Reading.{leading, checked}
+use Rattle.bw_lang.specs.MarkupNames.{later_of}
 
 pub later_below : (k : NameClass) (c : ℕ) → later_of k c ≡ true → c < 128
 later_below class.Tag c h = grind (arith, nat_tests)

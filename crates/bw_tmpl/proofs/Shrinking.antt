@@ -2,15 +2,16 @@
 use Rattle.std.proofs.Common.{◌≡◌, ℕ, zero, suc, ◌+◌, ◌<◌, ◌≤◌, Bool, true, false, List, [], ◌∷◌, ◌++◌, length, take, drop, Option, Some, None, refl, sym, ap, ◌∙◌, arith, inl, inr}
 use Rattle.std.specs.Prelude.{if◌then◌else◌, ◌==◌, codes}
 use Rattle.std.proofs.lemmas.List.{length-append, length-drop}
-use Rattle.bw_tmpl.specs.declared.pieces.NameClass.{NameClass}
-use Rattle.bw_tmpl.specs.declared.pieces.NameClass.TheVariants as class
-use Rattle.bw_tmpl.specs.declared.pieces.RawAttr.{RawAttr}
-use Rattle.bw_tmpl.specs.declared.pieces.RawValue.{RawValue}
-use Rattle.bw_tmpl.specs.declared.pieces.RawValue.TheVariants as raw
-use Rattle.bw_tmpl.specs.declared.pieces.Tag.{Tag}
-use Rattle.bw_tmpl.specs.declared.pieces.Piece.{Piece}
-use Rattle.bw_tmpl.specs.declared.pieces.Piece.TheVariants as piece
-use Rattle.bw_tmpl.specs.Reading.{◌>>=◌, map_or, stripped, leading, begins, first_of, later_of, is_blank, past_blanks, name_at, char_at, many, many_next, each, checked, quoted_at, hole_at, value_at, attr_at, tag_at, whole_at, end_at, gap_at, text_at, piece_at}
+use Rattle.bw_lang.specs.declared.pieces.NameClass.{NameClass}
+use Rattle.bw_lang.specs.declared.pieces.NameClass.TheVariants as class
+use Rattle.bw_lang.specs.declared.pieces.RawAttr.{RawAttr}
+use Rattle.bw_lang.specs.declared.pieces.RawValue.{RawValue}
+use Rattle.bw_lang.specs.declared.pieces.RawValue.TheVariants as raw
+use Rattle.bw_lang.specs.declared.pieces.Tag.{Tag}
+use Rattle.bw_lang.specs.declared.pieces.Piece.{Piece}
+use Rattle.bw_lang.specs.declared.pieces.Piece.TheVariants as piece
+use Rattle.bw_tmpl.specs.Reading.{◌>>=◌, map_or, stripped, leading, past_blanks, name_at, char_at, many, many_next, each, checked, quoted_at, hole_at, value_at, attr_at, tag_at, whole_at, end_at, gap_at, text_at, piece_at}
+use Rattle.bw_lang.specs.MarkupNames.{begins, first_of, later_of, is_blank}
 use Rattle.bw_tmpl.proofs.Many.{bind_some, map_or_some, cond_some, cond_none, some_is, stripped_is, Shrinks, each_more, each_none}
 use Rattle.bw_tmpl.proofs.Characters.{char_shrinks}
 

@@ -6,17 +6,18 @@ use Rattle.std.proofs.lemmas.List.{take-append-drop, take_at, drop_at, nil_from_
 use Rattle.std.proofs.lemmas.Bool.{eqb-true}
 use Rattle.std.proofs.lemmas.Bool.Decides.{nat_tests}
 use Rattle.std.proofs.lemmas.Str.{IsUtf8-from_is_utf8}
-use Rattle.bw_tmpl.specs.declared.pieces.NameClass.{NameClass}
-use Rattle.bw_tmpl.specs.declared.pieces.NameClass.TheVariants as class
-use Rattle.bw_tmpl.specs.declared.pieces.RawAttr.{RawAttr}
-use Rattle.bw_tmpl.specs.declared.pieces.RawValue.{RawValue}
-use Rattle.bw_tmpl.specs.declared.pieces.RawValue.TheVariants as raw
-use Rattle.bw_tmpl.specs.declared.pieces.Tag.{Tag}
-use Rattle.bw_tmpl.specs.declared.pieces.Piece.{Piece}
-use Rattle.bw_tmpl.specs.declared.pieces.Piece.TheVariants as piece
+use Rattle.bw_lang.specs.declared.pieces.NameClass.{NameClass}
+use Rattle.bw_lang.specs.declared.pieces.NameClass.TheVariants as class
+use Rattle.bw_lang.specs.declared.pieces.RawAttr.{RawAttr}
+use Rattle.bw_lang.specs.declared.pieces.RawValue.{RawValue}
+use Rattle.bw_lang.specs.declared.pieces.RawValue.TheVariants as raw
+use Rattle.bw_lang.specs.declared.pieces.Tag.{Tag}
+use Rattle.bw_lang.specs.declared.pieces.Piece.{Piece}
+use Rattle.bw_lang.specs.declared.pieces.Piece.TheVariants as piece
 use Rattle.std.specs.Char.{is_ascii_lowercase}
-use Rattle.bw_tmpl.specs.Reading.{◌>>=◌, map_or, stripped, leading, begins, first_of, later_of, is_blank, past_blanks, name_at, char_at, many, many_next, each, checked, quoted_at, hole_at, value_at, attr_at, tag_at, whole_at, end_at, gap_at, text_at, piece_at, pieces_of}
-use Rattle.bw_tmpl.specs.Spelling.{passes, IsName, IsChar, Each, IsValue, IsAttr, IsTag, IsPiece, is_text, begins_with_text, Apart, Spells}
+use Rattle.bw_tmpl.specs.Reading.{◌>>=◌, map_or, stripped, leading, past_blanks, name_at, char_at, many, many_next, each, checked, quoted_at, hole_at, value_at, attr_at, tag_at, whole_at, end_at, gap_at, text_at, piece_at, pieces_of}
+use Rattle.bw_lang.specs.MarkupNames.{begins, first_of, later_of, is_blank}
+use Rattle.bw_lang.specs.Pieces.{passes, IsName, IsChar, Each, IsValue, IsAttr, IsTag, IsPiece, is_text, begins_with_text, Apart, SpellsPieces}
 use Rattle.bw_tmpl.proofs.Many.{bind_some, map_or_some, cond_some, cond_none, some_is, stripped_is, stripped_again, Shrinks, put, each_more, each_none}
 use Rattle.bw_tmpl.proofs.Characters.{char_shrinks, char_is, char_written}
 use Rattle.bw_tmpl.proofs.Shrinking.{attr_shrinks, piece_shrinks}
@@ -407,7 +408,7 @@ pieces_listed (suc n) bytes le = one (piece_at bytes) refl (pieces_listed n)
         record { all = (x.1, m.is, k.all); apart = (behind_text x bytes (many piece_at n x.1).0 m.kind k.plain, k.apart); plain = first_plain x bytes m.kind }
 
 -- what is read is spelled so
-pub pieces_spelled : (bytes : List ℕ) (ps : List Piece) → pieces_of bytes ≡ Some ps → Spells ps bytes
+pub pieces_spelled : (bytes : List ℕ) (ps : List Piece) → pieces_of bytes ≡ Some ps → SpellsPieces ps bytes
 unfolding pieces_of
 pieces_spelled bytes ps h =
     let t = each piece_at bytes in
@@ -415,8 +416,8 @@ pieces_spelled bytes ps h =
     let l = pieces_listed (length bytes) bytes (omega arith) in
     let z : t.1 ≡ [] = nil_from_length t.1 (eqb-true (length t.1) 0 c.0) in
     let a : Each IsPiece t.0 bytes [] = subst (λ (r : List ℕ). Each IsPiece t.0 bytes r) z l.all in
-    let made : Spells t.0 bytes = record { apart = l.apart; pieces = a } in
-    subst (λ (qs : List Piece). Spells qs bytes) c.1 made
+    let made : SpellsPieces t.0 bytes = record { apart = l.apart; pieces = a } in
+    subst (λ (qs : List Piece). SpellsPieces qs bytes) c.1 made
 
 -- ---- what is spelled so is read
 
@@ -540,10 +541,10 @@ each_piece [] bytes a h = each_none piece_at piece_shrinks bytes (ap piece_at h 
 each_piece (p ∷ ps) bytes a h = each_more piece_at piece_shrinks bytes (p, h.0) (piece_written p bytes h.0 h.1 (next_plain (is_text p) ps h.0 a.0 h.2)) ∙ ap (put p) (each_piece ps h.0 a.1 h.2)
 
 -- what is spelled so is read
-pub spelled_pieces : (ps : List Piece) (bytes : List ℕ) → Spells ps bytes → pieces_of bytes ≡ Some ps
+pub spelled_pieces : (ps : List Piece) (bytes : List ℕ) → SpellsPieces ps bytes → pieces_of bytes ≡ Some ps
 unfolding pieces_of
 spelled_pieces ps bytes h = ap (λ (t : List Piece × List ℕ). if length t.1 == 0 then Some t.0 else None) (each_piece ps bytes h.apart h.pieces)
 
 -- bytes are one list of pieces at most
-pub spelled_once : (ps qs : List Piece) (bytes : List ℕ) → Spells ps bytes → Spells qs bytes → ps ≡ qs
+pub spelled_once : (ps qs : List Piece) (bytes : List ℕ) → SpellsPieces ps bytes → SpellsPieces qs bytes → ps ≡ qs
 spelled_once ps qs bytes p q = some_is ps qs (sym (spelled_pieces ps bytes p) ∙ spelled_pieces qs bytes q)

@@ -3,15 +3,15 @@ use Rattle.std.specs.Prelude.{◌≡◌, ℕ, if◌then◌else◌, List, [], ◌
 use Rattle.bw_lang.specs.Forest.{Forest, none, text, gap, element}
 use Rattle.bw_lang.specs.Documents.{append}
 use Rattle.bw_lang.specs.Markup.{is_void}
-use Rattle.bw_tmpl.specs.declared.pieces.Tag.{Tag}
-use Rattle.bw_tmpl.specs.declared.pieces.Piece.{Piece}
-use Rattle.bw_tmpl.specs.declared.pieces.Piece.TheVariants as piece
+use Rattle.bw_lang.specs.declared.pieces.Tag.{Tag}
+use Rattle.bw_lang.specs.declared.pieces.Piece.{Piece}
+use Rattle.bw_lang.specs.declared.pieces.Piece.TheVariants as piece
 use Rattle.bw_tmpl.specs.declared.fault.TmplFault.{TmplFault}
 use Rattle.bw_tmpl.specs.declared.fault.TmplFault.TheVariants as fault
 use Rattle.bw_tmpl.specs.declared.building.OpenElement.{OpenElement}
 use Rattle.bw_tmpl.specs.declared.building.Draft.{Draft}
 use Rattle.bw_lang.specs.Names.{same, number}
-use Rattle.bw_tmpl.specs.Numbers.{numbered}
+use Rattle.bw_lang.specs.NumberedGaps.{numbered}
 
 -- there is nothing to build, and the fault says so; want of memory says nothing
 abbrev pub MismatchedIfNone : {A : Type 0} → TmplFault → Option A → Type 0

@@ -1,9 +1,9 @@
 -- What is checked of pieces before items are built.
 use Rattle.std.specs.Prelude.{◌≡◌, ◌≤◌, ◌<◌, ℕ, true, false, List, Some, None}
-use Rattle.bw_tmpl.specs.declared.pieces.Piece.{Piece}
+use Rattle.bw_lang.specs.declared.pieces.Piece.{Piece}
 use Rattle.bw_tmpl.specs.declared.fault.TmplFault.{TmplFault}
 use Rattle.bw_tmpl.specs.declared.fault.TmplFault.TheVariants as fault
-use Rattle.bw_tmpl.specs.Repeats.{repeats}
+use Rattle.bw_lang.specs.RepeatedAttributes.{repeats}
 use Rattle.bw_tmpl.specs.Nesting.{depth}
 
 -- the pieces only want building

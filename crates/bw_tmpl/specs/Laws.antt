@@ -1,19 +1,22 @@
 -- Laws of reading.
-use Rattle.std.specs.Prelude.{◌≡◌, ◌≤◌, ℕ, List, IsUtf8}
+use Rattle.std.specs.Prelude.{◌≡◌, ◌≤◌, ℕ, ◌*◌, List, IsUtf8, length}
 use Rattle.bw_lang.specs.Forest.{Forest}
 use Rattle.bw_lang.specs.Documents.{plug, plug_text, close, count}
 use Rattle.bw_lang.specs.Print.{print, joined}
+use Rattle.bw_lang.specs.Measures.{items_weight}
 use Rattle.bw_tmpl.specs.declared.fault.TmplFault.{TmplFault}
 use Rattle.bw_tmpl.specs.declared.fault.TmplFault.TheVariants as fault
-use Rattle.bw_tmpl.specs.declared.pieces.Piece.{Piece}
-use Rattle.bw_tmpl.specs.Spelling.{Spells}
-use Rattle.bw_tmpl.specs.Reads.{ReadsAs, nesting}
-use Rattle.bw_tmpl.specs.Templates.{IsTemplate, IsRefused, IsClosedTemplate, IsClosedRefused}
+use Rattle.bw_lang.specs.declared.pieces.Piece.{Piece}
+use Rattle.bw_lang.specs.Pieces.{SpellsPieces}
+use Rattle.bw_lang.specs.Measures.{nest}
+use Rattle.bw_lang.specs.PieceItems.{ReadsAs}
+use Rattle.bw_lang.specs.Templates.{IsTemplate, IsClosedTemplate}
+use Rattle.bw_tmpl.specs.Refusals.{IsRefused, IsClosedRefused}
 use Rattle.bw_tmpl.specs.Markup.{IsMarkup, IsClosedMarkup}
 
 -- bytes are one list of pieces at most
 abbrev pub OneSpelling : Type 0
-OneSpelling = (ps qs : List Piece) (bytes : List ℕ) → Spells ps bytes → Spells qs bytes → ps ≡ qs
+OneSpelling = (ps qs : List Piece) (bytes : List ℕ) → SpellsPieces ps bytes → SpellsPieces qs bytes → ps ≡ qs
 
 -- pieces read as one list of items at most
 abbrev pub OneReading : Type 0
@@ -51,6 +54,10 @@ ClosedIsTemplate = (names : List (List ℕ)) (most : ℕ) (bytes : List ℕ) (f 
 abbrev pub ClosedHasNoGap : Type 0
 ClosedHasNoGap = (most : ℕ) (bytes : List ℕ) (f : Forest) → IsClosedTemplate most bytes f → (g : ℕ) → count g f ≡ 0
 
+-- a template's items are bounded by its bytes
+abbrev pub ItemsBounded : Type 0
+ItemsBounded = (names : List (List ℕ)) (most : ℕ) (bytes : List ℕ) (f : Forest) → IsTemplate names most bytes f → items_weight f ≤ 65 * length bytes
+
 -- what is read is markup
 abbrev pub ReadsMarkup : Type 0
 ReadsMarkup = (names : List (List ℕ)) (most : ℕ) (bytes : List ℕ) (f : Forest) → IsTemplate names most bytes f → IsMarkup f
@@ -69,4 +76,4 @@ ClosesMarkup = (f : Forest) → IsMarkup f → IsClosedMarkup (close f)
 
 -- What is printed reads as the document, with neighbouring texts joined and without empty ones.
 abbrev pub ReadsBack : Type 0
-ReadsBack = (f : Forest) (most : ℕ) → IsClosedMarkup f → nesting f ≤ most → IsClosedTemplate most (print f) (joined f)
+ReadsBack = (f : Forest) (most : ℕ) → IsClosedMarkup f → nest f ≤ most → IsClosedTemplate most (print f) (joined f)

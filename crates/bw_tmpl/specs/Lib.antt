@@ -1,13 +1,7 @@
-pub mod Bytes
 pub mod Reading
-pub mod Spelling
-pub mod Gaps
-pub mod Repeats
-pub mod Numbers
-pub mod Reads
 pub mod Nesting
 pub mod Checks
 pub mod Building
-pub mod Templates
+pub mod Refusals
 pub mod Markup
 pub mod Laws

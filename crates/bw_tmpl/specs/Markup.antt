@@ -5,9 +5,9 @@ use Rattle.bw_lang.specs.declared.items.AttrValue.{AttrValue}
 use Rattle.bw_lang.specs.declared.items.AttrValue.TheVariants as value
 use Rattle.bw_lang.specs.Forest.{Forest, none, text, gap, element}
 use Rattle.bw_lang.specs.Markup.{is_void}
-use Rattle.bw_tmpl.specs.declared.pieces.NameClass.TheVariants as class
-use Rattle.bw_tmpl.specs.Repeats.{repeated}
-use Rattle.bw_tmpl.specs.Spelling.{IsName}
+use Rattle.bw_lang.specs.declared.pieces.NameClass.TheVariants as class
+use Rattle.bw_lang.specs.RepeatedAttributes.{repeated}
+use Rattle.bw_lang.specs.Pieces.{IsName}
 
 -- Here and below Gap says whether a gap may be open.
 -- a fixed value is UTF-8

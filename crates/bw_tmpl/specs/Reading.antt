@@ -1,17 +1,17 @@
 -- What stands at the front of bytes, and the bytes behind it.
-use Rattle.std.specs.Prelude.{ℕ, zero, suc, Bool, false, ◌||◌, ◌==◌, nat_eq, if◌then◌else◌, List, [], ◌∷◌, length, take, drop, Option, Some, None, Result, MatchResult, codes, ◌≡◌}
+use Rattle.std.specs.Prelude.{ℕ, zero, suc, Bool, ◌||◌, ◌==◌, nat_eq, if◌then◌else◌, List, [], ◌∷◌, length, take, drop, Option, Some, None, Result, MatchResult, codes, ◌≡◌}
 use Rattle.std.specs.Str.{is_utf8}
-use Rattle.std.specs.Char.{is_ascii_lowercase, is_ascii_digit, is_ascii_alphabetic, is_ascii_alphanumeric}
 use lib.Pointwise.{pointwise}
-use Rattle.bw_tmpl.specs.Bytes.{ampersand, less_than, greater_than, double_quote, single_quote, hyphen, underscore, space, tab, carriage_return, line_feed}
-use Rattle.bw_tmpl.specs.declared.pieces.Tag.{Tag}
-use Rattle.bw_tmpl.specs.declared.pieces.Piece.{Piece}
-use Rattle.bw_tmpl.specs.declared.pieces.Piece.TheVariants as piece
-use Rattle.bw_tmpl.specs.declared.pieces.RawAttr.{RawAttr}
-use Rattle.bw_tmpl.specs.declared.pieces.RawValue.{RawValue}
-use Rattle.bw_tmpl.specs.declared.pieces.RawValue.TheVariants as raw
-use Rattle.bw_tmpl.specs.declared.pieces.NameClass.{NameClass}
-use Rattle.bw_tmpl.specs.declared.pieces.NameClass.TheVariants as class
+use Rattle.bw_lang.specs.MarkupBytes.{ampersand, less_than, greater_than, double_quote, single_quote}
+use Rattle.bw_lang.specs.MarkupNames.{first_of, later_of, is_blank, begins}
+use Rattle.bw_lang.specs.declared.pieces.Tag.{Tag}
+use Rattle.bw_lang.specs.declared.pieces.Piece.{Piece}
+use Rattle.bw_lang.specs.declared.pieces.Piece.TheVariants as piece
+use Rattle.bw_lang.specs.declared.pieces.RawAttr.{RawAttr}
+use Rattle.bw_lang.specs.declared.pieces.RawValue.{RawValue}
+use Rattle.bw_lang.specs.declared.pieces.RawValue.TheVariants as raw
+use Rattle.bw_lang.specs.declared.pieces.NameClass.{NameClass}
+use Rattle.bw_lang.specs.declared.pieces.NameClass.TheVariants as class
 use Rattle.bw_tmpl.specs.declared.fault.TmplFault.{TmplFault}
 use Rattle.bw_tmpl.specs.declared.fault.TmplFault.TheVariants as fault
 
@@ -46,31 +46,10 @@ stripped front bytes = if pointwise nat_eq (take (length front) bytes) front the
 
 -- ---- names
 
--- a byte that may begin a name of the class
-abbrev pub first_of : NameClass → ℕ → Bool
-first_of class.Tag c = is_ascii_lowercase c
-first_of class.Attr c = is_ascii_lowercase c
-first_of class.Word c = is_ascii_alphabetic c || c == underscore
-
--- a byte that may stand in a name of the class
-abbrev pub later_of : NameClass → ℕ → Bool
-later_of class.Tag c = is_ascii_lowercase c || is_ascii_digit c
-later_of class.Attr c = is_ascii_lowercase c || is_ascii_digit c || c == hyphen
-later_of class.Word c = is_ascii_alphanumeric c || c == underscore
-
--- a space, a tab or the end of a line
-abbrev pub is_blank : ℕ → Bool
-is_blank c = c == space || c == tab || c == carriage_return || c == line_feed
-
 -- how many bytes at the front pass a test
 abbrev pub leading : (ℕ → Bool) → List ℕ → ℕ
 leading p [] = 0
 leading p (b ∷ bs) = if p b then suc (leading p bs) else 0
-
--- the first byte passes a test
-abbrev pub begins : (ℕ → Bool) → List ℕ → Bool
-begins p [] = false
-begins p (b ∷ bs) = p b
 
 -- the longest name at the front
 abbrev pub name_at : NameClass → List ℕ → Option (List ℕ × List ℕ)

@@ -3,12 +3,12 @@ ghost use Rattle.std.specs.Prelude.{◌≡◌, ◌≢◌, IfOk, OnOk, [], ◌∷
 ghost use Rattle.std.specs.Bool.{MatchBool};
 ghost use Rattle.bw_lang.specs.Forest.{none};
 ghost use Rattle.bw_lang.specs.View.{before};
-ghost use Rattle.bw_tmpl.specs.Numbers.{numbered, numbered_value};
+ghost use Rattle.bw_lang.specs.NumberedGaps.{numbered, numbered_value};
 ghost use Rattle.bw_tmpl.specs.Building.{nothing_built, with_items, element_begun, empty_element, element_ended, draft_after, built, Builds};
 
 use crate::fault::TmplFault;
 use crate::nesting::is_same;
-use crate::pieces::{Piece, RawAttr, RawAttrs, RawValue, Tag};
+use bw_lang::pieces::{Piece, RawAttr, RawAttrs, RawValue, Tag};
 use bw_lang::{Attr, AttrValue, Attrs, Element, GapNames, Item, Items, Memory, Name, is_void};
 use std::alloc::Global;
 use std::marker::Model;

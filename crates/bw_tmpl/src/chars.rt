@@ -1,16 +1,17 @@
 //! Characters and names at the front of bytes.
 ghost use Rattle.std.specs.Prelude.{◌≡◌, length, ◌≤◌, IfOk, MatchOption};
+ghost use Rattle.bw_lang.specs.MarkupNames.{first_of, later_of, is_blank, begins};
 ghost use Rattle.bw_tmpl.specs.Reading as spec;
 
 use crate::fault::TmplFault;
-use crate::pieces::NameClass;
+use bw_lang::pieces::NameClass;
 use bw_lang::{Memory, Name, Text};
 use std::alloc::Global;
 use std::str;
 
 /// Whether a name of the class may begin with the byte.
 fn is_first(class: NameClass, c: u8) -> bool
-    ensures { result ≡ spec.first_of class c }
+    ensures { result ≡ first_of class c }
 {
     match class {
         NameClass::Tag | NameClass::Attr => c.is_ascii_lowercase(),
@@ -20,7 +21,7 @@ fn is_first(class: NameClass, c: u8) -> bool
 
 /// Whether the byte may stand in a name of the class, behind the first.
 fn is_later(class: NameClass, c: u8) -> bool
-    ensures { result ≡ spec.later_of class c }
+    ensures { result ≡ later_of class c }
 {
     match class {
         NameClass::Tag => c.is_ascii_lowercase() || c.is_ascii_digit(),
@@ -31,14 +32,14 @@ fn is_later(class: NameClass, c: u8) -> bool
 
 /// Whether the byte is a space, a tab or the end of a line.
 pub fn is_blank(c: u8) -> bool
-    ensures { result ≡ spec.is_blank c }
+    ensures { result ≡ is_blank c }
 {
     c == b' ' || c == b'\t' || c == b'\r' || c == b'\n'
 }
 
 /// How many bytes at the front may stand in a name of the class.
 fn name_length(class: NameClass, bytes: &[u8]) -> usize
-    ensures value { result ≡ spec.leading (spec.later_of class) bytes.now }
+    ensures value { result ≡ spec.leading (later_of class) bytes.now }
     ensures within { result ≤ length bytes.now }
 {
     let mut n = 0;
@@ -67,7 +68,7 @@ pub fn past_blanks(bytes: &[u8]) -> &[u8]
 
 /// Whether a name of the class may begin with the first of the bytes.
 fn begins(class: NameClass, bytes: &[u8]) -> bool
-    ensures { result ≡ spec.begins (spec.first_of class) bytes.now }
+    ensures { result ≡ begins (first_of class) bytes.now }
 {
     match bytes {
         [] => false,

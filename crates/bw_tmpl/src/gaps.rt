@@ -2,9 +2,9 @@
 ghost use Rattle.std.specs.Prelude.{◌≡◌, ◌≢◌, [], OnOk};
 ghost use Rattle.std.specs.Bool.{MatchBool};
 ghost use Rattle.bw_lang.specs.Names.{with_names, Extends};
-ghost use Rattle.bw_tmpl.specs.Gaps.{value_gaps, attr_gaps, piece_gaps, gap_names};
+ghost use Rattle.bw_lang.specs.PieceGaps.{value_gaps, attr_gaps, piece_gaps, gap_names};
 
-use crate::pieces::{Piece, RawAttr, RawValue};
+use bw_lang::pieces::{Piece, RawAttr, RawValue};
 use bw_lang::{GapNames, Memory};
 
 /// Takes in the name of the gap that the value is, if it is one.

@@ -1,5 +1,5 @@
 //! Laws of reading. A law is the contract of an empty function.
-ghost use Rattle.bw_tmpl.specs.Laws.{OneSpelling, OneReading, OneTemplate, NotBoth, OneReason, OneClosedTemplate, NotBothClosed, OneClosedReason, ClosedIsTemplate, ClosedHasNoGap, ReadsMarkup, PlugsMarkup, PlugsTextMarkup, ClosesMarkup, ReadsBack};
+ghost use Rattle.bw_tmpl.specs.Laws.{OneSpelling, OneReading, OneTemplate, NotBoth, OneReason, OneClosedTemplate, NotBothClosed, OneClosedReason, ClosedIsTemplate, ClosedHasNoGap, ItemsBounded, ReadsMarkup, PlugsMarkup, PlugsTextMarkup, ClosesMarkup, ReadsBack};
 
 /// Bytes are one list of pieces at most, and by a table of names pieces read as one list of items at most.
 pub fn unique()
@@ -26,6 +26,11 @@ pub fn closed_decided()
 pub fn closed_is_template()
     ensures template { ClosedIsTemplate }
     ensures no_gap { ClosedHasNoGap }
+{}
+
+/// A template's items are bounded by its bytes: they weigh at most 65 for each byte.
+pub fn items_bounded()
+    ensures weight { ItemsBounded }
 {}
 
 /// What is read is markup, and filling gaps and closing keep it so.

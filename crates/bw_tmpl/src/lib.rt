@@ -11,7 +11,6 @@ mod fault;
 mod gaps;
 pub mod laws;
 mod nesting;
-pub mod pieces;
 mod reading;
 mod repeats;
 mod tags;

@@ -6,7 +6,7 @@ ghost use Rattle.bw_tmpl.specs.Building.{Builds};
 ghost use Rattle.bw_tmpl.specs.Nesting.{no_tags, one_deeper, tag_opened, tag_closed, tags_after, depth};
 
 use crate::fault::TmplFault;
-use crate::pieces::Piece;
+use bw_lang::pieces::Piece;
 use bw_lang::{Memory, Name, is_void};
 use std::alloc::Global;
 use std::marker::Model;

@@ -3,18 +3,19 @@ ghost use Rattle.std.specs.Prelude.{◌≡◌, ◌≢◌, ◌≤◌, ℕ, List, 
 ghost use Rattle.bw_lang.specs.Documents.{count};
 ghost use Rattle.bw_lang.specs.Names.{with_names, Extends};
 ghost use Rattle.bw_tmpl.specs.Checks.{Passes, Fails};
-ghost use Rattle.bw_tmpl.specs.Gaps.{gap_names};
-ghost use Rattle.bw_tmpl.specs.Spelling.{Spells};
-ghost use Rattle.bw_tmpl.specs.Templates.{IsTemplate, IsRefused, IsClosedTemplate, IsClosedRefused};
-ghost use Rattle.bw_tmpl.specs.declared.pieces.Piece.{Piece as Piece_};
+ghost use Rattle.bw_lang.specs.PieceGaps.{gap_names};
+ghost use Rattle.bw_lang.specs.Pieces.{SpellsPieces};
+ghost use Rattle.bw_lang.specs.Templates.{IsTemplate, IsClosedTemplate};
+ghost use Rattle.bw_tmpl.specs.Refusals.{IsRefused, IsClosedRefused};
+ghost use Rattle.bw_lang.specs.declared.pieces.Piece.{Piece as Piece_};
 
 use crate::building::items_of;
 use crate::fault::TmplFault;
 use crate::gaps::{add_all, any_gap};
 use crate::nesting::depth_of;
-use crate::pieces::Piece;
 use crate::repeats::any_repeats;
 use crate::tags::pieces_of;
+use bw_lang::pieces::Piece;
 use bw_lang::{GapNames, Items};
 use std::alloc::Global;
 
@@ -45,7 +46,7 @@ fn check(alloc: Global, pieces: &[Piece], most: u32) -> Result<(), TmplFault>
 /// at any time, it may have new names behind the old ones.
 pub fn read_template(alloc: Global, bytes: &[u8], gaps: &mut GapNames) -> Result<Items, TmplFault>
     ensures items { MatchResult result (λ f. IsTemplate gaps.new TEMPLATE_NESTING bytes.now f) (λ e. IsRefused TEMPLATE_NESTING bytes.now e) }
-    ensures names { OnOk result ((ps : List Piece_) → Spells ps bytes.now → gaps.new ≡ with_names gaps.old (gap_names ps)) }
+    ensures names { OnOk result ((ps : List Piece_) → SpellsPieces ps bytes.now → gaps.new ≡ with_names gaps.old (gap_names ps)) }
     ensures numbered { IfOk result (λ f. (g : ℕ) → length gaps.new ≤ g → count g f ≡ 0) }
     ensures extends { Extends gaps.old gaps.new }
     ensures unchanged { IfErr result (λ e. e ≢ TmplFault.Memory → gaps.new ≡ gaps.old) }

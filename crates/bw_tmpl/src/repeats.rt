@@ -1,8 +1,8 @@
 //! Attributes that a tag names twice.
 ghost use Rattle.std.specs.Prelude.{◌≡◌, IfOk};
-ghost use Rattle.bw_tmpl.specs.Repeats as spec;
+ghost use Rattle.bw_lang.specs.RepeatedAttributes as spec;
 
-use crate::pieces::{Piece, RawAttr};
+use bw_lang::pieces::{Piece, RawAttr};
 use bw_lang::{Memory, NameTable};
 use std::alloc::Global;
 

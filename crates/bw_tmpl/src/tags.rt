@@ -1,12 +1,13 @@
 //! Attributes, tags and pieces at the front of bytes.
 ghost use Rattle.std.specs.Prelude.{◌≡◌, IfOk};
+ghost use Rattle.bw_lang.specs.MarkupNames.{is_blank, begins};
 ghost use Rattle.bw_tmpl.specs.Reading as spec;
 ghost use Rattle.bw_tmpl.specs.Reading.{attr_at, piece_at};
 
 use crate::chars::{chars_at, checked, is_blank, name_at, past_blanks};
 use crate::fault::TmplFault;
-use crate::pieces::{NameClass, Piece, RawAttr, RawAttrs, RawValue, Tag};
 use bw_lang::Memory;
+use bw_lang::pieces::{NameClass, Piece, RawAttr, RawAttrs, RawValue, Tag};
 use std::alloc::Global;
 
 /// A value up to its quote, behind the first quote, and the bytes behind it.
@@ -54,7 +55,7 @@ fn value_at(alloc: Global, bytes: &[u8]) -> Result<(RawValue, &[u8]), TmplFault>
 
 /// Whether the bytes begin with a blank.
 fn begins_blank(bytes: &[u8]) -> bool
-    ensures { result ≡ spec.begins spec.is_blank bytes.now }
+    ensures { result ≡ begins is_blank bytes.now }
 {
     match bytes {
         [] => false,

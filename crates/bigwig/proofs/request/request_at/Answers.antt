@@ -1,6 +1,6 @@
 use Rattle.std.specs.Prelude.{codes}
 use Rattle.std.proofs.Common.{◌++◌, ◌∙◌, ap, arith, refl, length}
-use Rattle.bw_syntax.proofs.Same.{none_any}
+use Rattle.bigwig.proofs.Absent.{none_any}
 use Rattle.bigwig.specs.Requests.{AsksNothing, spelling}
 use Rattle.bigwig.specs.Sent.{path_of}
 use Rattle.bigwig.proofs.Asking.{before_host, blank_line, path_bytes, behind_path, behind_line, behind_host, behind_all}

@@ -1,5 +1,5 @@
 use Rattle.std.proofs.Common.{◌≡◌, ◌∙◌, ◌-◌, sym, ap, subst, length, drop}
-use Rattle.bw_syntax.proofs.Same.{none_any}
+use Rattle.bigwig.proofs.Absent.{none_any}
 use Rattle.bigwig.specs.Requests.{Asks, AsksNothing}
 use Rattle.bigwig.specs.Sent.{path_of}
 use Rattle.bigwig.proofs.Fronts.{behind_request}

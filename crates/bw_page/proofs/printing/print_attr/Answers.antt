@@ -1,4 +1,4 @@
-use Rattle.std.proofs.Common.{refl, ap, ◌++◌}
+use Rattle.std.proofs.Common.{ap, ◌++◌}
 use Rattle.std.specs.Prelude.{codes}
 use Rattle.bw_lang.specs.Markup.{escaped}
 use Rattle.bw_out.proofs.WriteLaws.{then_writes, stops}

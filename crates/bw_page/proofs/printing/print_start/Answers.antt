@@ -1,4 +1,3 @@
-use Rattle.std.proofs.Common.{refl}
 use Rattle.bw_lang.specs.Print.{printed_attrs}
 use Rattle.bw_out.proofs.WriteLaws.{then_writes, stops}
 use Rattle.bw_page.proofs.Printed.{start_bytes}

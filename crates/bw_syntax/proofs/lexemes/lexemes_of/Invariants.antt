@@ -1,7 +1,6 @@
 use Rattle.std.proofs.Common.{◌≡◌, take, map}
 use Rattle.bw_lang.specs.Lexemes.{lexeme}
-use Rattle.bw_syntax.specs.View.{says}
 use Rattle.bw_syntax.proofs.lexemes.lexemes_of.Given as goal
 
 abbrev pub invariant-loop-token : goal.invariant-loop-token
-invariant-loop-token l = says l.lexemes.items ≡ map (lexeme l.bytes) (take l.token-index l.tokens)
+invariant-loop-token l = l.list.items ≡ map (lexeme l.bytes) (take l.token-index l.tokens)

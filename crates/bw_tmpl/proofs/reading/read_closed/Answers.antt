@@ -2,9 +2,9 @@ use Rattle.std.proofs.Common.{◌≡◌, ℕ, List, [], Some, ap, sym, ◌∙◌
 use Rattle.std.proofs.lemmas.Result.{err_from_is_err_and, MatchResult-weaker}
 use Rattle.bw_lang.specs.Forest.{Forest}
 use Rattle.bw_tmpl.specs.declared.fault.TmplFault.{TmplFault}
-use Rattle.bw_tmpl.specs.declared.pieces.Piece.{Piece}
+use Rattle.bw_lang.specs.declared.pieces.Piece.{Piece}
 use Rattle.bw_tmpl.specs.Building.{built, MismatchedIfNone}
-use Rattle.bw_tmpl.specs.Templates.{SpellsClosed}
+use Rattle.bw_lang.specs.Templates.{SpellsClosed}
 use Rattle.bw_tmpl.proofs.GapLaws.{none_open}
 use Rattle.bw_tmpl.proofs.Inverse.{built_reads}
 use Rattle.bw_tmpl.proofs.Spelled.{pieces_spelled}

@@ -4,11 +4,11 @@ use Rattle.bw_lang.specs.Forest.{Forest}
 use Rattle.bw_lang.specs.Names.{with_names}
 use Rattle.bw_tmpl.specs.declared.fault.TmplFault.{TmplFault}
 use Rattle.bw_tmpl.specs.declared.fault.TmplFault.TheVariants as fault
-use Rattle.bw_tmpl.specs.declared.pieces.Piece.{Piece}
+use Rattle.bw_lang.specs.declared.pieces.Piece.{Piece}
 use Rattle.bw_tmpl.specs.declared.reading.TheConstants.{TEMPLATE_NESTING}
 use Rattle.bw_tmpl.specs.Building.{built, MismatchedIfNone}
-use Rattle.bw_tmpl.specs.Gaps.{gap_names}
-use Rattle.bw_tmpl.specs.Spelling.{Spells}
+use Rattle.bw_lang.specs.PieceGaps.{gap_names}
+use Rattle.bw_lang.specs.Pieces.{SpellsPieces}
 use Rattle.bw_tmpl.proofs.GapLaws.{none_unknown}
 use Rattle.bw_tmpl.proofs.Inverse.{built_reads}
 use Rattle.bw_tmpl.proofs.Spelled.{pieces_spelled, spelled_once}
@@ -18,28 +18,28 @@ use Rattle.bw_tmpl.proofs.reading.read_template.Goals as goal
 pub returns-in_err-list-clause-items : goal.returns-in_err-list-clause-items
 returns-in_err-list-clause-items c =
     let p = err_from_is_err_and c.from_residual.result c.from_residual.ensures.1 in
-    rw (p.1, p.2) (unread Spells (λ (ps : List Piece) (bytes : List ℕ) (k : Spells ps bytes). k) TEMPLATE_NESTING c.args.bytes.now c.in_err-list.field-0.0 c.in_err-list.ensures)
+    rw (p.1, p.2) (unread SpellsPieces (λ (ps : List Piece) (bytes : List ℕ) (k : SpellsPieces ps bytes). k) TEMPLATE_NESTING c.args.bytes.now c.in_err-list.field-0.0 c.in_err-list.ensures)
 
 pub returns-in_err-check-clause-items : goal.returns-in_err-check-clause-items
 returns-in_err-check-clause-items c =
     let s = pieces_spelled c.args.bytes.now c.as_slice-pieces.result.now (c.in_ok-list.ensures ∙ ap Some (sym c.as_slice-pieces.ensures.value)) in
     let p = err_from_is_err_and c.from_residual-in_err-check.result c.from_residual-in_err-check.ensures.1 in
-    rw (p.1, p.2) (refused Spells TEMPLATE_NESTING c.args.bytes.now c.as_slice-pieces.result.now c.in_err-check.field-0.0 s c.in_err-check.ensures)
+    rw (p.1, p.2) (refused SpellsPieces TEMPLATE_NESTING c.args.bytes.now c.as_slice-pieces.result.now c.in_err-check.field-0.0 s c.in_err-check.ensures)
 
 pub returns-clause-items : goal.returns-clause-items
 returns-clause-items c =
     let ps = c.as_slice-pieces.result.now in
     let s = pieces_spelled c.args.bytes.now ps (c.in_ok-list.ensures ∙ ap Some (sym c.as_slice-pieces.ensures.value)) in
     MatchResult-weaker c.items_of.result c.items_of.ensures
-    (λ (f : Forest) (b : built c.add_all.new.gaps ps ≡ Some f). read Spells c.add_all.new.gaps TEMPLATE_NESTING c.args.bytes.now ps f s c.in_ok-check.ensures b)
-    (λ (e : TmplFault) (b : MismatchedIfNone e (built c.add_all.new.gaps ps)). refused_for_memory Spells TEMPLATE_NESTING c.args.bytes.now e (built_but_memory c.add_all.new.gaps TEMPLATE_NESTING ps e c.in_ok-check.ensures b))
+    (λ (f : Forest) (b : built c.add_all.new.gaps ps ≡ Some f). read SpellsPieces c.add_all.new.gaps TEMPLATE_NESTING c.args.bytes.now ps f s c.in_ok-check.ensures b)
+    (λ (e : TmplFault) (b : MismatchedIfNone e (built c.add_all.new.gaps ps)). refused_for_memory SpellsPieces TEMPLATE_NESTING c.args.bytes.now e (built_but_memory c.add_all.new.gaps TEMPLATE_NESTING ps e c.in_ok-check.ensures b))
 
 pub returns-clause-names : goal.returns-clause-names
 returns-clause-names c =
     let ps = c.as_slice-pieces.result.now in
     let s = pieces_spelled c.args.bytes.now ps (c.in_ok-list.ensures ∙ ap Some (sym c.as_slice-pieces.ensures.value)) in
     MatchResult-weaker c.items_of.result c.items_of.ensures
-    (λ (f : Forest) (b : built c.add_all.new.gaps ps ≡ Some f) (qs : List Piece) (k : Spells qs c.args.bytes.now). c.in_ok-add_all.ensures.ok ∙ ap (λ (l : List Piece). with_names c.args.gaps.now (gap_names l)) (spelled_once ps qs c.args.bytes.now s k))
+    (λ (f : Forest) (b : built c.add_all.new.gaps ps ≡ Some f) (qs : List Piece) (k : SpellsPieces qs c.args.bytes.now). c.in_ok-add_all.ensures.ok ∙ ap (λ (l : List Piece). with_names c.args.gaps.now (gap_names l)) (spelled_once ps qs c.args.bytes.now s k))
     (λ (e : TmplFault) (b : MismatchedIfNone e (built c.add_all.new.gaps ps)). tt)
 
 pub returns-clause-numbered : goal.returns-clause-numbered

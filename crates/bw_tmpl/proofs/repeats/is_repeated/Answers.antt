@@ -1,6 +1,6 @@
 use Rattle.std.proofs.Common.{◌<◌, ◌≤◌, ◌+◌, length, List, ℕ, drop, ap, sym, ◌∙◌, arith}
 use Rattle.bw_lang.specs.Names.{number}
-use Rattle.bw_tmpl.specs.Repeats.{attr_names}
+use Rattle.bw_lang.specs.RepeatedAttributes.{attr_names}
 use Rattle.bw_tmpl.proofs.Repeating.{repeated_after, repeated_is, repeated_here, first_here}
 use Rattle.bw_tmpl.proofs.repeats.is_repeated.Goals as goal
 

@@ -1,5 +1,5 @@
 use Rattle.std.proofs.Common.{◌≡◌, drop}
-use Rattle.bw_tmpl.specs.Repeats.{repeated, attr_names}
+use Rattle.bw_lang.specs.RepeatedAttributes.{repeated, attr_names}
 use Rattle.bw_tmpl.proofs.Repeating.{repeated_after}
 use Rattle.bw_tmpl.proofs.repeats.is_repeated.Given as goal
 

@@ -1,0 +1,17 @@
+-- The exit codes.
+use Rattle.std.specs.Prelude.{ℕ}
+use Rattle.bigwig.specs.declared.status.Status.{Status}
+use Rattle.bigwig.specs.declared.status.Status.TheVariants.{Done, Usage, ServiceRefused, SchemaRefused, ReadFault, WriteFault, DoorFault, Memory, PageRefused, NoFile}
+
+-- the code that the program ends with for a status
+abbrev pub code_of : Status → ℕ
+code_of Done = 0
+code_of Usage = 2
+code_of ServiceRefused = 3
+code_of SchemaRefused = 4
+code_of ReadFault = 5
+code_of WriteFault = 6
+code_of DoorFault = 7
+code_of Memory = 8
+code_of PageRefused = 9
+code_of NoFile = 15

@@ -1,0 +1,77 @@
+-- The lines that tell why a service is refused, without their ends.
+use Rattle.std.specs.Prelude.{ℕ, ◌==◌, if◌then◌else◌, List, [], ◌++◌, map, codes, decimal}
+use Rattle.bw_lang.specs.declared.limits.Limit.{Limit}
+use Rattle.bw_lang.specs.declared.limits.Limit.TheVariants as limits
+use Rattle.bw_lang.specs.declared.stmt.Kind.{Kind}
+use Rattle.bw_lang.specs.declared.stmt.Kind.TheVariants as kinds
+use Rattle.bw_lex.specs.declared.LexFault.{LexFault}
+use Rattle.bw_lex.specs.declared.LexFault.TheVariants as lexing
+use Rattle.bw_syntax.specs.declared.fault.SyntaxFault.{SyntaxFault}
+use Rattle.bw_syntax.specs.declared.fault.SyntaxFault.TheVariants as reading
+use Rattle.bw_tmpl.specs.declared.fault.TmplFault.{TmplFault}
+use Rattle.bw_tmpl.specs.declared.fault.TmplFault.TheVariants as templates
+use Rattle.bw_types.specs.declared.fault.TypeFault.{TypeFault}
+use Rattle.bw_types.specs.declared.fault.TypeFault.TheVariants as typing
+
+abbrev pub limit_name : Limit → List ℕ
+limit_name limits.Nesting = codes "nesting"
+limit_name limits.Stretch = codes "stretch"
+limit_name limits.Templates = codes "templates"
+limit_name limits.Sessions = codes "sessions"
+limit_name limits.Shared = codes "shared"
+limit_name limits.Gaps = codes "gaps"
+limit_name limits.Fields = codes "fields"
+limit_name limits.Locals = codes "locals"
+limit_name limits.NameBytes = codes "name bytes"
+limit_name limits.StringBytes = codes "string bytes"
+limit_name limits.Weight = codes "weight"
+
+abbrev pub kind_name : Kind → List ℕ
+kind_name kinds.Int = codes "int"
+kind_name kinds.Bool = codes "bool"
+kind_name kinds.Str = codes "string"
+kind_name kinds.Html = codes "html"
+
+-- a byte of a field's name as it prints: the ends of lines as spaces
+abbrev pub shown : ℕ → ℕ
+shown b = if b == 10 then 32 else (if b == 13 then 32 else b)
+
+abbrev pub lex_line : LexFault → List ℕ
+lex_line (lexing.BadByte at) = codes "lex bad byte at " ++ decimal at
+lex_line (lexing.OpenString at) = codes "lex open string at " ++ decimal at
+lex_line (lexing.OpenTemplate at) = codes "lex open template at " ++ decimal at
+lex_line (lexing.NumberTooBig at) = codes "lex number too big at " ++ decimal at
+lex_line lexing.Memory = []
+
+abbrev pub template_fault : TmplFault → List ℕ
+template_fault templates.Malformed = codes " malformed"
+template_fault templates.RepeatedAttribute = codes " repeated attribute"
+template_fault templates.Mismatched = codes " mismatched"
+template_fault templates.Nesting = codes " nesting"
+template_fault templates.Memory = []
+
+-- why the text is read as no service
+abbrev pub syntax_line : SyntaxFault → List ℕ
+syntax_line reading.TooLong = codes "service too long"
+syntax_line (reading.Lex fault) = lex_line fault
+syntax_line (reading.TooMany limit n) = codes "too many " ++ (limit_name limit ++ (codes " " ++ decimal n))
+syntax_line (reading.Syntax at) = codes "syntax at " ++ decimal at
+syntax_line (reading.Template name fault) = codes "template " ++ (name ++ template_fault fault)
+syntax_line reading.Memory = []
+
+-- why the service isn't well typed
+abbrev pub type_line : TypeFault → List ℕ
+type_line (typing.Repeated name) = codes "type repeated " ++ name
+type_line (typing.Unknown name) = codes "type unknown " ++ name
+type_line (typing.Kind wanted found) = codes "type kind " ++ (kind_name wanted ++ (codes " " ++ kind_name found))
+type_line (typing.GapKinds gap) = codes "type gap kinds " ++ gap
+type_line (typing.FieldKinds field) = codes "type field kinds " ++ map shown field
+type_line (typing.BadControl template) = codes "type bad control " ++ template
+type_line (typing.ReservedTag tag) = codes "type reserved tag " ++ tag
+type_line (typing.FileInput template) = codes "type file input " ++ template
+type_line (typing.NoExit session) = codes "type no exit " ++ session
+type_line typing.Memory = []
+
+-- the service isn't of the kind that is served by now
+abbrev pub not_yet_line : List ℕ
+not_yet_line = codes "not yet"

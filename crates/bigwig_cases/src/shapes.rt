@@ -1,0 +1,136 @@
+//! Cases of expressions. The name of a case is an expression, and its line `shape TEXT` says how it is read: with `{`
+//! and `}` around each operation, call and plug.
+
+use crate::fault::Fault;
+use crate::tables::Case;
+use crate::verdicts::Verdict;
+use bw_lang::{Expr, Fun, Op, Pairs, Stmt};
+use bw_syntax::{SyntaxFault, read_service};
+use std::alloc::{AllocError, Global};
+
+/// Tries an expression.
+pub fn try_case(alloc: Global, case: &Case<'_>) -> Result<Verdict, Fault> {
+    let mut wanted = String::new(alloc);
+    for line in &case.lines {
+        match line.key {
+            "shape" => wanted = String::from_str(alloc, line.value)?,
+            _ => return Err(Fault::Malformed),
+        }
+    }
+    Ok(Verdict::of(wanted, shape_of(alloc, case.name)?))
+}
+
+/// The shape of an expression, as it is read within a service.
+fn shape_of(alloc: Global, expression: &str) -> Result<String, Fault> {
+    let text = format!(in alloc; "service A {{ session s() {{ exit {expression}; }} }}")?;
+    match read_service(alloc, text.as_bytes()) {
+        Ok(service) => match service.sessions.as_slice() {
+            [session] => shape_of_exit(alloc, session.body.as_slice()),
+            _ => Ok(String::from_str(alloc, "sessions")?),
+        },
+        Err(SyntaxFault::Syntax(_)) => Ok(String::from_str(alloc, "syntax")?),
+        Err(SyntaxFault::Memory) => Err(Fault::Memory),
+        Err(_) => Ok(String::from_str(alloc, "refused")?),
+    }
+}
+
+/// The shape of the expression of one `exit`.
+fn shape_of_exit(alloc: Global, stmts: &[Stmt]) -> Result<String, Fault> {
+    let mut shape = String::new(alloc);
+    match stmts {
+        [Stmt::Exit { page }] => put_expr(&mut shape, page)?,
+        _ => shape.push_str("statements")?,
+    }
+    Ok(shape)
+}
+
+fn op_sign(op: Op) -> &'static str {
+    match op {
+        Op::Or => "||",
+        Op::And => "&&",
+        Op::Eq => "==",
+        Op::Ne => "!=",
+        Op::Lt => "<",
+        Op::Le => "<=",
+        Op::Gt => ">",
+        Op::Ge => ">=",
+        Op::Add => "+",
+        Op::Sub => "-",
+        Op::Mul => "*",
+        Op::Div => "/",
+        Op::Rem => "%",
+    }
+}
+
+fn fun_word(fun: Fun) -> &'static str {
+    match fun {
+        Fun::Text => "text",
+        Fun::Number => "number",
+        Fun::IsNumber => "isnumber",
+    }
+}
+
+/// Puts the shape of an expression behind others.
+#[tactic(auto, using(bw_limits::proofs::Sizes::size_steps))]
+#[cycle(shape)]
+fn put_expr(shape: &mut String, expr: &Expr) -> Result<(), AllocError> {
+    match expr {
+        Expr::Int(number) => write!(shape, "{number}")?,
+        Expr::Bool(true) => shape.push_str("true")?,
+        Expr::Bool(false) => shape.push_str("false")?,
+        Expr::Str(text) => write!(shape, "\"{}\"", text.as_str())?,
+        Expr::Name(name) => shape.push_str(name.as_str())?,
+        Expr::Paren(inner) => {
+            shape.push('(')?;
+            put_expr(shape, inner.expr())?;
+            shape.push(')')?;
+        }
+        Expr::Not(of) => {
+            shape.push_str("{!")?;
+            put_expr(shape, of.expr())?;
+            shape.push('}')?;
+        }
+        Expr::Neg(of) => {
+            shape.push_str("{-")?;
+            put_expr(shape, of.expr())?;
+            shape.push('}')?;
+        }
+        Expr::Binary { op, left, right } => {
+            shape.push('{')?;
+            put_expr(shape, left.expr())?;
+            shape.push(' ')?;
+            shape.push_str(op_sign(*op))?;
+            shape.push(' ')?;
+            put_expr(shape, right.expr())?;
+            shape.push('}')?;
+        }
+        Expr::Call { fun, arg } => {
+            shape.push('{')?;
+            shape.push_str(fun_word(*fun))?;
+            shape.push(' ')?;
+            put_expr(shape, arg.expr())?;
+            shape.push('}')?;
+        }
+        Expr::Plug { base, pairs } => {
+            shape.push('{')?;
+            put_expr(shape, base.expr())?;
+            put_pairs(shape, pairs)?;
+            shape.push('}')?;
+        }
+    }
+    Ok(())
+}
+
+/// Puts the shape of the pairs of a plug behind others.
+#[tactic(auto, using(bw_limits::proofs::Sizes::size_steps))]
+#[cycle(shape)]
+fn put_pairs(shape: &mut String, pairs: &Pairs) -> Result<(), AllocError> {
+    for pair in pairs.as_slice() {
+        shape.push_str(" [")?;
+        shape.push_str(pair.gap.as_str())?;
+        shape.push('=')?;
+        put_expr(shape, &pair.value)?;
+        shape.push(']')?;
+    }
+    Ok(())
+}

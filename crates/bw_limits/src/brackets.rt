@@ -1,0 +1,107 @@
+//! The limits that are decided on the tokens of a service alone.
+ghost use Rattle.std.specs.Prelude.{◌≡◌, ◌-◌, ◌<◌, ◌^◌, find, nat_lt};
+ghost use Rattle.bw_lang.specs.Keywords.{is};
+ghost use Rattle.bw_lang.specs.Brackets as spec;
+
+use crate::passing::{over, passed};
+use bw_lang::{Lexeme, Limit};
+
+/// The greatest depth of open brackets.
+const MAX_NESTING: u64 = 64;
+
+/// The most tokens in a row without `;`, `{` or `}`.
+const MAX_STRETCH: u64 = 500;
+
+fn is_sign(sign: &[u8], other: &[u8]) -> bool
+    ensures { result ≡ is sign.now other.now }
+{
+    sign == other
+}
+
+fn is_opening(sign: &[u8]) -> bool
+    ensures { result ≡ spec.is_opening sign.now }
+{
+    is_sign(sign, b"{") || (is_sign(sign, b"(") || (is_sign(sign, b"[") || is_sign(sign, b"<[")))
+}
+
+fn is_closing(sign: &[u8]) -> bool
+    ensures { result ≡ spec.is_closing sign.now }
+{
+    is_sign(sign, b"}") || (is_sign(sign, b")") || is_sign(sign, b"]"))
+}
+
+/// How many brackets are open behind the lexeme, where so many are in front of it.
+fn depth_behind(depth: u64, lexeme: &Lexeme) -> u64
+    requires { depth < 2 ^ 64 - 1 }
+    ensures { result ≡ spec.depth_behind depth lexeme.now }
+{
+    match lexeme {
+        Lexeme::Sign(sign) => {
+            let sign = sign.as_slice();
+            if is_opening(sign) {
+                depth + 1
+            } else if is_closing(sign) {
+                depth.saturating_sub(1)
+            } else {
+                depth
+            }
+        }
+        _ => depth,
+    }
+}
+
+/// The greatest number of brackets that are open at once.
+#[tactic(auto, using(crate::proofs::BracketSteps::bracket_steps))]
+fn deepest(lexemes: &[Lexeme]) -> u64
+    ensures { result ≡ spec.deepest 0 lexemes.now }
+{
+    let mut deepest = 0;
+    let mut depth = 0;
+    for lexeme in lexemes {
+        deepest = deepest.max(depth);
+        depth = depth_behind(depth, lexeme);
+    }
+    deepest.max(depth)
+}
+
+/// Whether the lexeme ends a stretch.
+fn ends_stretch(lexeme: &Lexeme) -> bool
+    ensures { result ≡ spec.ends_stretch lexeme.now }
+{
+    match lexeme {
+        Lexeme::Sign(sign) => {
+            let sign = sign.as_slice();
+            is_sign(sign, b";") || (is_sign(sign, b"{") || is_sign(sign, b"}"))
+        }
+        _ => false,
+    }
+}
+
+/// The length of the first stretch that is longer than the longest that is read.
+#[tactic(auto, using(crate::proofs::BracketSteps::bracket_steps))]
+fn long_stretch(lexemes: &[Lexeme]) -> Option<u64>
+    ensures { result ≡ find (nat_lt 500) (spec.stretches 0 lexemes.now) }
+{
+    let mut length = 0;
+    for lexeme in lexemes {
+        if !ends_stretch(lexeme) {
+            length += 1;
+        } else if length > MAX_STRETCH {
+            return Some(length);
+        } else {
+            length = 0;
+        }
+    }
+    over(MAX_STRETCH, length)
+}
+
+/// The first of the limits on brackets and stretches that the lexemes pass, with the number that does: the depth of
+/// open brackets (64 at most), and the tokens in a row without `;`, `{` or `}` (500 at most). A bracket that closes
+/// none changes no depth. It takes no memory.
+pub fn too_deep(lexemes: &[Lexeme]) -> Option<(Limit, u64)>
+    ensures { result ≡ spec.too_deep lexemes.now }
+{
+    let nesting = over(MAX_NESTING, deepest(lexemes));
+    let stretch = long_stretch(lexemes);
+    passed(Limit::Nesting, nesting).or(passed(Limit::Stretch, stretch))
+}

@@ -1,0 +1,200 @@
+//! The limits of the declarations of a service.
+ghost use Rattle.std.specs.Prelude.{◌≡◌, ◌<◌, ◌^◌, find, length, map, nat_lt, IfOk};
+ghost use Rattle.std.specs.List.{All};
+ghost use Rattle.std.specs.Option.{IfSome, is_some, option_to_list};
+ghost use Rattle.bw_lang.specs.CodeNames.{local_names};
+ghost use Rattle.bw_lang.specs.Limits as spec;
+ghost use Rattle.bw_lang.specs.Measures.{constant_weight};
+ghost use Rattle.bw_limits.specs.Parts.{declared_limit, size_limit};
+
+use crate::fields::different_fields;
+use crate::lengths::Search;
+use crate::locals;
+use crate::passing::{over, passed};
+use bw_lang::{Declaration, GapNames, Leaf, Limit, Memory, Name};
+use std::alloc::Global;
+
+/// The most templates.
+const MAX_TEMPLATES: u64 = 256;
+
+/// The most sessions.
+const MAX_SESSIONS: u64 = 64;
+
+/// The most shared variables.
+const MAX_SHARED: u64 = 64;
+
+/// The most different names of gaps.
+const MAX_GAPS: u64 = 128;
+
+/// The most different names of controls and receives.
+const MAX_FIELDS: u64 = 128;
+
+/// The most locals of a session.
+const MAX_LOCALS: u64 = 64;
+
+/// The most bytes of a name.
+const MAX_NAME: u64 = 64;
+
+/// The most bytes that a string stands for.
+const MAX_STRING: u64 = 16_384;
+
+/// The greatest weight of a template.
+const MAX_TEMPLATE_WEIGHT: u64 = 262_144;
+
+fn is_template(declaration: &Declaration) -> bool
+    ensures { result ≡ is_some (spec.as_template declaration.now) }
+{
+    matches!(declaration, Declaration::Template(_))
+}
+
+fn is_session(declaration: &Declaration) -> bool
+    ensures { result ≡ is_some (spec.as_session declaration.now) }
+{
+    matches!(declaration, Declaration::Session(_))
+}
+
+fn is_shared(declaration: &Declaration) -> bool
+    ensures { result ≡ is_some (spec.as_shared declaration.now) }
+{
+    matches!(declaration, Declaration::Shared(_))
+}
+
+fn templates(declarations: &[Declaration]) -> u64
+    ensures { result ≡ length (spec.templates_of declarations.now) }
+{
+    declarations
+        .iter()
+        .filter(|declaration| is_template(declaration))
+        .count() as u64
+}
+
+fn sessions(declarations: &[Declaration]) -> u64
+    ensures { result ≡ length (spec.sessions_of declarations.now) }
+{
+    declarations
+        .iter()
+        .filter(|declaration| is_session(declaration))
+        .count() as u64
+}
+
+fn shared(declarations: &[Declaration]) -> u64
+    ensures { result ≡ length (spec.shared_of declarations.now) }
+{
+    declarations
+        .iter()
+        .filter(|declaration| is_shared(declaration))
+        .count() as u64
+}
+
+/// The number of locals of a session, where it has too many.
+fn locals_over(declaration: &Declaration) -> Option<u64>
+    requires { IfSome (spec.as_session declaration.now) (λ s. length (local_names s.body) < 2 ^ 64) }
+    ensures { result ≡ find (nat_lt 64) (map (λ s. length (local_names s.body)) (option_to_list (spec.as_session declaration.now))) }
+{
+    match declaration {
+        Declaration::Session(session) => over(MAX_LOCALS, locals::in_block(&session.body)),
+        Declaration::Template(_) | Declaration::Shared(_) => None,
+    }
+}
+
+/// The number of locals of the first session that has too many.
+fn too_many_locals(declarations: &[Declaration]) -> Option<u64>
+    requires { All (λ s. length (local_names s.body) < 2 ^ 64) (spec.sessions_of declarations.now) }
+    ensures { result ≡ find (nat_lt 64) (map (λ s. length (local_names s.body)) (spec.sessions_of declarations.now)) }
+{
+    for declaration in declarations {
+        if let Some(count) = locals_over(declaration) {
+            return Some(count);
+        }
+    }
+    None
+}
+
+/// The weight of a template, where it is too heavy.
+fn weight_over(declaration: &Declaration) -> Option<u64>
+    requires { IfSome (spec.as_template declaration.now) (λ t. constant_weight t.items < 2 ^ 64) }
+    ensures { result ≡ find (nat_lt 262144) (map (λ t. constant_weight t.items) (option_to_list (spec.as_template declaration.now))) }
+{
+    match declaration {
+        Declaration::Template(template) => over(MAX_TEMPLATE_WEIGHT, template.items.weight()),
+        Declaration::Shared(_) | Declaration::Session(_) => None,
+    }
+}
+
+/// The weight of the first template that is too heavy.
+fn too_heavy(declarations: &[Declaration]) -> Option<u64>
+    requires { All (λ t. constant_weight t.items < 2 ^ 64) (spec.templates_of declarations.now) }
+    ensures { result ≡ find (nat_lt 262144) (map (λ t. constant_weight t.items) (spec.templates_of declarations.now)) }
+{
+    for declaration in declarations {
+        if let Some(weight) = weight_over(declaration) {
+            return Some(weight);
+        }
+    }
+    None
+}
+
+/// The first of the limits on the numbers of declarations and of gap names that is passed.
+fn too_many_declared(gaps: &GapNames, declarations: &[Declaration]) -> Option<(Limit, u64)>
+    ensures { result ≡ declared_limit gaps.now declarations.now }
+{
+    let templates = over(MAX_TEMPLATES, templates(declarations));
+    let sessions = over(MAX_SESSIONS, sessions(declarations));
+    let shared = over(MAX_SHARED, shared(declarations));
+    let gaps = over(MAX_GAPS, gaps.len() as u64);
+    passed(Limit::Templates, templates)
+        .or(passed(Limit::Sessions, sessions))
+        .or(passed(Limit::Shared, shared))
+        .or(passed(Limit::Gaps, gaps))
+}
+
+/// The first of the limits on locals, lengths and weights that is passed.
+fn too_large(name: &Name, gaps: &GapNames, declarations: &[Declaration]) -> Option<(Limit, u64)>
+    requires locals { All (λ s. length (local_names s.body) < 2 ^ 64) (spec.sessions_of declarations.now) }
+    requires weights { All (λ t. constant_weight t.items < 2 ^ 64) (spec.templates_of declarations.now) }
+    ensures { result ≡ size_limit name.now gaps.now declarations.now }
+{
+    let names = Search {
+        leaf: Leaf::Name,
+        most: MAX_NAME,
+    };
+    let strings = Search {
+        leaf: Leaf::Text,
+        most: MAX_STRING,
+    };
+    let locals = too_many_locals(declarations);
+    let name_bytes = names.service(name, gaps, declarations);
+    let string_bytes = strings.service(name, gaps, declarations);
+    let weight = too_heavy(declarations);
+    passed(Limit::Locals, locals)
+        .or(passed(Limit::NameBytes, name_bytes))
+        .or(passed(Limit::StringBytes, string_bytes))
+        .or(passed(Limit::Weight, weight))
+}
+
+/// The first limit that the declarations of a service pass, with the first number in source order that does. In this
+/// order: the templates (256 at most), the sessions (64), the shared variables (64), the different names of gaps (128),
+/// the different names of controls and receives (128), the locals of a session (64), the bytes of a name (64), the bytes
+/// that a string stands for (16,384), and the weight of a template (262,144). `gaps` are the names of the gaps by their
+/// numbers.
+pub fn too_many(
+    alloc: Global,
+    name: &Name,
+    gaps: &GapNames,
+    declarations: &[Declaration],
+) -> Result<Option<(Limit, u64)>, Memory>
+    requires locals { All (λ s. length (local_names s.body) < 2 ^ 64) (spec.sessions_of declarations.now) }
+    requires weights { All (λ t. constant_weight t.items < 2 ^ 64) (spec.templates_of declarations.now) }
+    ensures { IfOk result (λ r. r ≡ spec.too_many name.now gaps.now declarations.now) }
+{
+    let declared = too_many_declared(gaps, declarations);
+    if declared.is_some() {
+        return Ok(declared);
+    }
+    let fields = different_fields(alloc, declarations)?;
+    let fields = passed(Limit::Fields, over(MAX_FIELDS, fields));
+    if fields.is_some() {
+        return Ok(fields);
+    }
+    Ok(too_large(name, gaps, declarations))
+}

@@ -1,0 +1,12 @@
+pub mod CodeComplete
+pub mod CodeSound
+pub mod CodeSteps
+pub mod Complete
+pub mod Drafts
+pub mod DraftSteps
+pub mod FrontLaws
+pub mod Receives
+pub mod ReceiveSteps
+pub mod Sound
+pub mod Steps
+pub mod Whole

@@ -1,0 +1,12 @@
+pub mod ExpressionFaults
+pub mod Faults
+pub mod Fields
+pub mod First
+pub mod Gaps
+pub mod Places
+pub mod Scopes
+pub mod Tables
+pub mod TemplateFaults
+pub mod Known
+pub mod Laws
+pub mod Typing

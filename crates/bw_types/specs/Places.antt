@@ -1,0 +1,20 @@
+-- The scopes of a session's places.
+use Rattle.std.specs.Prelude.{ℕ, ◌-◌, length, drop}
+use Rattle.bw_lang.specs.Code.{Code, done, declare, assign, if_then, if_else, while_loop, block, show, exit}
+use Rattle.bw_types.specs.Scopes.{Scope, with_local, behind}
+
+-- the scope behind these statements, in their block
+abbrev pub after : Scope → Code → Scope
+after scope done = scope
+after scope (declare kind w e rest) = after (with_local scope w kind) rest
+after scope (assign w e rest) = after scope rest
+after scope (if_then t y rest) = after (behind scope y) rest
+after scope (if_else t y n rest) = after (behind (behind scope y) n) rest
+after scope (while_loop t b rest) = after (behind scope b) rest
+after scope (block b rest) = after (behind scope b) rest
+after scope (show p rs rest) = after scope rest
+after scope (exit p rest) = after scope rest
+
+-- the scope with its oldest locals alone, so many of them
+abbrev pub outside : ℕ → Scope → Scope
+outside n scope = record { locals = drop (length scope.locals - n) scope.locals; taken = scope.taken }

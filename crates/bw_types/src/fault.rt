@@ -1,0 +1,50 @@
+//! Why a service isn't well typed.
+ghost use Rattle.std.specs.Prelude.{◌≡◌};
+
+use bw_lang::{Kind, Memory, Name, Text};
+
+/// How a gap is used in templates. A gap name has one kind in a service.
+#[derive(Clone, Copy, Debug, PartialEq, Eq)]
+pub enum GapKind {
+    /// `<[gap]>`: documents and strings may fill it.
+    Content,
+    /// `attribute=[gap]`: strings may fill it.
+    Attribute,
+}
+
+/// Why a service isn't well typed: the first test that fails, in one walk over the templates, the shared variables and
+/// the sessions, each in source order.
+#[derive(Debug, Drop)]
+pub enum TypeFault {
+    /// An earlier declaration has this name, or a local's name is taken.
+    Repeated(Name),
+    /// Nothing of this name may be used there.
+    Unknown(Name),
+    /// A value of the first kind was expected, and one of the second was found.
+    Kind(Kind, Kind),
+    /// A gap of this name stands for content in one place and for an attribute's value in another.
+    GapKinds(Name),
+    /// Controls of this name have fields of different kinds.
+    FieldKinds(Text),
+    /// A control of this template has a gap for its name, its type or `multiple`, is disabled, or is an input of a type
+    /// that HTML 4.01 doesn't have or this language leaves out.
+    BadControl(Name),
+    /// A template has an element that only the page around it may have: `html`, `head`, `body` or `form`.
+    ReservedTag(Name),
+    /// A template has an input of type `file`.
+    FileInput(Name),
+    /// The last statement of this session isn't `exit`.
+    NoExit(Name),
+    /// There was no memory.
+    Memory,
+}
+
+impl From<Memory> for TypeFault {
+    ghost use Rattle.bw_types.specs.declared.fault.TypeFault.TheVariants as faults;
+
+    ghost from_gives = { λ _ e. e ≡ faults.Memory };
+
+    fn from(_error: Memory) -> TypeFault {
+        TypeFault::Memory
+    }
+}

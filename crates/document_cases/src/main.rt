@@ -1,0 +1,73 @@
+//! Worked examples of documents, their measures, their pages and fields, kept as data.
+//!
+//! The program reads the cases of `document.cases` in the folder where it runs, and prints a line for each: its name,
+//! and what its steps gave. It ends with 0 where the whole file was tried.
+//!
+//! **How the file is written.** Blank lines and lines that begin with `#` say nothing. `case NAME` begins a case, and
+//! the lines up to the next one are its steps, over documents that have names. A name that comes again stands for the
+//! newer document from there on.
+//!
+//! - `html NAME TEXT`: the constant of the template whose inside is the text
+//! - `copy NAME BASE`: the copy of a document
+//! - `plug NAME BASE GAP OTHER`: the base with the other document in its open gaps of that name. A measure that is over
+//!   its limit is printed and ends the case
+//! - `fill NAME BASE GAP TEXT`: the same with a text
+//! - `close NAME`: prints the closed document
+//! - `measure NAME`: prints the document's weight, depth and nest
+//! - `gaps NAME GAP`: prints how many gaps of that name are open, and how many elements stand around one at most
+//! - `show NAME TITLE TARGET`, `exit NAME TITLE`: print the document's page, and how many bytes it has
+//! - `fields NAME`: prints the names and kinds of the document's fields
+#![tactic(auto)]
+
+mod case;
+mod document;
+mod fault;
+mod room;
+
+use crate::case::Case;
+use crate::fault::Fault;
+use std::fs;
+use std::process::ExitCode;
+use std::rt::Files;
+
+const FILE_NAME: &str = "document.cases";
+
+fn main(rt: HostRuntime) -> ExitCode {
+    match try_file(&rt) {
+        Ok(()) => ExitCode::SUCCESS,
+        Err(fault) => {
+            let _ = eprintln!(rt; "{FILE_NAME}: {fault}");
+            ExitCode::FAILURE
+        }
+    }
+}
+
+/// Tries the cases of the file, and prints a line for each.
+fn try_file<R: Files + AllocGlobal + Print>(rt: &R) -> Result<(), Fault> {
+    let alloc = rt.alloc();
+    let file = fs::read_to_string(rt, FILE_NAME)?;
+    let mut case: Option<Case> = None;
+    for line in file.lines() {
+        let line = line.trim();
+        if line.is_empty() || line.starts_with('#') {
+            continue;
+        }
+        if let Some(name) = line.strip_prefix("case ") {
+            print_case(rt, &case)?;
+            case = Some(Case::new(alloc, name));
+        } else {
+            case.as_mut().ok_or(Fault::Malformed)?.step(alloc, line)?;
+        }
+    }
+    print_case(rt, &case)
+}
+
+/// Prints the line of a case that is over.
+fn print_case<R: Print>(rt: &R, case: &Option<Case<'_>>) -> Result<(), Fault> {
+    if let Some(case) = case {
+        let name = case.name();
+        let results = case.results();
+        println!(rt; "{name}: {results}")?;
+    }
+    Ok(())
+}
