@@ -1,5 +1,5 @@
 -- Runs over the first requests of a stream, and over what follows them.
-use Rattle.std.proofs.Common.{◌≡◌, ◌+◌, ℕ, List, [], ◌++◌, refl, sym, ap, ◌∙◌, subst, inl, inr, arith, append_assoc, append-nil}
+use Rattle.std.proofs.Common.{zero, ◌≡◌, ◌+◌, ℕ, List, [], ◌++◌, refl, sym, ap, ◌∙◌, subst, inl, inr, arith, append_assoc, append-nil}
 use Rattle.bw_lang.specs.declared.service.Service.{Service}
 use Rattle.bw_out.specs.Told.{later_keys}
 use Rattle.bigwig.specs.Meaning.{reply_to}
@@ -25,8 +25,8 @@ pub handles_one : (service : Service) (stream keys : List ℕ) (path : Path) (re
     → Handles service stream keys 1 rest (later_keys keys) (bytes_of reply)
 handles_one service stream keys path rest reply asks sends = record { follows = one 0 path rest refl asks (none refl refl); run = so sends } where
   so : Sends (reply_to service path) reply → Run service stream keys 1 (later_keys keys) (bytes_of reply)
-  so (inl is) = request 0 path rest [] refl asks (over refl refl refl) (ap bytes_of is ∙ sym (append-nil (bytes_of (reply_to service path))))
-  so (inr is) = no_memory 0 path rest [] refl asks is.0 (over refl refl refl) (ap bytes_of is.1 ∙ sym (append-nil (bytes_of memory)))
+  so (inl is) = request zero path rest [] refl asks (over refl refl refl) (ap bytes_of is ∙ sym (append-nil (bytes_of (reply_to service path))))
+  so (inr is) = no_memory zero path rest [] refl asks is.0 (over refl refl refl) (ap bytes_of is.1 ∙ sym (append-nil (bytes_of memory)))
 
 follows_more : {n m : ℕ} {stream rest last : List ℕ} → Follows n stream rest → Follows m rest last → Follows (n + m) stream last
 follows_more {n} {m} {stream} {rest} {last} (none e f) more =

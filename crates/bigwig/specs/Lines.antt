@@ -13,6 +13,7 @@ use Rattle.bw_tmpl.specs.declared.fault.TmplFault.TheVariants as templates
 use Rattle.bw_types.specs.declared.fault.TypeFault.{TypeFault}
 use Rattle.bw_types.specs.declared.fault.TypeFault.TheVariants as typing
 
+-- the words that name a limit
 abbrev pub limit_name : Limit → List ℕ
 limit_name limits.Nesting = codes "nesting"
 limit_name limits.Stretch = codes "stretch"
@@ -26,6 +27,7 @@ limit_name limits.NameBytes = codes "name bytes"
 limit_name limits.StringBytes = codes "string bytes"
 limit_name limits.Weight = codes "weight"
 
+-- the word that names a kind
 abbrev pub kind_name : Kind → List ℕ
 kind_name kinds.Int = codes "int"
 kind_name kinds.Bool = codes "bool"
@@ -36,6 +38,7 @@ kind_name kinds.Html = codes "html"
 abbrev pub shown : ℕ → ℕ
 shown b = if b == 10 then 32 else (if b == 13 then 32 else b)
 
+-- why the text has no tokens
 abbrev pub lex_line : LexFault → List ℕ
 lex_line (lexing.BadByte at) = codes "lex bad byte at " ++ decimal at
 lex_line (lexing.OpenString at) = codes "lex open string at " ++ decimal at
@@ -43,6 +46,7 @@ lex_line (lexing.OpenTemplate at) = codes "lex open template at " ++ decimal at
 lex_line (lexing.NumberTooBig at) = codes "lex number too big at " ++ decimal at
 lex_line lexing.Memory = []
 
+-- why a template isn't read, behind its name
 abbrev pub template_fault : TmplFault → List ℕ
 template_fault templates.Malformed = codes " malformed"
 template_fault templates.RepeatedAttribute = codes " repeated attribute"

@@ -7,20 +7,20 @@ use Rattle.bw_lang.specs.Code.{Code}
 use Rattle.bw_lang.specs.Forest.{Forest, none}
 use Rattle.bw_lang.specs.Print.{print}
 use Rattle.bw_page.specs.Pages.{exit_page}
-use Rattle.bigwig.specs.Plain.{exit_name}
+use Rattle.bigwig.specs.Plain.{exit_name, template_named}
 use Rattle.bigwig.specs.Replies as replies
 use Rattle.bigwig.specs.Replies.{Reply, final, no_such}
 use Rattle.bigwig.specs.Requests.{Path, index, start}
 
--- the document of the template of this name (and an empty one where there is none, which no service has that is served)
-abbrev pub template_of : List Template → List ℕ → Forest
-template_of [] name = none
-template_of (t ∷ templates) name = if bytes_eq t.name name then t.items else template_of templates name
+-- the document that a template stands for (and an empty one where there is none, which no service has that is served)
+abbrev pub constant : Option Template → Forest
+constant None = none
+constant (Some t) = t.items
 
 -- the document that a session exits with (and an empty one for a session that does more, which isn't served yet)
 abbrev pub exit_document : List Template → Option (List ℕ) → Forest
 exit_document templates None = none
-exit_document templates (Some name) = template_of templates name
+exit_document templates (Some name) = constant (template_named templates name)
 
 -- the last page of a session with this body
 abbrev pub last_page : Service → Code → List ℕ

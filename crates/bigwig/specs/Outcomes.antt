@@ -15,9 +15,11 @@ use Rattle.bigwig.specs.declared.status.Status.TheVariants.{Done, Usage, Service
 abbrev pub line : List ℕ → List ℕ
 line text = text ++ 10 ∷ []
 
+-- what is printed where the words are refused
 abbrev pub usage_line : List ℕ
 usage_line = line (codes "usage: bigwig check SERVICE | replay SERVICE REQUESTS | serve SERVICE | valid PAGE | make N")
 
+-- what is printed where the file of this name isn't there
 abbrev pub no_file_line : List ℕ → List ℕ
 no_file_line name = codes "no file " ++ line name
 

@@ -16,10 +16,15 @@ has_gaps (text s rest) = has_gaps rest
 has_gaps (gap g rest) = true
 has_gaps (element tag attrs inner rest) = if list_any (λ a. is_open a.value) attrs then true else (if has_gaps inner then true else has_gaps rest)
 
--- the template of this name has no gap
-abbrev pub is_constant : List Template → List ℕ → Bool
-is_constant [] w = false
-is_constant (t ∷ ts) w = if bytes_eq t.name w then not (has_gaps t.items) else is_constant ts w
+-- the first template of this name
+abbrev pub template_named : List Template → List ℕ → Option Template
+template_named [] w = None
+template_named (t ∷ ts) w = if bytes_eq t.name w then Some t else template_named ts w
+
+-- there is a template, and it has no gap
+abbrev pub is_constant : Option Template → Bool
+is_constant None = false
+is_constant (Some t) = not (has_gaps t.items)
 
 -- the name that a term is
 abbrev pub name_of : Term → Option (List ℕ)
@@ -39,7 +44,7 @@ exit_name body = None
 -- the name is that of a template without gaps
 abbrev pub is_plain_exit : List Template → Option (List ℕ) → Bool
 is_plain_exit templates None = false
-is_plain_exit templates (Some w) = is_constant templates w
+is_plain_exit templates (Some w) = is_constant (template_named templates w)
 
 -- the session only exits with a template without gaps
 abbrev pub is_plain_body : List Template → Code → Bool

@@ -32,12 +32,15 @@ message status type body =
     codes "HTTP/1.1 " ++ (status ++ (codes "\r\nContent-Type: " ++ (type ++ (length_field (length body)
     ++ (codes "\r\nCache-Control: no-store\r\nConnection: close\r\n\r\n" ++ body)))))
 
+-- the type of a page
 abbrev pub html_type : List ℕ
 html_type = codes "text/html; charset=utf-8"
 
+-- the type of all else
 abbrev pub text_type : List ℕ
 text_type = codes "text/plain; charset=utf-8"
 
+-- what is sent for a reply
 abbrev pub bytes_of : Reply → List ℕ
 bytes_of (index names) = message (codes "200 OK") text_type names
 bytes_of (final page) = message (codes "200 OK") html_type page

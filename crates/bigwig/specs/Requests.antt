@@ -1,20 +1,8 @@
 -- The requests that are answered so far.
-use Rattle.std.specs.Prelude.{◌≡◌, ◌≤◌, ◌+◌, ℕ, suc, Bool, true, false, ◌||◌, ◌==◌, nat_le, ◌&&◌, List, [], ◌∷◌, ◌++◌, codes, length, ⊤}
+use Rattle.std.specs.Prelude.{◌≡◌, ◌≤◌, ◌+◌, ℕ, suc, Bool, true, false, ◌||◌, ◌==◌, List, [], ◌∷◌, ◌++◌, codes, length, ⊤}
 use Rattle.std.specs.List.{list_all}
-
-abbrev pub is_between : ℕ → ℕ → ℕ → Bool
-is_between low high b = nat_le low b && nat_le b high
-
--- a letter or `_`
-abbrev pub is_letter : ℕ → Bool
-is_letter b = is_between 97 122 b || (is_between 65 90 b || b == 95)
-
-abbrev pub is_digit : ℕ → Bool
-is_digit b = is_between 48 57 b
-
--- a byte that may stand in a word behind its first
-abbrev pub is_word_byte : ℕ → Bool
-is_word_byte b = is_letter b || is_digit b
+use Rattle.bw_lang.specs.Bytes.{is_between}
+pub use Rattle.bw_lang.specs.Bytes.{is_letter, is_digit, is_word_byte}
 
 -- a letter, a digit, `.`, `-` or `:`
 abbrev pub is_host_byte : ℕ → Bool

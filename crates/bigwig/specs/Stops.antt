@@ -11,7 +11,8 @@ IsStopped content (Refused line) = IsRefused content line.items
 IsStopped content Memory = ⊤
 IsStopped content stop = ⊥
 
--- the folder has no such file, or what it has there isn't served, and the line says why
+-- the folder has no such file; or what it has there isn't served, and the line says why. Of a read fault and of want of
+-- memory nothing is said here
 abbrev pub Stops : Disk → List ℕ → Stop → Type 0
 Stops disk name NoFile = disk name ≡ None
 Stops disk name (Refused line) = (content : List ℕ) × (disk name ≡ Some content) × IsRefused content line.items

@@ -38,6 +38,7 @@ fn placed(alloc: Global, front: &[u8], place: usize) -> Result<Vec<u8>, Memory>
     paired(alloc, front, Buffer::new().format(place).as_bytes())
 }
 
+/// The words that name a limit.
 fn limit_name(limit: Limit) -> &'static [u8]
     ensures { result.now ≡ spec.limit_name limit }
 {
@@ -56,6 +57,7 @@ fn limit_name(limit: Limit) -> &'static [u8]
     }
 }
 
+/// The word that names a kind.
 fn kind_name(kind: Kind) -> &'static [u8]
     ensures { result.now ≡ spec.kind_name kind }
 {
@@ -67,6 +69,7 @@ fn kind_name(kind: Kind) -> &'static [u8]
     }
 }
 
+/// Why a template isn't read, behind its name.
 fn template_fault(fault: TmplFault) -> &'static [u8]
     ensures { result.now ≡ spec.template_fault fault }
 {
@@ -79,6 +82,7 @@ fn template_fault(fault: TmplFault) -> &'static [u8]
     }
 }
 
+/// Why a text has no tokens.
 fn lex_line(alloc: Global, fault: &LexFault) -> Result<Vec<u8>, Memory>
     ensures { IfOk result (λ line. line.items ≡ spec.lex_line fault.now) }
 {

@@ -29,7 +29,10 @@ pub enum Stop {
     Memory,
 }
 
-/// The service of a file.
+/// The service of a file, which is closed again: of its first 1,048,577 bytes, which tell what all of them are.
+///
+/// `NoFile` comes where there is no such file, `Refused` where its bytes aren't those of a service that is served, with
+/// the line that says why, `ReadFault` exactly where the count of `files` rose, and `Memory` for want of memory alone.
 pub fn load_service<F: Files>(alloc: Global, files: &mut F, name: &str) -> Result<Typed, Stop>
     ensures loaded { IfOk result (λ typed. IfSome (F.told files.old) (λ disk. (content : List ℕ) × (disk name.now ≡ Some content) × IsServed content typed.service)) }
     ensures stops { IfErr result (λ stop. IfSome (F.told files.old) (λ disk. Stops disk name.now stop)) }
@@ -40,7 +43,7 @@ pub fn load_service<F: Files>(alloc: Global, files: &mut F, name: &str) -> Resul
     load(alloc, &bytes)
 }
 
-/// The service that these bytes read as, where it is served.
+/// The service that these bytes read as, where it is served. Else `Refused`, with the line that says why, or `Memory`.
 fn load(alloc: Global, bytes: &[u8]) -> Result<Typed, Stop>
     ensures loaded { IfOk result (λ typed. IsServed bytes.now typed.service) }
     ensures stops { IfErr result (IsStopped bytes.now) }
@@ -62,7 +65,7 @@ fn stop_with(line: Result<Vec<u8>, Memory>) -> Stop
     }
 }
 
-/// The service, where it is well typed and of the kind that is served by now.
+/// The service, where it is well typed and of the kind that is served by now. Else `Refused` or `Memory`.
 fn accept(alloc: Global, service: Service) -> Result<Typed, Stop>
     requires { IsReadable service }
     ensures loaded { IfOk result (λ typed. (content : List ℕ) → Reads content service → IsServed content typed.service) }
@@ -74,7 +77,7 @@ fn accept(alloc: Global, service: Service) -> Result<Typed, Stop>
     }
 }
 
-/// The service, where it is of the kind that is served by now.
+/// The service, where it is of the kind that is served by now. Else `Refused` or `Memory`.
 fn serve_plain(alloc: Global, typed: Typed) -> Result<Typed, Stop>
     ensures loaded { IfOk result (λ t. (content : List ℕ) → Reads content typed.service → IsServed content t.service) }
     ensures stops { IfErr result (λ stop. (content : List ℕ) → Reads content typed.service → IsStopped content stop) }
@@ -85,7 +88,7 @@ fn serve_plain(alloc: Global, typed: Typed) -> Result<Typed, Stop>
     Err(stop_with(not_yet_line(alloc)))
 }
 
-/// The first `most` bytes of a file, or all of them. The file is closed again.
+/// The first `most` bytes of a file, or all of them. The file is closed again. `Refused` never comes.
 fn fetch_bytes<F: Files>(
     alloc: Global,
     files: &mut F,

@@ -11,8 +11,8 @@ ghost use Rattle.bigwig.specs.Plain as spec;
 
 use bw_lang::{AttrValue, Attrs, Block, Expr, Item, Items, Name, Service, Stmt, Template};
 
-/// Whether an attribute has a gap.
-fn is_open(attrs: &Attrs) -> bool
+/// Whether the value of one of these is a gap.
+fn has_open_attr(attrs: &Attrs) -> bool
     ensures { result ≡ list_any (λ a. is_open a.value) attrs.now }
 {
     attrs
@@ -44,20 +44,30 @@ fn is_gapped(item: &Item) -> bool
     match item {
         Item::Text(_) => false,
         Item::Gap(_) => true,
-        Item::Element(element) => is_open(&element.attrs) || has_gaps(&element.items),
+        Item::Element(element) => has_open_attr(&element.attrs) || has_gaps(&element.items),
     }
 }
 
-/// Whether the template of this name has no gap.
-fn is_constant(templates: &[Template], name: &Name) -> bool
-    ensures { result ≡ spec.is_constant templates.now name.now }
+/// The first template of this name.
+pub fn template_named<'a>(templates: &'a [Template], name: &Name) -> Option<&'a Template>
+    ensures { MatchOption result (spec.template_named templates.now name.now ≡ None) (λ t. spec.template_named templates.now name.now ≡ Some t.now) }
 {
     for template in templates {
         if template.name.as_str() == name.as_str() {
-            return !has_gaps(&template.items);
+            return Some(template);
         }
     }
-    false
+    None
+}
+
+/// Whether there is a template of this name, and it has no gap.
+fn is_constant(templates: &[Template], name: &Name) -> bool
+    ensures { result ≡ spec.is_constant (spec.template_named templates.now name.now) }
+{
+    match template_named(templates, name) {
+        Some(template) => !has_gaps(&template.items),
+        None => false,
+    }
 }
 
 /// The name that an expression is.

@@ -19,8 +19,9 @@ use std::sync::ledger::Ledger;
 /// The greatest number of requests that are answered.
 const REQUESTS_MOST: u32 = 1_000_000;
 
-/// Does all that the program does: reads the words of the command line, the files that they name, and so on, and
-/// prints on `out`.
+/// Does all that the program does: reads the words of the command line and the files that they name, and prints on
+/// `out`. Memory is taken from `alloc`. `door`, the pulse and the steps are not used by the command that is built, so
+/// `DoorFault` doesn't come by now.
 ///
 /// Where the files, the keys and `out` tell what they have, what `out` holds more and the keys that are left are
 /// those that are due for the status by the table of outcomes. At most 1,000,000 requests are answered. `ReadFault`,
@@ -51,6 +52,7 @@ pub fn run<F: Files, D: Door, K: Keys, W: Sink, P: Pulse, L: Ledger>(
     }
 }
 
+/// The line that is printed where the words are refused.
 const USAGE: &[u8] =
     b"usage: bigwig check SERVICE | replay SERVICE REQUESTS | serve SERVICE | valid PAGE | make N";
 

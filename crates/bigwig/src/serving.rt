@@ -1,30 +1,17 @@
 //! What a service answers to a request for a path.
-ghost use Rattle.std.specs.Prelude.{◌≡◌, IfOk, MatchOption};
-ghost use Rattle.bw_lang.specs.Forest.{none};
+ghost use Rattle.std.specs.Prelude.{◌≡◌, IfOk};
 ghost use Rattle.bigwig.specs.Meaning as spec;
 ghost use Rattle.bigwig.specs.Plain.{exit_name};
 ghost use Rattle.bigwig.specs.Replies.{Sends};
 ghost use Rattle.bigwig.specs.Requests.{start};
 ghost use Rattle.bigwig.specs.Sent.{path_of, stands_for};
 
-use crate::plain::exit_name;
+use crate::plain::{exit_name, template_named};
 use crate::reply::Reply;
 use crate::request::Path;
-use bw_lang::{Block, Items, Memory, Name, Service, Template, Text, Tree};
+use bw_lang::{Block, Items, Memory, Service, Template, Text, Tree};
 use bw_page::{Sheet, wrap_exit};
 use std::alloc::Global;
-
-/// The template of this name.
-fn template_named<'a>(templates: &'a [Template], name: &Name) -> Option<&'a Template>
-    ensures { MatchOption result (spec.template_of templates.now name.now ≡ none) (λ t. spec.template_of templates.now name.now ≡ t.now.items) }
-{
-    for template in templates {
-        if template.name.as_str() == name.as_str() {
-            return Some(template);
-        }
-    }
-    None
-}
 
 /// The document that a session with this body exits with.
 fn exit_document(alloc: Global, templates: &[Template], body: &Block) -> Result<Tree, Memory>
@@ -61,7 +48,8 @@ fn names_of(alloc: Global, service: &Service) -> Result<Text, Memory>
     Ok(Text::from_string(names))
 }
 
-/// The reply to a request for the session of this name.
+/// The reply to a request for the session of this name: `NoSuch` where there is none, and `Memory` where there was none
+/// for the page.
 fn start(alloc: Global, service: &Service, name: &[u8]) -> Reply
     ensures { Sends (spec.reply_to service.now (start name.now)) (stands_for result) }
 {
@@ -76,7 +64,7 @@ fn start(alloc: Global, service: &Service, name: &[u8]) -> Reply
     Reply::NoSuch
 }
 
-/// The reply to a request for this path.
+/// The reply to a request for this path. `Reply::Memory` comes for want of memory for an index or a page alone.
 pub fn handle(alloc: Global, service: &Service, path: Path) -> Reply
     ensures { Sends (spec.reply_to service.now (path_of path.entry)) (stands_for result) }
 {

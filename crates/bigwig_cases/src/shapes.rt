@@ -4,7 +4,7 @@
 use crate::fault::Fault;
 use crate::tables::Case;
 use crate::verdicts::Verdict;
-use bw_lang::{Expr, Fun, Op, Pairs, Stmt};
+use bw_lang::{Expr, Fun, Op, Pairs, Part, Stmt};
 use bw_syntax::{SyntaxFault, read_service};
 use std::alloc::{AllocError, Global};
 
@@ -44,29 +44,31 @@ fn shape_of_exit(alloc: Global, stmts: &[Stmt]) -> Result<String, Fault> {
     Ok(shape)
 }
 
+/// The sign of an operator, and a blank.
 fn op_sign(op: Op) -> &'static str {
     match op {
-        Op::Or => "||",
-        Op::And => "&&",
-        Op::Eq => "==",
-        Op::Ne => "!=",
-        Op::Lt => "<",
-        Op::Le => "<=",
-        Op::Gt => ">",
-        Op::Ge => ">=",
-        Op::Add => "+",
-        Op::Sub => "-",
-        Op::Mul => "*",
-        Op::Div => "/",
-        Op::Rem => "%",
+        Op::Or => "|| ",
+        Op::And => "&& ",
+        Op::Eq => "== ",
+        Op::Ne => "!= ",
+        Op::Lt => "< ",
+        Op::Le => "<= ",
+        Op::Gt => "> ",
+        Op::Ge => ">= ",
+        Op::Add => "+ ",
+        Op::Sub => "- ",
+        Op::Mul => "* ",
+        Op::Div => "/ ",
+        Op::Rem => "% ",
     }
 }
 
+/// The word of a function, and a blank.
 fn fun_word(fun: Fun) -> &'static str {
     match fun {
-        Fun::Text => "text",
-        Fun::Number => "number",
-        Fun::IsNumber => "isnumber",
+        Fun::Text => "text ",
+        Fun::Number => "number ",
+        Fun::IsNumber => "isnumber ",
     }
 }
 
@@ -75,50 +77,36 @@ fn fun_word(fun: Fun) -> &'static str {
 #[cycle(shape)]
 fn put_expr(shape: &mut String, expr: &Expr) -> Result<(), AllocError> {
     match expr {
-        Expr::Int(number) => write!(shape, "{number}")?,
-        Expr::Bool(true) => shape.push_str("true")?,
-        Expr::Bool(false) => shape.push_str("false")?,
-        Expr::Str(text) => write!(shape, "\"{}\"", text.as_str())?,
-        Expr::Name(name) => shape.push_str(name.as_str())?,
-        Expr::Paren(inner) => {
-            shape.push('(')?;
-            put_expr(shape, inner.expr())?;
-            shape.push(')')?;
-        }
-        Expr::Not(of) => {
-            shape.push_str("{!")?;
-            put_expr(shape, of.expr())?;
-            shape.push('}')?;
-        }
-        Expr::Neg(of) => {
-            shape.push_str("{-")?;
-            put_expr(shape, of.expr())?;
-            shape.push('}')?;
-        }
+        Expr::Int(number) => write!(shape, "{number}"),
+        Expr::Bool(true) => shape.push_str("true"),
+        Expr::Bool(false) => shape.push_str("false"),
+        Expr::Str(text) => write!(shape, "\"{}\"", text.as_str()),
+        Expr::Name(name) => shape.push_str(name.as_str()),
+        Expr::Paren(inner) => put_within(shape, "(", inner, ")"),
+        Expr::Not(of) => put_within(shape, "{!", of, "}"),
+        Expr::Neg(of) => put_within(shape, "{-", of, "}"),
         Expr::Binary { op, left, right } => {
-            shape.push('{')?;
-            put_expr(shape, left.expr())?;
-            shape.push(' ')?;
-            shape.push_str(op_sign(*op))?;
-            shape.push(' ')?;
-            put_expr(shape, right.expr())?;
-            shape.push('}')?;
+            put_within(shape, "{", left, " ")?;
+            put_within(shape, op_sign(*op), right, "}")
         }
         Expr::Call { fun, arg } => {
             shape.push('{')?;
-            shape.push_str(fun_word(*fun))?;
-            shape.push(' ')?;
-            put_expr(shape, arg.expr())?;
-            shape.push('}')?;
+            put_within(shape, fun_word(*fun), arg, "}")
         }
         Expr::Plug { base, pairs } => {
-            shape.push('{')?;
-            put_expr(shape, base.expr())?;
+            put_within(shape, "{", base, "")?;
             put_pairs(shape, pairs)?;
-            shape.push('}')?;
+            shape.push('}')
         }
     }
-    Ok(())
+}
+
+/// Puts the shape of a part behind others, between these.
+#[cycle(shape)]
+fn put_within(shape: &mut String, front: &str, part: &Part, back: &str) -> Result<(), AllocError> {
+    shape.push_str(front)?;
+    put_expr(shape, part.expr())?;
+    shape.push_str(back)
 }
 
 /// Puts the shape of the pairs of a plug behind others.

@@ -10,6 +10,7 @@ ghost use Rattle.bw_lang.specs.TermView.{term};
 ghost use Rattle.bw_lang.specs.View as view;
 
 use crate::passing::over;
+use bw_lang::controls::is_control;
 use bw_lang::{
     Attr, AttrValue, Attrs, Block, Declaration, Element, Expr, GapId, GapNames, Item, Items, Leaf,
     Literal, Name, Pair, Pairs, Receive, Receives, Stmt, Text,
@@ -300,14 +301,6 @@ fn gap_length(gaps: &GapNames, gap: GapId) -> u64
         Some(name) => name.len() as u64,
         None => 0,
     }
-}
-
-/// Whether an element of this tag is a control where it has a name.
-fn is_control(tag: &Name) -> bool
-    ensures { result ≡ controls.is_control tag.now }
-{
-    let tag = tag.as_str();
-    tag == "input" || (tag == "textarea" || tag == "select")
 }
 
 /// Whether the attribute of that name is what names a control, where it stands in a tag of that name.

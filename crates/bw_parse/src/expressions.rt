@@ -152,9 +152,12 @@ fn atom(alloc: Global, lexemes: &[Lexeme]) -> Result<(Expr, &[Lexeme]), ParseFau
         return Err(ParseFault::Syntax(0));
     };
     match lexeme {
-        Lexeme::Number(number) => whole(*number, rest),
+        Lexeme::Number(number) => whole(*number, lexemes.len(), rest),
         Lexeme::Str(text) => Ok((Expr::Str(text.copy()?), rest)),
-        Lexeme::Word(word) => by_meaning(alloc, word, meaning_of(word.as_str()), rest),
+        Lexeme::Word(word) => {
+            let meaning = meaning_of(word.as_str());
+            by_meaning(alloc, word, meaning, lexemes.len(), rest)
+        }
         Lexeme::Template(_) => Err(ParseFault::Syntax(lexemes.len())),
         Lexeme::Sign(_) => match after(b"(", lexemes) {
             None => Err(ParseFault::Syntax(lexemes.len())),
@@ -166,15 +169,15 @@ fn atom(alloc: Global, lexemes: &[Lexeme]) -> Result<(Expr, &[Lexeme]), ParseFau
     }
 }
 
-/// A number, which is below 2^63 in every text.
-fn whole(number: u64, rest: &[Lexeme]) -> Result<(Expr, &[Lexeme]), ParseFault>
+/// A number, which is below 2^63 in every text, where so many lexemes are left at it.
+fn whole(number: u64, left: usize, rest: &[Lexeme]) -> Result<(Expr, &[Lexeme]), ParseFault>
     ensures value { Gives (λ x. (term x.0, x.1.now)) result (number_at number rest.now) }
     ensures rest { IfOk result (λ x. x.1.now ≡ rest.now) }
 {
     if number < 9_223_372_036_854_775_808 {
         Ok((Expr::Int(number as i64), rest))
     } else {
-        Err(ParseFault::Syntax(rest.len()))
+        Err(ParseFault::Syntax(left))
     }
 }
 
@@ -192,13 +195,14 @@ pub(crate) fn inside(alloc: Global, lexemes: &[Lexeme]) -> Result<(Expr, &[Lexem
     }
 }
 
-/// What a word of this meaning begins.
+/// What a word of this meaning begins, where so many lexemes are left at it.
 #[cycle(expression)]
 #[tactic(auto, using(crate::proofs::Steps::equations))]
 fn by_meaning<'a>(
     alloc: Global,
     word: &Name,
     meaning: Meaning,
+    left: usize,
     rest: &'a [Lexeme],
 ) -> Result<(Expr, &'a [Lexeme]), ParseFault>
     ensures value { Gives (λ x. (term x.0, x.1.now)) result (parse_word word.now meaning rest.now) }
@@ -206,7 +210,7 @@ fn by_meaning<'a>(
 {
     match meaning {
         Meaning::Truth(truth) => Ok((Expr::Bool(truth), rest)),
-        Meaning::Other => Err(ParseFault::Syntax(rest.len())),
+        Meaning::Other => Err(ParseFault::Syntax(left)),
         Meaning::Free => Ok((Expr::Name(word.copy()?), rest)),
         Meaning::Function(fun) => match after(b"(", rest) {
             None => Err(ParseFault::Syntax(rest.len())),

@@ -10,7 +10,8 @@ use std::alloc::{AllocError, AllocFailed};
 pub enum ParseFault {
     /// There was no memory.
     Memory,
-    /// The lexemes are those of no service. So many of them were left where the parser gave up.
+    /// The lexemes are those of no service. So many of them were left where the parser gave up: the number is a hint
+    /// for people, and no contract speaks of it.
     Syntax(usize),
 }
 

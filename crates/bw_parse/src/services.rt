@@ -228,8 +228,8 @@ fn whole_service(alloc: Global, lexemes: &[Lexeme]) -> Result<ServiceDraft, Pars
 }
 
 /// The service that the lexemes are written for. `Syntax` comes exactly where they are written for none, and says how
-/// many lexemes were left where the parser gave up; `Memory` may come anywhere. It takes time that grows with the
-/// number of the lexemes, and its depth grows with that of brackets and of operators in a row alone.
+/// many lexemes were left where the parser gave up; `Memory` may come anywhere. It goes as
+/// deep as brackets stand inside one another, and within them as lexemes stand in a row without `;`, `{` or `}`.
 pub fn parse_service(alloc: Global, lexemes: &[Lexeme]) -> Result<ServiceDraft, ParseFault>
     // What is read is formed, and spells the lexemes.
     ensures found { IfOk result (λ d. IsName d.name × AreFormed d.drafts.items × (lexemes.now ≡ spell_service d.name d.drafts.items)) }

@@ -15,9 +15,11 @@ pub enum SyntaxFault {
     /// The bytes have no tokens.
     Lex(LexFault),
     /// This limit is passed. The number is the whole count of templates, sessions, shared variables, gap names or field
-    /// names, the greatest depth of open brackets, or the first number in source order that passes the limit.
+    /// names, the greatest depth of open brackets, or the first number in source order that passes the limit: of tokens
+    /// in a row, of a session's locals, of bytes of a name or a string, or the weight of a template.
     TooMany(Limit, u64),
-    /// The tokens are those of no service. The place, at most the number of bytes, is where the parser gave up.
+    /// The tokens are those of no service. The place is that of the token where the parser gave up, by the number of
+    /// bytes in front of it; contracts say only that it is at most the number of all bytes.
     Syntax(usize),
     /// The template of this name is the first in source order that is refused, for this reason.
     Template(Name, TmplFault),

@@ -45,7 +45,8 @@ fn tell(alloc: Global, bytes: &[u8]) -> Result<Told, SyntaxFault>
     }
 }
 
-/// The place of the first of the last `left` tokens, within a text of `len` bytes; its end, where none is left.
+/// The place of the first of the last `left` tokens, within a text of `len` bytes; its end, where none is left. It is a
+/// hint for people: that it is within the text is all that is promised.
 fn place(tokens: &[Token], left: usize, len: usize) -> usize
     ensures { result ≤ len }
 {
@@ -116,8 +117,8 @@ fn read(alloc: Global, bytes: &[u8]) -> Result<Service, SyntaxFault>
 /// The service that the bytes of a file read as.
 ///
 /// It is answered exactly where the bytes read as one, and else the reason why they read as none ([`SyntaxFault`]): the
-/// first that holds. `Memory` may come anywhere. It takes time that grows with the number of the bytes, and its depth is
-/// bounded by the limits on brackets and stretches.
+/// first that holds. `Memory` may come anywhere. Its depth is bounded by the limits on brackets and
+/// stretches, which are tested first.
 pub fn read_service(alloc: Global, bytes: &[u8]) -> Result<Service, SyntaxFault>
     ensures read { IfOk result (Reads bytes.now) }
     ensures only { (service : Service_) → Reads bytes.now service → (result ≡ Err Fault_.Memory) ⊎ (result ≡ Ok service) }

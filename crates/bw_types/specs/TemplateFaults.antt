@@ -8,6 +8,7 @@ use Rattle.bw_lang.specs.declared.controls.FieldKind.{FieldKind}
 use Rattle.bw_lang.specs.declared.controls.FieldKind.TheVariants.{Single, Choice, Many}
 use Rattle.bw_lang.specs.declared.service.Template.{Template}
 use Rattle.bw_lang.specs.Controls.{fixed, is_control, field_of, fields}
+use Rattle.bw_lang.specs.Documents.{is_open}
 use Rattle.bw_lang.specs.Forest.{Forest, none, text, gap, element}
 use Rattle.bw_lang.specs.Names.{same}
 use Rattle.bw_types.specs.declared.fault.GapKind.{GapKind}
@@ -84,14 +85,10 @@ is_file (Some t) = same t (codes "file")
 abbrev pub is_file_input : List ℕ → List Attr → Bool
 is_file_input tag attrs = same tag (codes "input") && is_file (fixed (codes "type") attrs)
 
-abbrev pub is_hole : AttrValue → Bool
-is_hole (Fixed v) = false
-is_hole (Hole g) = true
-
 -- an attribute that may be no gap in a control, or that no control may have
 abbrev pub is_bad_attr : Attr → Bool
 is_bad_attr a =
-    (is_hole a.value && is_among a.name (codes "name" ∷ codes "type" ∷ codes "multiple" ∷ [])) || same a.name (codes "disabled")
+    (is_open a.value && is_among a.name (codes "name" ∷ codes "type" ∷ codes "multiple" ∷ [])) || same a.name (codes "disabled")
 
 -- the types of inputs that HTML 4.01 has for fields and buttons of a form
 abbrev pub input_types : List (List ℕ)

@@ -18,9 +18,13 @@ pub enum GapKind {
 pub enum TypeFault {
     /// An earlier declaration has this name, or a local's name is taken.
     Repeated(Name),
-    /// Nothing of this name may be used there.
+    /// Nothing of this name may be used there: no local, shared variable or template in an expression, no variable as
+    /// the target of an assignment or a receive, no template as the first value of a shared variable, or no template's
+    /// gap in a plug.
     Unknown(Name),
-    /// A value of the first kind was expected, and one of the second was found.
+    /// A value of the first kind was expected, and one of the second was found. Where several kinds would do, the first
+    /// stands for them: `string` at `==` and `!=`, which take no documents; `int` at the left of `+`, which takes strings
+    /// too; `html` for a gap that stands for content, which takes strings too.
     Kind(Kind, Kind),
     /// A gap of this name stands for content in one place and for an attribute's value in another.
     GapKinds(Name),
@@ -29,9 +33,10 @@ pub enum TypeFault {
     /// A control of this template has a gap for its name, its type or `multiple`, is disabled, or is an input of a type
     /// that HTML 4.01 doesn't have or this language leaves out.
     BadControl(Name),
-    /// A template has an element that only the page around it may have: `html`, `head`, `body` or `form`.
+    /// A template has an element that only the page around it may have: `html`, `head`, `body` or `form`. The name is
+    /// the element's.
     ReservedTag(Name),
-    /// A template has an input of type `file`.
+    /// The template of this name has an input of type `file`.
     FileInput(Name),
     /// The last statement of this session isn't `exit`.
     NoExit(Name),

@@ -71,7 +71,8 @@ impl Locals {
         has(&self.taken, name)
     }
 
-    /// A local more, whose name no local had yet.
+    /// A local more, whose name no local had yet. After want of memory its name may be taken without the local's being
+    /// in scope.
     pub fn declare(&mut self, name: &Name, kind: Kind) -> Result<(), Memory>
         requires { is_among name.now self.old.taken ≡ false }
         ensures { OnOk result (self.new ≡ with_local self.old name.now kind) }

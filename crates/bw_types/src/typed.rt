@@ -24,7 +24,7 @@ pub struct Typed {
     pub ghost named: { fields ≡ with_names [] (field_names service) },
 }
 
-/// The service, if it is well typed. Else the fault of the first test that fails, in one walk over its templates, its
+/// The service, which some text reads as, if it is well typed. Else the fault of the first test that fails, in one walk over its templates, its
 /// shared variables and its sessions, each in source order; or `Memory`.
 pub fn resolve(alloc: Global, service: Service) -> Result<Typed, TypeFault>
     requires { IsReadable service }
