@@ -1,0 +1,12 @@
+pub mod Examples
+pub mod Expressions
+pub mod Forms
+pub mod GoOn
+pub mod Laws
+pub mod NameLaws
+pub mod Numbers
+pub mod Operators
+pub mod Pages
+pub mod States
+pub mod Statements
+pub mod Values
