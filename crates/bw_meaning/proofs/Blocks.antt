@@ -3,7 +3,7 @@ use Rattle.std.proofs.Common.{◌≡◌, ℕ, ◌+◌, Bool, true, false, List, 
 use Rattle.std.specs.Prelude.{if◌then◌else◌, nat_lt}
 use Rattle.std.specs.List.{list_any}
 use Rattle.bw_lang.specs.declared.turn.TurnFault.TheVariants.{Spent}
-use Rattle.bw_lang.specs.Code.{done, numbered}
+use Rattle.bw_lang.specs.Code.{numbered}
 use Rattle.bw_lang.specs.Names.{same, beside}
 use Rattle.bw_meaning.specs.GoOn.{behind}
 use Rattle.bw_meaning.specs.NameLaws.{BlocksLeave, AnsweredBlocksLeave}
@@ -16,7 +16,8 @@ if_so : (b : Bool) (o : Option Value) → b ≡ true → (if b then None else o)
 if_so true o e = refl
 if_so false o e = cc
 
-gone : (names : List (List ℕ)) (o : Outcome) (st : State) (w : List ℕ) → then_do (leave names o) Went ≡ Went st → list_any (same w) names ≡ true → beside w st.locals ≡ None
+gone : (names : List (List ℕ)) (o : Outcome) (st : State) (w : List ℕ) → then_do (leave names o) Went ≡ Went st → list_any (same w) names ≡ true →
+    beside w st.locals ≡ None
 gone names (Went st1) st w e h =
     let is : record st1 { locals = without names st1.locals } ≡ st = cc in
     ap (λ (s : State). beside w s.locals) (sym is) ∙ leaving_takes_names names w st1.locals ∙ if_so (list_any (same w) names) (beside w st1.locals) h

@@ -21,9 +21,11 @@ then_paid : (u : ℕ) (f g : ℕ → Outcome) (next : State → Outcome) → ((w
 then_paid zero f g next h = refl
 then_paid (suc u) f g next h = h u
 
-then_begin : (service : Service) (e : Term) (st : State) (go : Value → State → Outcome) (next : State → Outcome) → then_do (begin service e st go) next ≡ begin service e st (λ v st1. then_do (go v st1) next)
+then_begin : (service : Service) (e : Term) (st : State) (go : Value → State → Outcome) (next : State → Outcome) →
+    then_do (begin service e st go) next ≡ begin service e st (λ v st1. then_do (go v st1) next)
 then_begin service e st go next =
-    then_paid st.units (λ u. with_value service e (record st { units = u }) go) (λ u. with_value service e (record st { units = u }) (λ v st1. then_do (go v st1) next)) next
+    then_paid st.units (λ u. with_value service e (record st { units = u }) go)
+    (λ u. with_value service e (record st { units = u }) (λ v st1. then_do (go v st1) next)) next
     (λ u. then_given (eval service st.locals st.shared e u) (λ v w. go v (record st { units = w })) next)
 
 pub loops_again : LoopsAgain

@@ -1,6 +1,6 @@
 -- Names with values are maps.
-use Rattle.std.proofs.Common.{◌≡◌, ℕ, zero, suc, Bool, true, false, cond, List, [], ◌∷◌, ◌++◌, Option, Some, None, refl, sym, ap, ◌∙◌}
-use Rattle.std.specs.Prelude.{if◌then◌else◌, find, not, ◌||◌, IsPermutation}
+use Rattle.std.proofs.Common.{◌≡◌, ℕ, Bool, true, false, cond, List, [], ◌∷◌, ◌++◌, Option, Some, None, refl, sym, ap, ◌∙◌}
+use Rattle.std.specs.Prelude.{if◌then◌else◌, find, not, IsPermutation}
 use Rattle.std.specs.List.{list_any, IsDistinct}
 use Rattle.std.specs.Option.{option_map, option_or}
 use Rattle.std.specs.Cmp.Lexicographic.{same_text}

@@ -1,5 +1,5 @@
 -- An expression sees nothing but the values that names have.
-use Rattle.std.proofs.Common.{◌≡◌, ℕ, zero, suc, Bool, true, false, Option, refl, ap, ◌∙◌}
+use Rattle.std.proofs.Common.{◌≡◌, ℕ, zero, suc, Bool, true, false, refl, ap, ◌∙◌}
 use Rattle.std.specs.Prelude.{if◌then◌else◌, unwrap_or, pos, neg_ℤ}
 use Rattle.std.specs.Prelude as std
 use Rattle.std.specs.Option.{option_or}
@@ -52,7 +52,8 @@ module _ (service : Service) (l m s t : Values) (locals : Agree l m) (shared : A
     fill_alike : (ps : Fillings) (d : Value) (units : ℕ) → fill service l s ps d units ≡ fill service m t ps d units
     fill_alike no_more d units = refl
     fill_alike (filling g e ps) d units =
-        ap (λ o. and_then o (λ v u1. and_then (given (filled (names.number service.gaps g) v (document_of d)) u1) (λ d1 u2. fill service l s ps d1 u2))) (eval_alike e units)
+        ap (λ o. and_then o (λ v u1. and_then (given (filled (names.number service.gaps g) v (document_of d)) u1) (λ d1 u2. fill service l s ps d1 u2)))
+        (eval_alike e units)
         ∙ then_alike (eval service m t e units) _ _ (λ v u1.
         then_alike (given (filled (names.number service.gaps g) v (document_of d)) u1) _ _ (λ d1 u2. fill_alike ps d1 u2))
 

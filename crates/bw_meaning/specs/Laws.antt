@@ -16,7 +16,8 @@ answered show locals rests i = record { at = show; locals = locals; rests = rest
 -- where a turn waits at a show, one more input is the same as going on from there with it
 abbrev pub TurnGoesOn : Type 0
 TurnGoesOn =
-    (service : Service) (session : ℕ) (first : Values) (inputs : List Input) (i : Input) (show : ℕ) (locals : Values) (rests : Rests) (shown : Document) (shared : Values) (units : ℕ) →
+    (service : Service) (session : ℕ) (first : Values) (inputs : List Input) (i : Input) (show : ℕ) (locals : Values) (rests : Rests) (shown : Document)
+    (shared : Values) (units : ℕ) →
     turn service session first inputs ≡ Shown show locals rests shown shared units →
     turn service session first (inputs ++ i ∷ []) ≡ go_on service session (answered show locals rests i)
 

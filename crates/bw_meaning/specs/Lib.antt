@@ -1,5 +1,6 @@
-pub mod Examples
+pub mod ExpressionExamples
 pub mod Expressions
+pub mod FaultExamples
 pub mod Forms
 pub mod GoOn
 pub mod Laws
@@ -7,6 +8,9 @@ pub mod NameLaws
 pub mod Numbers
 pub mod Operators
 pub mod Pages
-pub mod States
+pub mod Samples
+pub mod StatementExamples
 pub mod Statements
+pub mod States
+pub mod TurnExamples
 pub mod Values

@@ -1,5 +1,5 @@
 -- Laws of names with values: they are maps. So no meaning tells two orders apart, and what a block declares is gone behind it.
-use Rattle.std.specs.Prelude.{◌≡◌, ℕ, true, List, [], ◌∷◌, ◌++◌, if◌then◌else◌, IsPermutation, Option, Some, None}
+use Rattle.std.specs.Prelude.{◌≡◌, ℕ, true, List, [], ◌∷◌, ◌++◌, if◌then◌else◌, IsPermutation, Some, None}
 use Rattle.std.specs.List.{list_any, IsDistinct}
 use Rattle.std.specs.Option.{option_map, option_or}
 use Rattle.bw_lang.specs.declared.service.Service.{Service}

@@ -1,5 +1,4 @@
 //! Laws of the meaning. A law is the contract of an empty function.
-ghost use Rattle.bw_meaning.specs.Examples.{ExpressionExamples, TurnExamples};
 ghost use Rattle.bw_meaning.specs.NameLaws.{OrdersAgree, OrdersWeighTheSame, ExpressionsSeeNames, StoringIsOfOneName, DeclaringAddsOneName, LeavingTakesNames, BlocksLeave, AnsweredBlocksLeave};
 ghost use Rattle.bw_meaning.specs.Laws.{TurnGoesOn, GoingOnGoesOn, TurnCosts, GoingOnCosts, LoopsAgain};
 
@@ -36,10 +35,4 @@ pub fn names_are_maps()
 pub fn blocks_leave()
     ensures block { BlocksLeave }
     ensures answered { AnsweredBlocksLeave }
-{}
-
-/// Worked examples of what expressions and turns give.
-pub fn examples()
-    ensures expressions { ExpressionExamples }
-    ensures turns { TurnExamples }
 {}
