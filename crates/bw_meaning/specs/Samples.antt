@@ -4,6 +4,7 @@ use Rattle.bw_lang.specs.declared.items.AttrValue.TheVariants as attrs
 use Rattle.bw_lang.specs.declared.measure.Measure.{Measure}
 use Rattle.bw_lang.specs.declared.service.Literal.TheVariants as literals
 use Rattle.bw_lang.specs.declared.service.Service.{Service}
+use Rattle.bw_lang.specs.declared.service.Sort.TheVariants as sorts
 use Rattle.bw_lang.specs.declared.stmt.Kind.TheVariants as kinds
 use Rattle.bw_lang.specs.Code.{Code, done}
 use Rattle.bw_lang.specs.Forest.{Forest}
@@ -86,6 +87,7 @@ abbrev pub of_session : Code → Service
 of_session body = record {
   name = codes "Sample";
   gaps = codes "rows" ∷ codes "n" ∷ codes "a" ∷ [];
+  order = sorts.Template ∷ sorts.Template ∷ sorts.Template ∷ sorts.Shared ∷ sorts.Shared ∷ sorts.Session ∷ [];
   templates = record { name = codes "List"; items = list_items } ∷ record { name = codes "Row"; items = row_items }
       ∷ record { name = codes "Aligned"; items = aligned_items } ∷ [];
   shared = record { kind = kinds.Int; name = codes "k"; init = literals.Int (pos 5) }
