@@ -3,7 +3,8 @@ use Rattle.std.proofs.Common.{◌≡◌, ℕ, ◌+◌, ◌<◌, ◌≤◌, List,
 use Rattle.std.specs.Prelude.{◌==◌, nat_lt, if◌then◌else◌}
 use Rattle.bw_lang.specs.declared.service.Service.{Service}
 use Rattle.bw_lang.specs.Code.{Code, done, declare, assign, if_then, if_else, while_loop, block, for_each, show, exit, numbered}
-use Rattle.bw_meaning.specs.GoOn.{with_rest, behind, body_of, first_number}
+use Rattle.bw_lang.specs.Numbers.{first_number}
+use Rattle.bw_meaning.specs.GoOn.{with_rest, behind, body_of}
 use Rattle.bw_meaning.specs.Laws.{answered, TurnGoesOn, GoingOnGoesOn}
 use Rattle.bw_meaning.specs.States.{Rests, Input, State, Outcome, Answered, budget}
 use Rattle.bw_meaning.specs.Statements.{declared, taken, then_do, leave, refills, room, add_rest, each, exec}

@@ -7,8 +7,10 @@ use Rattle.bw_lang.specs.declared.turn.TurnFault.{TurnFault}
 use Rattle.bw_lang.specs.Code.{Code, done, declare, assign, if_then, if_else, while_loop, block, for_each, show, exit, numbered}
 use Rattle.bw_lang.specs.Term.{Term}
 use Rattle.bw_meaning.specs.Expressions.{Evaluated, Gives, Faults, eval}
-use Rattle.bw_meaning.specs.Forms.{all_values, received_value}
-use Rattle.bw_meaning.specs.GoOn.{with_rest, behind, body_of, first_number, turn, go_on}
+use Rattle.bw_lang.specs.Submissions.{values_of}
+use Rattle.bw_meaning.specs.Forms.{received_value}
+use Rattle.bw_lang.specs.Numbers.{first_number}
+use Rattle.bw_meaning.specs.GoOn.{with_rest, behind, body_of, turn, go_on}
 use Rattle.bw_meaning.specs.Laws.{TurnCosts, GoingOnCosts}
 use Rattle.bw_meaning.specs.Operators.{truth_of, list_of, document_of}
 use Rattle.bw_meaning.specs.Pages.{show_fault, exit_fault}
@@ -73,7 +75,7 @@ within_begin service e st go le h = within_unit st (λ st1. with_value service e
 
 received_units : (rs : List Receive) (form : Form) (st : State) → st.units ≤ budget → (received rs form st).units ≤ budget
 received_units [] form st le = le
-received_units (r ∷ rs) form st le = received_units rs form (store r.target (received_value (variable r.target st) (all_values form r.field)) st) le
+received_units (r ∷ rs) form st le = received_units rs form (store r.target (received_value (variable r.target st) (values_of r.field form)) st) le
 
 taken_units : (rs : List Receive) (locals : Values) (i : Input) (later : List Input) → (taken rs locals i later).units ≤ budget
 taken_units rs locals i later = received_units rs i.form (record { locals = locals; shared = i.shared; units = budget; inputs = later }) (omega arith)

@@ -8,7 +8,8 @@ use Rattle.bw_lang.specs.Code.{Code, done, declare, assign, if_then, if_else, wh
 use Rattle.bw_lang.specs.Names as names
 use Rattle.bw_lang.specs.Term.{Term, int, truth, string, name, paren, not, neg, binary, call, plug, nothing, Fillings, no_more, filling}
 use Rattle.bw_meaning.specs.Expressions.{Evaluated, Gives, Faults, paid, and_then, given, eval, fill}
-use Rattle.bw_meaning.specs.Forms.{all_values, received_value}
+use Rattle.bw_lang.specs.Submissions.{values_of}
+use Rattle.bw_meaning.specs.Forms.{received_value}
 use Rattle.bw_meaning.specs.Operators.{truth_of, list_of, document_of, decides, combined, filled}
 use Rattle.bw_meaning.specs.Pages.{show_fault, exit_fault}
 use Rattle.bw_meaning.specs.States.{Form, Input, State, Outcome, Went, Shown, Exited, Failed, budget}
@@ -126,7 +127,7 @@ good_begin lo hi r service e st go le h =
 
 received_room : (rs : List Receive) (form : Form) (st : State) → room (received rs form st) ≡ room st
 received_room [] form st = refl
-received_room (r ∷ rs) form st = received_room rs form (store r.target (received_value (variable r.target st) (all_values form r.field)) st)
+received_room (r ∷ rs) form st = received_room rs form (store r.target (received_value (variable r.target st) (values_of r.field form)) st)
 
 pub taken_room : (rs : List Receive) (locals : Values) (i : Input) (later : List Input) → room (taken rs locals i later) ≡ budget + refills later
 taken_room rs locals i later = received_room rs i.form (record { locals = locals; shared = i.shared; units = budget; inputs = later })

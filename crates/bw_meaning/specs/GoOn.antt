@@ -1,8 +1,9 @@
 -- Going on from a show in the middle of a session's body.
-use Rattle.std.specs.Prelude.{ℕ, ◌+◌, ◌==◌, nat_lt, if◌then◌else◌, List, [], ◌∷◌, take, map, sum_by, slice_get, unwrap_or}
+use Rattle.std.specs.Prelude.{ℕ, ◌+◌, ◌==◌, nat_lt, if◌then◌else◌, List, [], ◌∷◌, map, slice_get, unwrap_or}
 use Rattle.bw_lang.specs.declared.service.Service.{Service}
 use Rattle.bw_lang.specs.declared.turn.TurnFault.TheVariants.{Spent}
 use Rattle.bw_lang.specs.Code.{Code, done, declare, assign, if_then, if_else, while_loop, block, for_each, show, exit, numbered}
+use Rattle.bw_lang.specs.Numbers.{first_number}
 use Rattle.bw_meaning.specs.States.{Input, Outcome, Failed, Answered, Rests, budget}
 use Rattle.bw_meaning.specs.Statements.{declared, taken, then_do, leave, add_rest, each, exec}
 use Rattle.bw_meaning.specs.Values.{Values, list_weight}
@@ -55,10 +56,6 @@ behind service (exit p rest) n around a = behind service rest (n + 1) around a
 -- the statements of the session at this place
 abbrev pub body_of : Service → ℕ → Code
 body_of service session = unwrap_or (slice_get (map (λ s. s.body) service.sessions) session) done
-
--- the number of its first statement; numbers run over the whole service, from 1
-abbrev pub first_number : Service → ℕ → ℕ
-first_number service session = 1 + sum_by (λ s. numbered s.body) (take session service.sessions)
 
 -- a session's whole body, from its first statement, over all its inputs
 abbrev pub turn : Service → ℕ → Values → List Input → Outcome

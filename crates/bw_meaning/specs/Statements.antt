@@ -7,9 +7,10 @@ use Rattle.bw_lang.specs.declared.turn.TurnFault.{TurnFault}
 use Rattle.bw_lang.specs.declared.turn.TurnFault.TheVariants.{Spent}
 use Rattle.bw_lang.specs.Code.{Code, done, declare, assign, if_then, if_else, while_loop, block, for_each, show, exit, numbered}
 use Rattle.bw_lang.specs.Names.{beside}
+use Rattle.bw_lang.specs.Submissions.{values_of}
 use Rattle.bw_lang.specs.Term.{Term}
 use Rattle.bw_meaning.specs.Expressions.{Evaluated, Gives, Faults, eval}
-use Rattle.bw_meaning.specs.Forms.{all_values, received_value}
+use Rattle.bw_meaning.specs.Forms.{received_value}
 use Rattle.bw_meaning.specs.Operators.{truth_of, list_of, document_of}
 use Rattle.bw_meaning.specs.Pages.{show_fault, exit_fault}
 use Rattle.bw_meaning.specs.States.{Form, Input, State, Outcome, Went, Shown, Exited, Failed, budget}
@@ -51,7 +52,7 @@ variable w st = option_or (beside w st.locals) (beside w st.shared)
 -- the fields of a form are stored, in source order
 abbrev pub received : List Receive → Form → State → State
 received [] form st = st
-received (r ∷ rs) form st = received rs form (store r.target (received_value (variable r.target st) (all_values form r.field)) st)
+received (r ∷ rs) form st = received rs form (store r.target (received_value (variable r.target st) (values_of r.field form)) st)
 
 -- An input is taken: its shared variables replace those at hand, its fields are stored, and there are new units.
 abbrev pub taken : List Receive → Values → Input → List Input → State

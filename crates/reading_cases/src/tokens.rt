@@ -6,12 +6,9 @@
 //!
 //! or `no tokens`, or a fault: `bad byte at N`, `open string at N`, `open template at N`, `number too big at N`.
 
-use crate::fault::Fault;
-use crate::tables::Case;
-use crate::texts::{Texts, escaped};
-use crate::verdicts::Verdict;
 use bw_lang::{Token, TokenKind};
 use bw_lex::{LexFault, lex};
+use case_files::{Case, Fault, Texts, Verdict, escaped};
 use std::alloc::{AllocError, Global};
 
 /// Tries a text.

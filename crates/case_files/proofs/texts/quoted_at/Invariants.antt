@@ -1,5 +1,5 @@
 use Rattle.std.proofs.Common.{◌≤◌, length}
-use Rattle.bigwig_cases.proofs.texts.quoted_at.Given as goal
+use Rattle.case_files.proofs.texts.quoted_at.Given as goal
 
 abbrev pub invariant-quoted : goal.invariant-quoted
 invariant-quoted l = length l.rest ≤ length l.quoted

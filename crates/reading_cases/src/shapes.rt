@@ -1,11 +1,9 @@
 //! Cases of expressions. The name of a case is an expression, and its line `shape TEXT` says how it is read: with `{`
 //! and `}` around each operation, call and plug.
 
-use crate::fault::Fault;
-use crate::tables::Case;
-use crate::verdicts::Verdict;
 use bw_lang::{Expr, Fun, Op, Pairs, Part, Stmt};
 use bw_syntax::{SyntaxFault, read_service};
+use case_files::{Case, Fault, Verdict};
 use std::alloc::{AllocError, Global};
 
 /// Tries an expression.
@@ -69,17 +67,19 @@ fn fun_word(fun: Fun) -> &'static str {
         Fun::Text => "text ",
         Fun::Number => "number ",
         Fun::IsNumber => "isnumber ",
+        Fun::Count => "count ",
     }
 }
 
 /// Puts the shape of an expression behind others.
-#[tactic(auto, using(bw_limits::proofs::Sizes::size_steps))]
+#[tactic(auto, using(bw_lang::proofs::Sizes::size_steps))]
 #[cycle(shape)]
 fn put_expr(shape: &mut String, expr: &Expr) -> Result<(), AllocError> {
     match expr {
         Expr::Int(number) => write!(shape, "{number}"),
         Expr::Bool(true) => shape.push_str("true"),
         Expr::Bool(false) => shape.push_str("false"),
+        Expr::Nothing => shape.push_str("none"),
         Expr::Str(text) => write!(shape, "\"{}\"", text.as_str()),
         Expr::Name(name) => shape.push_str(name.as_str()),
         Expr::Paren(inner) => put_within(shape, "(", inner, ")"),
@@ -110,7 +110,7 @@ fn put_within(shape: &mut String, front: &str, part: &Part, back: &str) -> Resul
 }
 
 /// Puts the shape of the pairs of a plug behind others.
-#[tactic(auto, using(bw_limits::proofs::Sizes::size_steps))]
+#[tactic(auto, using(bw_lang::proofs::Sizes::size_steps))]
 #[cycle(shape)]
 fn put_pairs(shape: &mut String, pairs: &Pairs) -> Result<(), AllocError> {
     for pair in pairs.as_slice() {

@@ -14,12 +14,9 @@
 //! as `(TAG NAME='VALUE' NAME=<NUMBER> ITEMS)`. The faults are `malformed`, `repeated attribute`, `mismatched` and
 //! `nesting`.
 
-use crate::fault::Fault;
-use crate::tables::{Case, Line};
-use crate::texts::{Texts, escaped};
-use crate::verdicts::Verdict;
-use bw_lang::{Attr, AttrValue, GapNames, Item, Items, Name, Tree};
+use bw_lang::{Attr, AttrValue, GapNames, Item, Items, Tree};
 use bw_tmpl::{TEMPLATE_NESTING, TmplFault, read_closed, read_template};
+use case_files::{Case, Fault, Line, Texts, Verdict, escaped};
 use std::alloc::{AllocError, Global};
 
 /// An inside of a template, and what is wanted of it.
@@ -103,7 +100,7 @@ impl<'a> TemplateCase<'a> {
         };
         let mut gaps = String::new(alloc);
         for name in self.gaps.split_whitespace() {
-            let number = names.number(&Name::of(alloc, name)?).number();
+            let number = names.number(name).number();
             write!(gaps, " {name} {number}")?;
         }
         let count = names.len();

@@ -24,10 +24,10 @@ impl Verdict {
         }
     }
 
-    /// Prints the line of the case of this name.
+    /// Prints the line of the case of this name, where something else came than what was wanted.
     pub fn print(&self, rt: &impl Print, name: &str) -> io::Result<()> {
         match self {
-            Verdict::Right => println!(rt; "{name} ok"),
+            Verdict::Right => Ok(()),
             Verdict::Wrong { wanted, got } => println!(rt; "{name}: wanted {wanted}; got {got}"),
             Verdict::Malformed => println!(rt; "{name}: {}", Fault::Malformed),
         }
