@@ -59,7 +59,7 @@ field_number service w = number (with_names [] (field_names service)) w
 
 -- the fields that a show receives
 abbrev pub received : Service → List Local → Receive → Received
-received service scope r = record { target = r.target; kind = target_kind service.shared scope r.target; field = r.field; id = field_number service r.field }
+received service scope r = record { target = r.target; kind = target_kind service scope r.target; field = r.field; id = field_number service r.field }
 
 abbrev pub receives : Service → List Local → List Receive → List Received
 receives service scope rs = map (received service scope) rs

@@ -4,7 +4,7 @@ ghost use Rattle.bw_lang.specs.Code.{done};
 ghost use Rattle.bw_lang.specs.CodeView.{before};
 ghost use Rattle.bw_lang.specs.TermView.{term};
 ghost use Rattle.bw_lang.specs.declared.stmt.Kind.TheVariants.{Str};
-ghost use Rattle.bw_flow.specs.Scopes.{shared_kind, target_kind, with_local};
+ghost use Rattle.bw_flow.specs.Scopes.{target_kind, with_local};
 ghost use Rattle.bw_flow.specs.Steps.{sets, tests, goes_over, shows, exits};
 ghost use Rattle.bw_flow.specs.Layout.{count, receives, received, plan_of, points, session_firsts, session_steps};
 ghost use Rattle.bw_flow.specs.Flows.{IsFlowFault};
@@ -15,7 +15,7 @@ use crate::counting::{begins, block_points, session_points, stmt_points, sum};
 use crate::draft::{Draft, number_behind};
 use crate::flow::Flow;
 use crate::point::{PointId, PointIds, Received, Receiveds, What};
-use bw_lang::{Block, Expr, Kind, Memory, Name, Receive, Receives, Session, Shared, Stmt};
+use bw_lang::{Block, Expr, Kind, Memory, Name, Receive, Receives, Session, Stmt};
 use bw_types::Typed;
 use std::alloc::Global;
 
@@ -328,33 +328,19 @@ impl Draft {
     {
         Ok(Received {
             target: receive.target.copy()?,
-            kind: self.target_kind(typed.service().shared.as_slice(), &receive.target),
+            kind: self.target_kind(typed, &receive.target),
             field: receive.field.copy()?,
             id: typed.fields().number(receive.field.as_str()),
         })
     }
 
     /// The kind of a variable: of the local in scope, or else of the shared variable.
-    fn target_kind(&self, shared: &[Shared], name: &Name) -> Kind
-        ensures { result ≡ target_kind shared.now self.now.scope name.now }
+    fn target_kind(&self, typed: &Typed, name: &Name) -> Kind
+        ensures { result ≡ target_kind typed.now.service self.now.scope name.now }
     {
         match self.kind(name) {
             Some(kind) => kind,
-            None => match shared_kind(shared, name) {
-                Some(kind) => kind,
-                None => Kind::Str,
-            },
+            None => typed.shared(name.as_str()).unwrap_or(Kind::Str),
         }
     }
-}
-
-/// The kind of the shared variable of that name, if there is one.
-fn shared_kind(shared: &[Shared], name: &Name) -> Option<Kind>
-    ensures { result ≡ shared_kind shared.now name.now }
-{
-    let name = name.as_str();
-    let variable = shared
-        .iter()
-        .find(|variable| name == variable.name.as_str())?;
-    Some(variable.kind)
 }
