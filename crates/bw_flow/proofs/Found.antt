@@ -6,9 +6,12 @@ use Rattle.std.proofs.lemmas.Bool.Decides.{nat_tests}
 use Rattle.bw_lang.specs.declared.service.Session.{Session}
 use Rattle.bw_flow.specs.Flows.{is_join, is_statement}
 use Rattle.bw_flow.specs.Layout.{points, session_steps}
-use Rattle.bw_flow.specs.Stands.{IsAt, numbers_of, numbers_from, sizes, FindsEach}
+use Rattle.bw_flow.specs.Stands.{IsAt}
+use Rattle.bw_flow.specs.Numbers.{numbers_of, numbers_from, FindsEach}
 use Rattle.bw_flow.specs.Steps.{Step}
-use Rattle.bw_flow.proofs.Stands.{either, first_taken, numbers_skip, sessions_in_order}
+use Rattle.bw_flow.proofs.Names.{either}
+use Rattle.bw_flow.proofs.Parts.{sizes, sizes_are}
+use Rattle.bw_flow.proofs.Numbered.{first_taken, numbers_skip, sessions_in_order}
 use Rattle.bw_flow.proofs.Spots.{Within, sessions_within}
 
 -- ---- the first place
@@ -101,6 +104,7 @@ within_at lo hi (y ∷ xs) (suc i) x w at = within_at lo hi xs i x w.2 at
 pub finds_each : FindsEach
 finds_each service k =
     let flow = session_steps service service.sessions 1 0 (points service.sessions) in
+    let total = sizes_are service.sessions in
     let n = position_or_len (is_statement k) flow in (
       λ p h.
           let f = found n (length flow) p (nat_lt n (length flow)) refl h in

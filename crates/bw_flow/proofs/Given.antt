@@ -16,14 +16,15 @@ use Rattle.bw_types.specs.Typing.{IsTypedService}
 use Rattle.bw_flow.specs.declared.point.Local.{Local}
 use Rattle.bw_flow.specs.declared.point.Received.{Received}
 use Rattle.bw_flow.specs.Layout.{points, plan_of}
-use Rattle.bw_flow.specs.Leads.{Among}
+use Rattle.bw_flow.specs.Places.{Among}
 use Rattle.bw_flow.specs.Scopes.{kind_in}
 use Rattle.bw_flow.specs.Stands.{IsAt}
 use Rattle.bw_flow.specs.Steps.{Act, sets, tests, goes_over, shows, exits, joins, Step}
 use Rattle.bw_flow.specs.TypedFlow.{kind_at, HasKindAt, AreNames, IsTypedReceive, IsTypedAct, BringsIn, Follows, IsGivenOf, Leaves, IsTypedFlow, FlowsAreTyped}
 use Rattle.bw_flow.specs.Woven.{IsWoven}
 use Rattle.bw_flow.proofs.Names.{kind_in_is, push_cases, shared_is}
-use Rattle.bw_flow.proofs.Stands.{holds_self, length_sessions}
+use Rattle.bw_flow.proofs.Parts.{holds_self}
+use Rattle.bw_flow.proofs.Stands.{length_sessions}
 use Rattle.bw_flow.proofs.Typed.{GoesWell, AllGoWell, goes_well_at, sessions_typed}
 
 exact : (x y : List ℕ) → same x y ≡ true → x ≡ y

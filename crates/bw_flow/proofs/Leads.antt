@@ -12,7 +12,8 @@ use Rattle.bw_flow.specs.Leads.{Spot, statement, meeting, starts, from, leads, s
 use Rattle.bw_flow.specs.Scopes.{with_local}
 use Rattle.bw_flow.specs.Steps.{Act, sets, tests, goes_over, shows, exits, joins, Step}
 use Rattle.bw_flow.proofs.Layouts.{length_steps}
-use Rattle.bw_flow.proofs.Stands.{Holds, holds_at, holds_parts, holds_self, length_sessions}
+use Rattle.bw_flow.proofs.Parts.{Holds, holds_at, holds_parts, holds_self}
+use Rattle.bw_flow.proofs.Stands.{length_sessions}
 
 nexts_parts : (flow xs ys : List Step) → nexts flow (xs ++ ys) ≡ nexts flow xs ++ nexts flow ys
 nexts_parts flow [] ys = refl

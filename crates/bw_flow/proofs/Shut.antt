@@ -8,10 +8,42 @@ use Rattle.bw_flow.specs.declared.point.Local.{Local}
 use Rattle.bw_flow.specs.Drafts.{first_of}
 use Rattle.bw_flow.specs.Layout.{count, enter, step, steps, points, session_steps, session_firsts}
 use Rattle.bw_flow.specs.Scopes.{with_local}
-use Rattle.bw_flow.specs.Stands.{closes, AllClose, AllBelow, NextsBelow, IsShut}
+use Rattle.bw_flow.specs.Places.{Among, IsShut, FirstsAreAll}
 use Rattle.bw_flow.specs.Steps.{joins, Step}
+use Rattle.bw_types.specs.Faults.{ends_in_exit}
+use Rattle.std.specs.Prelude.{slice_get, Some}
+use Rattle.std.specs.List.{All}
+use Rattle.std.proofs.lemmas.List.Elements.{All-head, All-tail}
 use Rattle.bw_flow.proofs.Layouts.{first_of_is}
-use Rattle.bw_flow.proofs.Stands.{never, length_sessions}
+use Rattle.bw_flow.proofs.Joins.{never}
+use Rattle.bw_flow.proofs.Stands.{length_sessions}
+
+-- whether the last statement is an `exit`; b is the answer for none
+abbrev closes : Bool → Code → Bool
+closes b done = b
+closes b (declare k w e rest) = closes false rest
+closes b (assign w e rest) = closes false rest
+closes b (if_then e y rest) = closes false rest
+closes b (if_else e y o rest) = closes false rest
+closes b (while_loop e y rest) = closes false rest
+closes b (for_each w e y rest) = closes false rest
+closes b (block y rest) = closes false rest
+closes b (show e rs rest) = closes false rest
+closes b (exit e rest) = closes true rest
+
+-- each session ends in `exit`
+abbrev AllClose : List Session → Type 0
+AllClose [] = Unit {0}
+AllClose (s ∷ ss) = (closes false s.body ≡ true) × AllClose ss
+
+abbrev AllBelow : ℕ → List ℕ → Type 0
+AllBelow b [] = Unit {0}
+AllBelow b (q ∷ qs) = (q < b) × AllBelow b qs
+
+-- the points that come next stand below this place
+abbrev NextsBelow : ℕ → List Step → Type 0
+NextsBelow b [] = Unit {0}
+NextsBelow b (x ∷ xs) = AllBelow b x.next × NextsBelow b xs
 
 -- what comes behind these statements stands below b, or they end in `exit`
 abbrev Safe : Code → ℕ → ℕ → Type 0
@@ -115,7 +147,64 @@ firsts_below : (ss : List Session) (p out b : ℕ) → AllClose ss → p + point
 firsts_below [] p out b h le = tt
 firsts_below (s ∷ ss) p out b h le = (enter_below s.body p out b (omega arith) (inr h.0), firsts_below ss (p + count s.body) out b h.1 (omega arith))
 
+closes_is : (c : Code) → ends_in_exit c ≡ true → closes false c ≡ true
+closes_is done h = never h
+closes_is (declare k w e rest) h = closes_is rest h
+closes_is (assign w e rest) h = closes_is rest h
+closes_is (if_then e y rest) h = closes_is rest h
+closes_is (if_else e y o rest) h = closes_is rest h
+closes_is (while_loop e y rest) h = closes_is rest h
+closes_is (for_each w e y rest) h = closes_is rest h
+closes_is (block y rest) h = closes_is rest h
+closes_is (show e rs rest) h = closes_is rest h
+closes_is (exit e done) h = refl
+closes_is (exit e (declare k w v rest)) h = closes_is (declare k w v rest) h
+closes_is (exit e (assign w v rest)) h = closes_is (assign w v rest) h
+closes_is (exit e (if_then v y rest)) h = closes_is (if_then v y rest) h
+closes_is (exit e (if_else v y o rest)) h = closes_is (if_else v y o rest) h
+closes_is (exit e (while_loop v y rest)) h = closes_is (while_loop v y rest) h
+closes_is (exit e (for_each w v y rest)) h = closes_is (for_each w v y rest) h
+closes_is (exit e (block y rest)) h = closes_is (block y rest) h
+closes_is (exit e (show v rs rest)) h = closes_is (show v rs rest) h
+closes_is (exit e (exit v rest)) h = closes_is (exit v rest) h
+
+all_close : (ss : List Session) → All (λ s. ends_in_exit s.body ≡ true) ss → AllClose ss
+all_close [] h = tt
+all_close (s ∷ ss) h =
+    (closes_is s.body (All-head (λ z. ends_in_exit z.body ≡ true) s ss h), all_close ss (All-tail (λ z. ends_in_exit z.body ≡ true) s ss h))
+
+among_below : (b q : ℕ) (qs : List ℕ) → AllBelow b qs → Among q qs → q < b
+among_below b q [] h i = absurd i
+among_below b q (r ∷ qs) h (inl e) = subst (λ m. m < b) (sym e) h.0
+among_below b q (r ∷ qs) h (inr i) = among_below b q qs h.1 i
+
+nexts_at : (b p : ℕ) (xs : List Step) (x : Step) → NextsBelow b xs → slice_get xs p ≡ Some x → AllBelow b x.next
+nexts_at b p [] x h e = cc
+nexts_at b zero (y ∷ ys) x h e = subst (λ (z : Step). AllBelow b z.next) (let f : y ≡ x = cc in f) h.0
+nexts_at b (suc p) (y ∷ ys) x h e = nexts_at b p ys x h.1 e
+
+first_at : (b k q : ℕ) (qs : List ℕ) → AllBelow b qs → slice_get qs k ≡ Some q → q < b
+first_at b k q [] h e = cc
+first_at b zero q (r ∷ qs) h e = subst (λ m. m < b) (let f : r ≡ q = cc in f) h.0
+first_at b (suc k) q (r ∷ qs) h e = first_at b k q qs h.1 e
+
 pub is_shut : IsShut
 is_shut service h =
-    let out = points service.sessions in let l = length_sessions service service.sessions 1 0 out in
-    (sessions_below service service.sessions 1 0 out (length (session_steps service service.sessions 1 0 out)) h (omega arith), firsts_below service.sessions 0 out (length (session_steps service service.sessions 1 0 out)) h (omega arith))
+    let ss = service.sessions in
+    let out = points ss in
+    let flow = session_steps service ss 1 0 out in
+    let b = length flow in
+    let closed = all_close ss h in
+    let len = length_sessions service ss 1 0 out in
+    let nexts = sessions_below service ss 1 0 out b closed (omega arith) in
+    let firsts = firsts_below ss 0 out b closed (omega arith) in
+    (λ p q x at i. among_below b q x.next (nexts_at b p flow x nexts at) i, λ k q e. first_at b k q (session_firsts ss 0 out) firsts e)
+
+-- ---- how many first places and next points there are
+
+length_firsts : (ss : List Session) (p out : ℕ) → length (session_firsts ss p out) ≡ length ss
+length_firsts [] p out = refl
+length_firsts (s ∷ ss) p out = let e = length_firsts ss (p + count s.body) out in omega (arith, e)
+
+pub firsts_are_all : FirstsAreAll
+firsts_are_all service = length_firsts service.sessions 0 (points service.sessions)

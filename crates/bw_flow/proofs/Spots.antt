@@ -8,12 +8,15 @@ use Rattle.bw_lang.specs.declared.service.Service.{Service}
 use Rattle.bw_flow.specs.declared.point.Local.{Local}
 use Rattle.bw_flow.specs.Flows.{is_join}
 use Rattle.bw_flow.specs.Layout.{count, enter, step, steps, receives, points, session_steps}
-use Rattle.bw_flow.specs.Leads.{Spot, statement, meeting, from, spot_of, spot_at, from_to, nexts, service_leads, Among, LeadsAreNexts, SpotsDiffer}
+use Rattle.bw_flow.specs.Leads.{Spot, statement, meeting, from, spot_of, spot_at, from_to, nexts, service_leads, LeadsAreNexts, SpotsDiffer}
+use Rattle.bw_flow.specs.Places.{Among}
 use Rattle.bw_flow.specs.Scopes.{with_local}
-use Rattle.bw_flow.specs.Stands.{sizes}
 use Rattle.bw_flow.specs.Steps.{joins, Step}
 use Rattle.bw_flow.proofs.Leads.{leads_agree}
-use Rattle.bw_flow.proofs.Stands.{either, never, all_have_numbers}
+use Rattle.bw_flow.proofs.Names.{either}
+use Rattle.bw_flow.proofs.Joins.{never}
+use Rattle.bw_flow.proofs.Parts.{sizes, sizes_are}
+use Rattle.bw_flow.proofs.Numbered.{all_have_numbers}
 
 -- ---- the numbers of points
 

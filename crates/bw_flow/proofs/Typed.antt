@@ -23,7 +23,7 @@ use Rattle.bw_flow.specs.TypedFlow.{kind_at, AreNames, IsTypedReceive, IsTypedAc
 use Rattle.bw_flow.specs.Woven.{IsWoven}
 use Rattle.bw_flow.proofs.Layouts.{length_steps}
 use Rattle.bw_flow.proofs.Names.{Matches, matches_nothing, matches_more, matches_new, kind_in_is, kind_at_is, new_at, has_kind}
-use Rattle.bw_flow.proofs.Stands.{Holds, holds_at, holds_parts}
+use Rattle.bw_flow.proofs.Parts.{Holds, holds_at, holds_parts}
 use Rattle.bw_flow.proofs.Ways.{Ends, ends_at, ends_more, ends_after, entry, AllFollow, no_next, next_kept, next_brought}
 
 -- names, what the point does, and what comes next

@@ -6,13 +6,13 @@ use Rattle.bw_lang.specs.declared.stmt.Kind.TheVariants as kinds
 use Rattle.bw_lang.specs.Code.{Code, done, declare, assign, if_then, if_else, while_loop, for_each, block, show, exit, numbered}
 use Rattle.bw_flow.specs.declared.point.Local.{Local}
 use Rattle.bw_flow.specs.Layout.{count, enter, after, steps}
-use Rattle.bw_flow.specs.Leads.{Among}
+use Rattle.bw_flow.specs.Places.{Among}
 use Rattle.bw_flow.specs.Scopes.{with_local}
 use Rattle.bw_flow.specs.Stands.{IsAt}
 use Rattle.bw_flow.specs.Steps.{Step}
 use Rattle.bw_flow.specs.TypedFlow.{BringsIn, Follows}
 use Rattle.bw_flow.proofs.Layouts.{length_steps}
-use Rattle.bw_flow.proofs.Stands.{Holds, holds_at, holds_parts}
+use Rattle.bw_flow.proofs.Parts.{Holds, holds_at, holds_parts}
 
 -- the first ones of these locals are those
 abbrev pub Begins : List Local → List Local → Type 0

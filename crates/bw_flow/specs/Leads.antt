@@ -5,6 +5,7 @@ use Rattle.bw_lang.specs.Code.{Code, done, declare, assign, if_then, if_else, wh
 use Rattle.bw_lang.specs.declared.service.Service.{Service}
 use Rattle.bw_flow.specs.Flows.{is_join}
 use Rattle.bw_flow.specs.Layout.{plan_of}
+use Rattle.bw_flow.specs.Places.{Among}
 use Rattle.bw_flow.specs.Stands.{IsAt}
 use Rattle.bw_flow.specs.Steps.{Step}
 
@@ -81,11 +82,6 @@ nexts flow (x ∷ xs) = from_to flow (spot_of x) x.next ++ nexts flow xs
 -- the points that come next in the flow are those that the statements say
 abbrev pub LeadsAgree : Type 0
 LeadsAgree = (service : Service) → let flow = (plan_of service).steps in nexts flow flow ≡ service_leads service.sessions 1
-
--- x is one of these
-abbrev pub Among : {A : Type 0} → A → List A → Type 0
-Among x [] = ⊥
-Among x (y ∷ ys) = (x ≡ y) ⊎ Among x ys
 
 -- `leads` of two points holds exactly where the second is among those that come next at the first
 abbrev pub LeadsAreNexts : Type 0

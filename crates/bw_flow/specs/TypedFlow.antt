@@ -13,7 +13,7 @@ use Rattle.bw_types.specs.Typing.{HasKind, IsTypedService}
 use Rattle.bw_flow.specs.declared.point.Local.{Local}
 use Rattle.bw_flow.specs.declared.point.Received.{Received}
 use Rattle.bw_flow.specs.Layout.{plan_of}
-use Rattle.bw_flow.specs.Leads.{Among}
+use Rattle.bw_flow.specs.Places.{Among}
 use Rattle.bw_flow.specs.Scopes.{kind_in}
 use Rattle.bw_flow.specs.Stands.{IsAt}
 use Rattle.bw_flow.specs.Woven.{IsWoven}
