@@ -1,5 +1,5 @@
 -- The statements of a block, one after the other.
-use Rattle.std.proofs.Common.{◌≡◌, ℕ, suc, ◌+◌, ◌<◌, ◌≤◌, List, [], ◌∷◌, ◌++◌, length, get_or, take, drop, refl, ap, sym, ◌∙◌, arith, Some, None}
+use Rattle.std.proofs.Common.{◌≡◌, ℕ, ◌+◌, ◌<◌, ◌≤◌, List, [], ◌∷◌, ◌++◌, length, get_or, take, refl, ap, sym, ◌∙◌, arith, Some, None}
 use Rattle.std.proofs.lemmas.List.{take_more}
 use denote.Param.Weighed.{at_most}
 use Rattle.bw_lang.specs.declared.stmt.Block.TheDeep.{deep-Stmt}
@@ -12,7 +12,8 @@ use Rattle.bw_lang.specs.declared.service.Session.{Session}
 use Rattle.bw_flow.specs.Layout.{count, points}
 
 -- a statement that was read is smaller than the block
-pub stmt_size_at_read : (xs : List Stmt) (i : ℕ) (d : Stmt) → i < length xs → (get_or xs i d ≡ get_or xs i d) × (deep-Stmt (get_or xs i d) ≤ code_size (code xs))
+pub stmt_size_at_read : (xs : List Stmt) (i : ℕ) (d : Stmt) → i < length xs →
+    (get_or xs i d ≡ get_or xs i d) × (deep-Stmt (get_or xs i d) ≤ code_size (code xs))
 stmt_size_at_read xs i d h = (refl, omega (arith, at_most (λ y. deep-Stmt y) xs i d h, most_le-code_size xs))
 
 -- the points of a statement, and of those behind it
@@ -27,8 +28,10 @@ count_before (Block b) c = omega arith
 count_before (Show p rs) c = omega arith
 count_before (Exit p) c = omega arith
 
-pub count_more : (xs : List Stmt) (i : ℕ) (x : Stmt) → x ≡ get_or xs i x → i < length xs → count (code (take (i + 1) xs)) ≡ count (code (take i xs)) + count (before x done)
-count_more xs i x e h = ap (λ l. count (code l)) (take_more xs i x h) ∙ joined (take i xs) (get_or xs i x) ∙ ap (λ y. count (code (take i xs)) + count (before y done)) (sym e)
+pub count_more : (xs : List Stmt) (i : ℕ) (x : Stmt) → x ≡ get_or xs i x → i < length xs →
+    count (code (take (i + 1) xs)) ≡ count (code (take i xs)) + count (before x done)
+count_more xs i x e h = ap (λ l. count (code l)) (take_more xs i x h) ∙ joined (take i xs) (get_or xs i x)
+    ∙ ap (λ y. count (code (take i xs)) + count (before y done)) (sym e)
   where
     joined : (l : List Stmt) (y : Stmt) → count (code (l ++ y ∷ [])) ≡ count (code l) + count (before y done)
     joined [] y = omega arith

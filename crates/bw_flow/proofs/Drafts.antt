@@ -1,5 +1,6 @@
 -- One statement more in a draft.
-use Rattle.std.proofs.Common.{◌≡◌, ℕ, zero, suc, ◌+◌, ◌-◌, ◌<◌, ◌≤◌, List, [], ◌∷◌, ◌++◌, length, get_or, take, drop, refl, ap, sym, ◌∙◌, arith, append_assoc, Option, Some, None}
+use Rattle.std.proofs.Common.{◌≡◌, ℕ, zero, suc, ◌+◌, ◌-◌, ◌<◌, ◌≤◌, List, [], ◌∷◌, ◌++◌, length, get_or, take, drop, refl, ap, sym, ◌∙◌, arith, append_assoc}
+use Rattle.std.proofs.Common.{Option, Some, None}
 use Rattle.std.proofs.lemmas.List.{append-nil, length-append}
 use Rattle.std.proofs.Math.Seq.{drop-cons}
 use Rattle.bw_lang.specs.declared.stmt.Kind.{Kind}
@@ -24,7 +25,8 @@ use Rattle.bw_flow.proofs.Codes.{count_before}
 
 -- a statement, and then those behind it
 with_before : (service : Service) (x : Drawn) (s : Stmt) (c : Code) (d q : ℕ)
-    → with_code service x (before s c) d q ≡ with_code service (with_code service x (before s done) d (enter c (length x.steps + count (before s done)) q)) c d q
+    → with_code service x (before s c) d q ≡ with_code service (with_code service x (before s done) d (enter c (length x.steps + count (before s done)) q)) c d
+    q
 unfolding with_code
 with_before service x s c d q =
     let p = length x.steps in
@@ -34,7 +36,8 @@ with_before service x s c d q =
     let len : m ≡ length (x.steps ++ ss) = omega (arith, length-append x.steps ss, length_steps service (before s done) x.number x.scope d p (enter c m q)) in
     let rest = λ (r : ℕ). steps service c k (after (before s done) x.scope) d r q in
     let e : x.steps ++ steps service (before s c) x.number x.scope d p q ≡ (x.steps ++ ss) ++ rest (length (x.steps ++ ss)) =
-    ap (λ l. x.steps ++ l) (steps_before service s c x.number x.scope d p q m k refl refl) ∙ sym (append_assoc x.steps ss (rest m)) ∙ ap (λ r. (x.steps ++ ss) ++ rest r) len in
+    ap (λ l. x.steps ++ l) (steps_before service s c x.number x.scope d p q m k refl refl) ∙ sym (append_assoc x.steps ss (rest m))
+    ∙ ap (λ r. (x.steps ++ ss) ++ rest r) len in
     let n : x.number + numbered (before s c) ≡ k + numbered c = omega (arith, size_before s c) in
     λ i. record { steps = e i; number = n i; scope = after_before s c x.scope i }
 
@@ -62,11 +65,13 @@ comes_next service x y z xs i d q end behind later next s e h comes eb el en ez 
     let has = comes.many in
     let el2 : later ≡ count c = omega arith in
     let en2 : next ≡ enter c (length y.steps + count (before s done)) q = en ∙ (λ j. first_of (el2 j) (eb j) q) ∙ first_of_is c _ q in
-    let z2 : z ≡ with_code service y (before s done) d (enter c (length y.steps + count (before s done)) q) = ez ∙ ap (with_code service y (before s done) d) en2 in
+    let z2 : z ≡ with_code service y (before s done) d (enter c (length y.steps + count (before s done)) q) = ez
+    ∙ ap (with_code service y (before s done) d) en2 in
     let ss = steps service (before s done) y.number y.scope d (length y.steps) next in
     record {
       whole = ap (λ w. with_code service w c d q) z2 ∙ sym (with_before service y s c d q) ∙ ap (λ b. with_code service y b d q) (sym at) ∙ comes.whole;
-      many = ap (λ (w : Drawn). length w.steps + count c) ez ∙ omega (arith, length-append y.steps ss, length_steps service (before s done) y.number y.scope d (length y.steps) next);
+      many = ap (λ (w : Drawn). length w.steps + count c) ez
+      ∙ omega (arith, length-append y.steps ss, length_steps service (before s done) y.number y.scope d (length y.steps) next);
     }
 
 with_none : (service : Service) (y : Drawn) (d q : ℕ) → with_code service y done d q ≡ y
@@ -104,7 +109,8 @@ leaves : (c : Code) (sc : List Local) → take (length sc) (after c sc) ≡ sc
 leaves c sc = let r = adds c sc in ap (take (length sc)) r.1 ∙ take_front sc r.0
 
 -- the end of a block
-pub comes_last : (service : Service) (x y z : Drawn) (xs : List Stmt) (c : Code) (i d q end depth : ℕ) → length xs ≤ i → Comes service x y xs i d q end → code xs ≡ c
+pub comes_last : (service : Service) (x y z : Drawn) (xs : List Stmt) (c : Code) (i d q end depth : ℕ) → length xs ≤ i → Comes service x y xs i d q end →
+    code xs ≡ c
     → depth ≡ length x.scope → z ≡ record y { scope = take depth y.scope } → z ≡ with_block service x c d q
 unfolding with_code
 comes_last service x y z xs c i d q end depth h comes ec ed ez =
@@ -123,15 +129,18 @@ pub declared_one : (service : Service) (x z : Drawn) (k : Kind) (w : List ℕ) (
 unfolding with_code
 declared_one service x z k w e d q s es ez = ez ∙ ap (λ s. with_code service x (before s done) d q) (sym es)
 
-pub assigned_one : (service : Service) (x z : Drawn) (w : List ℕ) (e : Expr) (d q : ℕ) (s : Stmt) → s ≡ Assign w e → z ≡ with_statement x d (sets w (term e)) (q ∷ []) → z ≡ with_code service x (before s done) d q
+pub assigned_one : (service : Service) (x z : Drawn) (w : List ℕ) (e : Expr) (d q : ℕ) (s : Stmt) → s ≡ Assign w e →
+    z ≡ with_statement x d (sets w (term e)) (q ∷ []) → z ≡ with_code service x (before s done) d q
 unfolding with_code
 assigned_one service x z w e d q s es ez = ez ∙ ap (λ s. with_code service x (before s done) d q) (sym es)
 
-pub shown_one : (service : Service) (x z : Drawn) (e : Expr) (rs : List Receive) (d q : ℕ) (s : Stmt) → s ≡ Show e rs → z ≡ with_statement x d (shows (term e) (receives service x.scope rs)) (q ∷ []) → z ≡ with_code service x (before s done) d q
+pub shown_one : (service : Service) (x z : Drawn) (e : Expr) (rs : List Receive) (d q : ℕ) (s : Stmt) → s ≡ Show e rs →
+    z ≡ with_statement x d (shows (term e) (receives service x.scope rs)) (q ∷ []) → z ≡ with_code service x (before s done) d q
 unfolding with_code
 shown_one service x z e rs d q s es ez = ez ∙ ap (λ s. with_code service x (before s done) d q) (sym es)
 
-pub exited_one : (service : Service) (x z : Drawn) (e : Expr) (d q : ℕ) (s : Stmt) → s ≡ Exit e → z ≡ with_statement x d (exits (term e)) [] → z ≡ with_code service x (before s done) d q
+pub exited_one : (service : Service) (x z : Drawn) (e : Expr) (d q : ℕ) (s : Stmt) → s ≡ Exit e → z ≡ with_statement x d (exits (term e)) [] →
+    z ≡ with_code service x (before s done) d q
 unfolding with_code
 exited_one service x z e d q s es ez = ez ∙ ap (λ s. with_code service x (before s done) d q) (sym es)
 
@@ -146,10 +155,12 @@ meets service x y z r e b n d q j en ej ey ez er =
     let jj : j ≡ join = ej in
     let first = step x.number x.scope d (tests e) (enter b (p + 1) join ∷ join ∷ []) in
     let y2 : y ≡ record { steps = x.steps ++ first ∷ []; number = x.number + 1; scope = x.scope } =
-    ey ∙ (λ i. with_statement x d (tests e) (first_of (count b) (p + 1) (jj i) ∷ jj i ∷ [])) ∙ (λ i. with_statement x d (tests e) (first_of_is b (p + 1) join i ∷ join ∷ [])) in
+    ey ∙ (λ i. with_statement x d (tests e) (first_of (count b) (p + 1) (jj i) ∷ jj i ∷ []))
+    ∙ (λ i. with_statement x d (tests e) (first_of_is b (p + 1) join i ∷ join ∷ [])) in
     let bs = λ (l : ℕ). steps service b (x.number + 1) x.scope d l join in
     let z2 : z ≡ record { steps = (x.steps ++ first ∷ []) ++ bs (p + 1); number = x.number + 1 + numbered b; scope = x.scope } =
-    ez ∙ (λ i. with_block service (y2 i) b d (jj i)) ∙ (λ i. record { steps = (x.steps ++ first ∷ []) ++ bs (one_more x.steps first i); number = x.number + 1 + numbered b; scope = x.scope }) in
+    ez ∙ (λ i. with_block service (y2 i) b d (jj i))
+    ∙ (λ i. record { steps = (x.steps ++ first ∷ []) ++ bs (one_more x.steps first i); number = x.number + 1 + numbered b; scope = x.scope }) in
     let last = step x.number x.scope d joins (q ∷ []) in
     let num : x.number + 1 + numbered b ≡ x.number + (1 + numbered b + 0) = omega arith in
     let whole : ((x.steps ++ first ∷ []) ++ bs (p + 1)) ++ last ∷ [] ≡ x.steps ++ (first ∷ (bs (p + 1) ++ last ∷ [])) =
@@ -159,7 +170,8 @@ meets service x y z r e b n d q j en ej ey ez er =
 -- an `if` with else
 pub meets_other : (service : Service) (x y z v r : Drawn) (e : Term) (b o : Code) (n d q j : ℕ) → n ≡ x.number → j ≡ length x.steps + 1 + count b + count o
     → y ≡ with_statement x d (tests e) (first_of (count b) (length x.steps + 1) j ∷ first_of (count o) (length x.steps + 1 + count b) j ∷ [])
-    → z ≡ with_block service y b d j → v ≡ with_block service z o d j → r ≡ with_step v (step n v.scope d joins (q ∷ [])) → r ≡ with_code service x (if_else e b o done) d q
+    → z ≡ with_block service y b d j → v ≡ with_block service z o d j → r ≡ with_step v (step n v.scope d joins (q ∷ [])) →
+    r ≡ with_code service x (if_else e b o done) d q
 unfolding with_code
 meets_other service x y z v r e b o n d q j en ej ey ez ev er =
     let p = length x.steps in
@@ -174,33 +186,44 @@ meets_other service x y z v r e b o n d q j en ej ey ez ev er =
     let os = λ (l : ℕ). steps service o (x.number + 1 + numbered b) x.scope d l join in
     let front = (x.steps ++ first ∷ []) ++ bs (p + 1) in
     let z2 : z ≡ record { steps = front; number = x.number + 1 + numbered b; scope = x.scope } =
-    ez ∙ (λ i. with_block service (y2 i) b d (jj i)) ∙ (λ i. record { steps = (x.steps ++ first ∷ []) ++ bs (one_more x.steps first i); number = x.number + 1 + numbered b; scope = x.scope }) in
-    let len : length front ≡ other = omega (arith, length-append (x.steps ++ first ∷ []) (bs (p + 1)), one_more x.steps first, length_steps service b (x.number + 1) x.scope d (p + 1) join) in
+    ez ∙ (λ i. with_block service (y2 i) b d (jj i))
+    ∙ (λ i. record { steps = (x.steps ++ first ∷ []) ++ bs (one_more x.steps first i); number = x.number + 1 + numbered b; scope = x.scope }) in
+    let len : length front ≡ other = omega (arith, length-append (x.steps ++ first ∷ []) (bs (p + 1)), one_more x.steps first,
+    length_steps service b (x.number + 1) x.scope d (p + 1) join) in
     let v2 : v ≡ record { steps = front ++ os other; number = x.number + 1 + numbered b + numbered o; scope = x.scope } =
-    ev ∙ (λ i. with_block service (z2 i) o d (jj i)) ∙ (λ i. record { steps = front ++ os (len i); number = x.number + 1 + numbered b + numbered o; scope = x.scope }) in
+    ev ∙ (λ i. with_block service (z2 i) o d (jj i))
+    ∙ (λ i. record { steps = front ++ os (len i); number = x.number + 1 + numbered b + numbered o; scope = x.scope }) in
     let last = step x.number x.scope d joins (q ∷ []) in
     let num : x.number + 1 + numbered b + numbered o ≡ x.number + (1 + numbered b + numbered o + 0) = omega arith in
     let whole : (front ++ os other) ++ last ∷ [] ≡ x.steps ++ (first ∷ (bs (p + 1) ++ (os other ++ last ∷ []))) =
-    append_assoc front (os other) (last ∷ []) ∙ append_assoc (x.steps ++ first ∷ []) (bs (p + 1)) (os other ++ last ∷ []) ∙ append_assoc x.steps (first ∷ []) (bs (p + 1) ++ (os other ++ last ∷ [])) in
+    append_assoc front (os other) (last ∷ []) ∙ append_assoc (x.steps ++ first ∷ []) (bs (p + 1)) (os other ++ last ∷ [])
+    ∙ append_assoc x.steps (first ∷ []) (bs (p + 1) ++ (os other ++ last ∷ [])) in
     er ∙ (λ i. with_step (v2 i) (step (en i) (v2 i).scope d joins (q ∷ []))) ∙ (λ i. record { steps = whole i; number = num i; scope = x.scope })
 
-pub if_one : (service : Service) (x y z r : Drawn) (e : Expr) (b : Code) (o : Option Code) (n d q j : ℕ) (s : Stmt) → s ≡ If e b o → o ≡ None → n ≡ x.number → j ≡ length x.steps + 1 + count b
+pub if_one : (service : Service) (x y z r : Drawn) (e : Expr) (b : Code) (o : Option Code) (n d q j : ℕ) (s : Stmt) → s ≡ If e b o → o ≡ None → n ≡ x.number →
+    j ≡ length x.steps + 1 + count b
     → y ≡ with_statement x d (tests (term e)) (first_of (count b) (length x.steps + 1) j ∷ j ∷ [])
     → z ≡ with_block service y b d j → r ≡ with_step z (step n z.scope d joins (q ∷ [])) → r ≡ with_code service x (before s done) d q
 if_one service x y z r e b o n d q j s es eo en ej ey ez er =
-    meets service x y z r (term e) b n d q j en ej ey ez er ∙ (λ i. with_code service x (before (If e b (sym eo i)) done) d q) ∙ ap (λ s. with_code service x (before s done) d q) (sym es)
+    meets service x y z r (term e) b n d q j en ej ey ez er ∙ (λ i. with_code service x (before (If e b (sym eo i)) done) d q)
+    ∙ ap (λ s. with_code service x (before s done) d q) (sym es)
 
-pub if_other_one : (service : Service) (x y z v r : Drawn) (e : Expr) (b c : Code) (o : Option Code) (n d q j : ℕ) (s : Stmt) → s ≡ If e b o → o ≡ Some c → n ≡ x.number → j ≡ length x.steps + 1 + count b + count c
+pub if_other_one : (service : Service) (x y z v r : Drawn) (e : Expr) (b c : Code) (o : Option Code) (n d q j : ℕ) (s : Stmt) → s ≡ If e b o → o ≡ Some c →
+    n ≡ x.number → j ≡ length x.steps + 1 + count b + count c
     → y ≡ with_statement x d (tests (term e)) (first_of (count b) (length x.steps + 1) j ∷ first_of (count c) (length x.steps + 1 + count b) j ∷ [])
-    → z ≡ with_block service y b d j → v ≡ with_block service z c d j → r ≡ with_step v (step n v.scope d joins (q ∷ [])) → r ≡ with_code service x (before s done) d q
+    → z ≡ with_block service y b d j → v ≡ with_block service z c d j → r ≡ with_step v (step n v.scope d joins (q ∷ [])) →
+    r ≡ with_code service x (before s done) d q
 if_other_one service x y z v r e b c o n d q j s es eo en ej ey ez ev er =
-    meets_other service x y z v r (term e) b c n d q j en ej ey ez ev er ∙ (λ i. with_code service x (before (If e b (sym eo i)) done) d q) ∙ ap (λ s. with_code service x (before s done) d q) (sym es)
+    meets_other service x y z v r (term e) b c n d q j en ej ey ez ev er ∙ (λ i. with_code service x (before (If e b (sym eo i)) done) d q)
+    ∙ ap (λ s. with_code service x (before s done) d q) (sym es)
 
 -- a loop: its head, and then its body, in this scope and so many foreachs
 looped : (service : Service) (x y z : Drawn) (a : Act) (b : Code) (sc : List Local) (d inner q h : ℕ) → h ≡ length x.steps
     → y ≡ record (with_statement x d a (first_of (count b) (length x.steps + 1) (length x.steps) ∷ q ∷ [])) { scope = sc }
     → z ≡ with_block service y b inner h
-    → z ≡ record { steps = x.steps ++ (step x.number x.scope d a (enter b (length x.steps + 1) (length x.steps) ∷ q ∷ []) ∷ (steps service b (x.number + 1) sc inner (length x.steps + 1) (length x.steps) ++ [])); number = x.number + (1 + numbered b + 0); scope = sc }
+    → z ≡ record { steps = x.steps ++ (step x.number x.scope d a
+    (enter b (length x.steps + 1) (length x.steps) ∷ q ∷ []) ∷ (steps service b (x.number + 1) sc inner (length x.steps + 1) (length x.steps) ++ [])); number =
+    x.number + (1 + numbered b + 0); scope = sc }
 unfolding with_code
 looped service x y z a b sc d inner q h eh ey ez =
     let p = length x.steps in
@@ -219,10 +242,13 @@ pub while_one : (service : Service) (x y z : Drawn) (e : Expr) (b : Code) (d q h
     → y ≡ with_statement x d (tests (term e)) (first_of (count b) (length x.steps + 1) (length x.steps) ∷ q ∷ [])
     → z ≡ with_block service y b d h → z ≡ with_code service x (before s done) d q
 unfolding with_code
-while_one service x y z e b d q h s es eh ey ez = looped service x y z (tests (term e)) b x.scope d d q h eh ey ez ∙ ap (λ s. with_code service x (before s done) d q) (sym es)
+while_one service x y z e b d q h s es eh ey ez = looped service x y z (tests (term e)) b x.scope d d q h eh ey ez
+    ∙ ap (λ s. with_code service x (before s done) d q) (sym es)
 
-pub each_one : (service : Service) (x y z r : Drawn) (w : List ℕ) (e : Expr) (b : Code) (d inner q h depth : ℕ) (s : Stmt) → s ≡ Each w e b → h ≡ length x.steps → inner ≡ d + 1
-    → y ≡ record (with_statement x d (goes_over w (term e)) (first_of (count b) (length x.steps + 1) (length x.steps) ∷ q ∷ [])) { scope = with_local x.scope w kinds.Str }
+pub each_one : (service : Service) (x y z r : Drawn) (w : List ℕ) (e : Expr) (b : Code) (d inner q h depth : ℕ) (s : Stmt) → s ≡ Each w e b →
+    h ≡ length x.steps → inner ≡ d + 1
+    → y ≡ record (with_statement x d (goes_over w (term e)) (first_of (count b) (length x.steps + 1) (length x.steps) ∷ q ∷ []))
+    { scope = with_local x.scope w kinds.Str }
     → depth ≡ length x.scope → z ≡ with_block service y b inner h → r ≡ record z { scope = take depth z.scope } → r ≡ with_code service x (before s done) d q
 unfolding with_code
 each_one service x y z r w e b d inner q h depth s es eh ei ey ed ez er =
@@ -232,7 +258,8 @@ each_one service x y z r w e b d inner q h depth s es eh ei ey ed ez er =
     ∙ ap (λ l. record (with_code service x (for_each w (term e) b done) d q) { scope = l }) (take_front x.scope (record { name = w; kind = kinds.Str } ∷ []))
     ∙ ap (λ s. with_code service x (before s done) d q) (sym es)
 
-pub block_one : (service : Service) (x z : Drawn) (b : Code) (d q : ℕ) (s : Stmt) → s ≡ Block b → z ≡ with_block service x b d q → z ≡ with_code service x (before s done) d q
+pub block_one : (service : Service) (x z : Drawn) (b : Code) (d q : ℕ) (s : Stmt) → s ≡ Block b → z ≡ with_block service x b d q →
+    z ≡ with_code service x (before s done) d q
 unfolding with_code
 block_one service x z b d q s es ez =
     let a : x.number + numbered b ≡ x.number + (numbered b + 0) = omega arith in
@@ -247,7 +274,8 @@ pub record Goes (service : Service) (x y : Drawn) (fs : List ℕ) (xs : List Ses
   pub points : y.steps ++ session_steps service (drop i xs) y.number (length y.steps) out ≡ x.steps ++ session_steps service xs x.number (length x.steps) out
   pub outside : y.scope ≡ []
 
-pub goes_next : (service : Service) (x y z : Drawn) (fs gs : List ℕ) (xs : List Session) (i out first : ℕ) (s : Session) → s ≡ get_or xs i s → i < length xs → Goes service x y fs xs i out
+pub goes_next : (service : Service) (x y z : Drawn) (fs gs : List ℕ) (xs : List Session) (i out first : ℕ) (s : Session) → s ≡ get_or xs i s → i < length xs →
+    Goes service x y fs xs i out
     → first ≡ first_of (count s.body) (length y.steps) out → z ≡ with_block service y s.body 0 out → gs ≡ fs ++ first ∷ [] → Goes service x z gs xs (i + 1) out
 unfolding with_code
 goes_next service x y z fs gs xs i out first s e h goes ef ez eg =
@@ -266,6 +294,7 @@ goes_next service x y z fs gs xs i out first s e h goes ef ez eg =
     record {
       places = (λ j. eg j ++ session_firsts rest (zl j) out) ∙ append_assoc fs (first ∷ []) firsts ∙ (λ j. fs ++ (begins j ∷ firsts))
           ∙ ap (λ l. fs ++ session_firsts l p out) (sym at) ∙ goes.places;
-      points = (λ j. zs j ++ session_steps service rest (zn j) (zl j) out) ∙ append_assoc y.steps ss more ∙ ap (λ l. y.steps ++ session_steps service l y.number p out) (sym at) ∙ goes.points;
+      points = (λ j. zs j ++ session_steps service rest (zn j) (zl j) out) ∙ append_assoc y.steps ss more
+      ∙ ap (λ l. y.steps ++ session_steps service l y.number p out) (sym at) ∙ goes.points;
       outside = ap (λ (w : Drawn). w.scope) ez ∙ goes.outside;
     }

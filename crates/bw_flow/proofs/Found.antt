@@ -1,15 +1,14 @@
 -- Finding a statement's point.
-use Rattle.std.proofs.Common.{◌≡◌, ◌⊎◌, ℕ, zero, suc, ◌+◌, ◌<◌, ◌≤◌, Bool, true, false, cond, List, [], ◌∷◌, ◌++◌, length, refl, ap, sym, ◌∙◌, subst, inl, inr, arith, Option, Some, None}
-use Rattle.std.specs.Prelude.{slice_get, position, not, ◌&&◌, nat_eq, nat_lt}
+use Rattle.std.proofs.Common.{◌≡◌, ◌⊎◌, ℕ, zero, suc, ◌+◌, ◌<◌, ◌≤◌, Bool, true, false, cond, List, [], ◌∷◌, length, refl, ap, sym, ◌∙◌, subst, inl, inr, arith}
+use Rattle.std.proofs.Common.{Some, None}
+use Rattle.std.specs.Prelude.{slice_get, not, ◌&&◌, nat_eq, nat_lt}
 use Rattle.std.specs.List.{position_or_len}
 use Rattle.std.proofs.lemmas.Bool.Decides.{nat_tests}
-use Rattle.bw_lang.specs.declared.service.Session.{Session}
 use Rattle.bw_flow.specs.Flows.{is_join, is_statement}
 use Rattle.bw_flow.specs.Layout.{points, session_steps}
-use Rattle.bw_flow.specs.Stands.{IsAt}
 use Rattle.bw_flow.specs.Numbers.{numbers_of, numbers_from, FindsEach}
 use Rattle.bw_flow.specs.Steps.{Step}
-use Rattle.bw_flow.proofs.Names.{either}
+use Rattle.bw_flow.proofs.Parts.{either}
 use Rattle.bw_flow.proofs.Parts.{sizes, sizes_are}
 use Rattle.bw_flow.proofs.Numbered.{first_taken, numbers_skip, sessions_in_order}
 use Rattle.bw_flow.proofs.Spots.{Within, sessions_within}
@@ -27,7 +26,8 @@ first_there : (f : Step → Bool) (xs : List Step) → position_or_len f xs < le
 first_there f [] h = absurd (omega arith)
 first_there f (x ∷ xs) h = by (f x) refl (first_there f xs) h
   where
-    by : (b : Bool) → f x ≡ b → (position_or_len f xs < length xs → There f xs (position_or_len f xs)) → cond (not b) (1 + position_or_len f xs) 0 < length (x ∷ xs) → There f (x ∷ xs) (cond (not b) (1 + position_or_len f xs) 0)
+    by : (b : Bool) → f x ≡ b → (position_or_len f xs < length xs → There f xs (position_or_len f xs)) →
+        cond (not b) (1 + position_or_len f xs) 0 < length (x ∷ xs) → There f (x ∷ xs) (cond (not b) (1 + position_or_len f xs) 0)
     by true e go l = (x, refl, e)
     by false e go l = there_behind f x xs (position_or_len f xs) (go (omega arith))
 
@@ -86,12 +86,14 @@ number_there (x ∷ xs) n m k h l u = by (either (is_join x.act)) (number_there 
     behind r = (suc r.0, r.1)
 
     rest : (r : ℕ) → x.number ≡ n → numbers_of xs ≡ numbers_from (n + 1) r → is_join x.act ≡ false → (n ≡ k) ⊎ (n + 1 ≤ k) → k < n + 1 + r
-        → ((r : ℕ) → numbers_of xs ≡ numbers_from (n + 1) r → n + 1 ≤ k → k < n + 1 + r → (i : ℕ) × There (is_statement k) xs i) → (i : ℕ) × There (is_statement k) (x ∷ xs) i
+        → ((r : ℕ) → numbers_of xs ≡ numbers_from (n + 1) r → n + 1 ≤ k → k < n + 1 + r → (i : ℕ) × There (is_statement k) xs i) →
+        (i : ℕ) × There (is_statement k) (x ∷ xs) i
     rest r e service j (inl same) v past = (0, (x, refl, is_one x k (e ∙ same) j))
     rest r e service j (inr more) v past = behind (past r service more v)
 
     by : (is_join x.act ≡ true) ⊎ (is_join x.act ≡ false) → (numbers_of xs ≡ numbers_from n m → n ≤ k → k < n + m → (i : ℕ) × There (is_statement k) xs i)
-        → ((r : ℕ) → numbers_of xs ≡ numbers_from (n + 1) r → n + 1 ≤ k → k < n + 1 + r → (i : ℕ) × There (is_statement k) xs i) → (i : ℕ) × There (is_statement k) (x ∷ xs) i
+        → ((r : ℕ) → numbers_of xs ≡ numbers_from (n + 1) r → n + 1 ≤ k → k < n + 1 + r → (i : ℕ) × There (is_statement k) xs i) →
+        (i : ℕ) × There (is_statement k) (x ∷ xs) i
     by (inl j) skip past = behind (skip (sym (numbers_skip x xs j) ∙ h) l u)
     by (inr j) skip past =
         let r = first_taken x xs n m h j in rest r.0 r.1 r.2 j (same_or_more n k l) (let e = r.3 in omega arith) past

@@ -1,31 +1,25 @@
 -- What points give to variables is of their kinds.
-use Rattle.std.proofs.Common.{◌≡◌, ◌⊎◌, ℕ, zero, suc, Bool, true, false, cond, List, [], ◌∷◌, ◌++◌, map, length, Some, None, Option, refl, ap, sym, ◌∙◌, subst, inl, inr}
+use Rattle.std.proofs.Common.{◌≡◌, ◌⊎◌, ℕ, zero, suc, Bool, true, false, cond, List, [], ◌∷◌, ◌++◌, length, Some, None, Option, refl, ap, sym, ◌∙◌, subst, inl}
+use Rattle.std.proofs.Common.{inr}
 use Rattle.std.specs.Prelude.{slice_get, find}
-use Rattle.std.specs.List.{All}
 use Rattle.std.specs.Option.{option_map, option_or}
 use Rattle.std.specs.Cmp.Lexicographic.{same_text}
 use Rattle.std.proofs.lemmas.Cmp.{nat_list_eq_equiv}
 use Rattle.std.proofs.lemmas.List.Elements.{All-weaker}
 use Rattle.bw_lang.specs.declared.service.Service.{Service}
-use Rattle.bw_lang.specs.declared.service.Shared.{Shared}
 use Rattle.bw_lang.specs.declared.stmt.Kind.{Kind}
-use Rattle.bw_lang.specs.declared.stmt.Kind.TheVariants as kinds
 use Rattle.bw_lang.specs.Names.{same}
 use Rattle.bw_types.specs.Scopes.{shared_kind}
-use Rattle.bw_types.specs.Typing.{IsTypedService}
 use Rattle.bw_flow.specs.declared.point.Local.{Local}
-use Rattle.bw_flow.specs.declared.point.Received.{Received}
 use Rattle.bw_flow.specs.Layout.{points, plan_of}
-use Rattle.bw_flow.specs.Places.{Among}
 use Rattle.bw_flow.specs.Scopes.{kind_in}
 use Rattle.bw_flow.specs.Stands.{IsAt}
 use Rattle.bw_flow.specs.Steps.{Act, sets, tests, goes_over, shows, exits, joins, Step}
-use Rattle.bw_flow.specs.TypedFlow.{kind_at, HasKindAt, AreNames, IsTypedReceive, IsTypedAct, BringsIn, Follows, IsGivenOf, Leaves, IsTypedFlow, FlowsAreTyped}
-use Rattle.bw_flow.specs.Woven.{IsWoven}
+use Rattle.bw_flow.specs.TypedFlow.{kind_at, HasKindAt, AreNames, IsTypedReceive, IsTypedAct, BringsIn, Follows, IsGivenOf, Leaves, FlowsAreTyped}
 use Rattle.bw_flow.proofs.Names.{kind_in_is, push_cases, shared_is}
 use Rattle.bw_flow.proofs.Parts.{holds_self}
 use Rattle.bw_flow.proofs.Stands.{length_sessions}
-use Rattle.bw_flow.proofs.Typed.{GoesWell, AllGoWell, goes_well_at, sessions_typed}
+use Rattle.bw_flow.proofs.Typed.{AllGoWell, goes_well_at, sessions_typed}
 
 exact : (x y : List ℕ) → same x y ≡ true → x ≡ y
 exact x y e = same_text x y (sym e)
@@ -62,8 +56,10 @@ given_new service l x joins b = tt
 
 -- a local that is brought in is not left alone
 brought_or_left : {A : Type 0} (service : Service) (l : Local) (scope : List Local) (act : Act) → BringsIn service scope act l → Leaves l.name act → A
-brought_or_left service l scope (sets v e) b h = absurd (let r = nat_list_eq_equiv.refl l.name in let s : same v l.name ≡ true = ap (λ z. same z l.name) (sym b.0) ∙ r in cc)
-brought_or_left service l scope (goes_over v e) b h = absurd (let r = nat_list_eq_equiv.refl l.name in let s : same v l.name ≡ true = ap (λ z. same z l.name) (sym b.0) ∙ r in cc)
+brought_or_left service l scope (sets v e) b h =
+    absurd (let r = nat_list_eq_equiv.refl l.name in let s : same v l.name ≡ true = ap (λ z. same z l.name) (sym b.0) ∙ r in cc)
+brought_or_left service l scope (goes_over v e) b h =
+    absurd (let r = nat_list_eq_equiv.refl l.name in let s : same v l.name ≡ true = ap (λ z. same z l.name) (sym b.0) ∙ r in cc)
 brought_or_left service l scope (tests e) b h = absurd b
 brought_or_left service l scope (shows e rs) b h = absurd b
 brought_or_left service l scope (exits e) b h = absurd b
@@ -86,7 +82,8 @@ before_or_brought service x y i l (gone, inr (m, b, e)) h = by (push_cases x.sco
     by (inl a) = inl a
     by (inr a) = inr (subst (λ z. BringsIn service x.scope x.act z) a b)
 
-local_at : (service : Service) (scope : List Local) (i : ℕ) (l : Local) → AreNames service scope → slice_get scope i ≡ Some l → kind_at service scope l.name ≡ Some l.kind
+local_at : (service : Service) (scope : List Local) (i : ℕ) (l : Local) → AreNames service scope → slice_get scope i ≡ Some l →
+    kind_at service scope l.name ≡ Some l.kind
 local_at service scope i l names h = ap (λ o. option_or o (shared_kind service l.name)) (kind_in_is scope l.name ∙ names.found i l h)
 
 local_given : (service : Service) (x : Step) (i : ℕ) (l : Local) → AreNames service x.scope → IsTypedAct service x.scope x.act
@@ -121,7 +118,8 @@ no_local service scope w k names e = by (kind_in scope w) refl
         let r = kind_found scope w j h in
         no_kind (shared_kind service w) k e (ap (shared_kind service) (sym r.3) ∙ names.apart r.0 r.1 r.2)
 
-shared_at : (service : Service) (scope : List Local) (w : List ℕ) (k : Kind) → AreNames service scope → shared_kind service w ≡ Some k → kind_at service scope w ≡ Some k
+shared_at : (service : Service) (scope : List Local) (w : List ℕ) (k : Kind) → AreNames service scope → shared_kind service w ≡ Some k →
+    kind_at service scope w ≡ Some k
 shared_at service scope w k names e = ap (λ o. option_or o (shared_kind service w)) (kind_in_is scope w ∙ no_local service scope w k names e) ∙ e
 
 -- ---- the flow
@@ -148,5 +146,6 @@ flows_are_typed service woven t =
       kept = λ p q i x y l at there h e k.
           let g = well p x at in local_kept service x i l g.names (before_or_brought service x y i l (g.follows q y h there) e) k;
       shared = λ p j x v at e.
-          let g = well p x at in given_known service v.name v.kind x x.act (shared_at service x.scope v.name v.kind g.names (shared_is service woven t j v e)) g.acts;
+          let g = well p x at in given_known service v.name v.kind x x.act (shared_at service x.scope v.name v.kind g.names (shared_is service woven t j v e))
+          g.acts;
     }

@@ -1,24 +1,19 @@
 -- From a join to a join places rise.
-use Rattle.std.proofs.Common.{◌≡◌, ◌⊎◌, ℕ, zero, suc, ◌+◌, ◌<◌, ◌≤◌, Bool, true, false, List, [], ◌∷◌, ◌++◌, length, refl, ap, sym, ◌∙◌, subst, inl, inr, arith, append_assoc, Option, Some, None}
-use Rattle.std.specs.Prelude.{slice_get, if◌then◌else◌}
-use Rattle.std.proofs.lemmas.List.{append-nil, length-append}
+use Rattle.std.proofs.Common.{◌≡◌, ◌⊎◌, ℕ, zero, suc, ◌+◌, ◌<◌, ◌≤◌, true, false, List, [], ◌∷◌, ◌++◌, length, ap, sym, subst, inl, inr, arith, Some, None}
+use Rattle.std.specs.Prelude.{slice_get}
 use Rattle.bw_lang.specs.declared.service.Session.{Session}
 use Rattle.bw_lang.specs.declared.stmt.Kind.TheVariants as kinds
 use Rattle.bw_lang.specs.Code.{Code, done, declare, assign, if_then, if_else, while_loop, for_each, block, show, exit, numbered}
 use Rattle.bw_lang.specs.declared.service.Service.{Service}
-use Rattle.bw_lang.specs.Numbers.{statements}
 use Rattle.bw_flow.specs.declared.point.Local.{Local}
 use Rattle.bw_flow.specs.Drafts.{first_of}
 use Rattle.bw_flow.specs.Flows.{is_join}
-use Rattle.bw_flow.specs.Layout.{count, enter, step, steps, receives, points, session_steps, session_firsts}
+use Rattle.bw_flow.specs.Layout.{count, enter, step, steps, points, session_steps}
 use Rattle.bw_flow.specs.Scopes.{with_local}
-use Rattle.bw_flow.specs.Steps.{Act, sets, tests, goes_over, shows, exits, joins, Step}
-use Rattle.bw_flow.specs.Stands.{IsAt, Lowered, AllLowered, StandsForAll}
-use Rattle.bw_flow.specs.Places.{join_of, JoinsRise, AllJoinsRise}
-use Rattle.bw_flow.specs.Numbers.{numbers_of, numbers_from, StatementsInOrder, HasNumbers, AllHaveNumbers}
+use Rattle.bw_flow.specs.Steps.{joins, Step}
+use Rattle.bw_flow.specs.Places.{join_of, AllJoinsRise}
 use Rattle.bw_flow.proofs.Layouts.{first_of_is, length_steps}
 use Rattle.bw_flow.proofs.Parts.{Holds, holds_at, holds_parts, holds_self}
-use Rattle.bw_flow.proofs.Stands.{length_sessions}
 use Rattle.bw_flow.proofs.Numbered.{cons_head}
 
 -- q is the end of these points or behind it, or no join stands there
@@ -61,12 +56,16 @@ pub never : {A : Type 0} → false ≡ true → A
 never e = absurd (cc)
 
 join_rises : (flow : List Step) (p q n : ℕ) (sc : List Local) (d : ℕ) → Ok flow (p + 1) q → Rises flow p (step n sc d joins (q ∷ []))
-join_rises flow p q n sc d ok r b e = let f : q ≡ r = (cons_head q r [] [] e).0 in subst (λ m. (p < m) ⊎ (join_of (slice_get flow m) ≡ false)) f (rises_at flow p q ok)
+join_rises flow p q n sc d ok r b e = let f : q ≡ r = (cons_head q r [] [] e).0 in
+    subst (λ m. (p < m) ⊎ (join_of (slice_get flow m) ≡ false)) f (rises_at flow p q ok)
 
-rises : (service : Service) (flow : List Step) (c : Code) (n : ℕ) (sc : List Local) (d p q : ℕ) → Holds flow p (steps service c n sc d p q) → Ok flow (p + count c) q → EachRises flow p (steps service c n sc d p q)
+rises : (service : Service) (flow : List Step) (c : Code) (n : ℕ) (sc : List Local) (d p q : ℕ) → Holds flow p (steps service c n sc d p q) →
+    Ok flow (p + count c) q → EachRises flow p (steps service c n sc d p q)
 rises service flow done n sc d p q h ok = tt
-rises service flow (declare k w e rest) n sc d p q h ok = (λ r b e. never b, rises service flow rest (n + 1) (with_local sc w k) d (p + 1) q h.1 (ok_at flow _ _ q (omega arith) ok))
-rises service flow (assign w e rest) n sc d p q h ok = (λ r b e. never b, rises service flow rest (n + 1) sc d (p + 1) q h.1 (ok_at flow _ _ q (omega arith) ok))
+rises service flow (declare k w e rest) n sc d p q h ok =
+    (λ r b e. never b, rises service flow rest (n + 1) (with_local sc w k) d (p + 1) q h.1 (ok_at flow _ _ q (omega arith) ok))
+rises service flow (assign w e rest) n sc d p q h ok =
+    (λ r b e. never b, rises service flow rest (n + 1) sc d (p + 1) q h.1 (ok_at flow _ _ q (omega arith) ok))
 rises service flow (if_then e y rest) n sc d p q h ok =
     let join = p + 1 + count y in
     let ys = steps service y (n + 1) sc d (p + 1) join in
@@ -104,7 +103,8 @@ rises service flow (while_loop e y rest) n sc d p q h ok =
     let a = holds_parts flow (p + 1) ys more h.1 in
     let b = holds_at flow (p + 1 + length ys) behind more l a.1 in
     let one = rises service flow y (n + 1) sc d (p + 1) p a.0 (inr (ap join_of h.0)) in
-    let two = rises service flow rest (n + 1 + numbered y) sc d behind q b (ok_at flow (p + (1 + count y + count rest)) (behind + count rest) q (omega arith) ok) in
+    let two = rises service flow rest (n + 1 + numbered y) sc d behind q b
+    (ok_at flow (p + (1 + count y + count rest)) (behind + count rest) q (omega arith) ok) in
     (λ r b e. never b, each_parts flow (p + 1) ys more one (subst (λ m. EachRises flow m more) (sym l) two))
 rises service flow (for_each w e y rest) n sc d p q h ok =
     let behind = p + 1 + count y in let inner = with_local sc w kinds.Str in
@@ -114,7 +114,8 @@ rises service flow (for_each w e y rest) n sc d p q h ok =
     let a = holds_parts flow (p + 1) ys more h.1 in
     let b = holds_at flow (p + 1 + length ys) behind more l a.1 in
     let one = rises service flow y (n + 1) inner (d + 1) (p + 1) p a.0 (inr (ap join_of h.0)) in
-    let two = rises service flow rest (n + 1 + numbered y) sc d behind q b (ok_at flow (p + (1 + count y + count rest)) (behind + count rest) q (omega arith) ok) in
+    let two = rises service flow rest (n + 1 + numbered y) sc d behind q b
+    (ok_at flow (p + (1 + count y + count rest)) (behind + count rest) q (omega arith) ok) in
     (λ r b e. never b, each_parts flow (p + 1) ys more one (subst (λ m. EachRises flow m more) (sym l) two))
 rises service flow (block y rest) n sc d p q h ok =
     let behind = p + count y in let r = enter rest behind q in
@@ -130,7 +131,8 @@ rises service flow (block y rest) n sc d p q h ok =
 rises service flow (show e rs rest) n sc d p q h ok = (λ r b e. never b, rises service flow rest (n + 1) sc d (p + 1) q h.1 (ok_at flow _ _ q (omega arith) ok))
 rises service flow (exit e rest) n sc d p q h ok = (λ r b e. never b, rises service flow rest (n + 1) sc d (p + 1) q h.1 (ok_at flow _ _ q (omega arith) ok))
 
-sessions_rise : (service : Service) (flow : List Step) (ss : List Session) (n p out : ℕ) → p + points ss ≤ out → Holds flow p (session_steps service ss n p out) → EachRises flow p (session_steps service ss n p out)
+sessions_rise : (service : Service) (flow : List Step) (ss : List Session) (n p out : ℕ) → p + points ss ≤ out →
+    Holds flow p (session_steps service ss n p out) → EachRises flow p (session_steps service ss n p out)
 sessions_rise service flow [] n p out le h = tt
 sessions_rise service flow (s ∷ ss) n p out le h =
     let body = steps service s.body n [] 0 p out in

@@ -10,7 +10,7 @@ use Rattle.bw_lang.specs.TermView.{term}
 use Rattle.bw_lang.specs.declared.service.Service.{Service}
 use Rattle.bw_flow.specs.declared.point.Local.{Local}
 use Rattle.bw_flow.specs.Scopes.{with_local}
-use Rattle.bw_flow.specs.Steps.{Act, sets, tests, goes_over, shows, exits, joins, Step}
+use Rattle.bw_flow.specs.Steps.{sets, tests, goes_over, shows, exits, joins, Step}
 use Rattle.bw_flow.specs.Layout.{count, enter, after, step, steps, receives}
 use Rattle.bw_flow.specs.Drafts.{first_of}
 
@@ -32,7 +32,8 @@ first_of_is (if_then e y rest) p q = begins_here _ p q (omega arith)
 first_of_is (if_else e y o rest) p q = begins_here _ p q (omega arith)
 first_of_is (while_loop e b rest) p q = begins_here _ p q (omega arith)
 first_of_is (for_each w e b rest) p q = begins_here _ p q (omega arith)
-first_of_is (block b rest) p q = begins_later (count b) (count rest) p q ∙ ap (first_of (count b) p) (first_of_is rest (p + count b) q) ∙ first_of_is b p (enter rest (p + count b) q)
+first_of_is (block b rest) p q = begins_later (count b) (count rest) p q ∙ ap (first_of (count b) p) (first_of_is rest (p + count b) q)
+    ∙ first_of_is b p (enter rest (p + count b) q)
 first_of_is (show e rs rest) p q = begins_here _ p q (omega arith)
 first_of_is (exit e rest) p q = begins_here _ p q (omega arith)
 
@@ -55,16 +56,20 @@ length_steps service (if_else e y o rest) n sc d p q =
     let ys = steps service y (n + 1) sc d (p + 1) join in
     let os = steps service o (n + 1 + numbered y) sc d other join in
     let more = step n sc d joins (enter rest (join + 1) q ∷ []) ∷ steps service rest (n + 1 + numbered y + numbered o) sc d (join + 1) q in
-    omega (arith, length-append ys (os ++ more), length-append os more, length_steps service y (n + 1) sc d (p + 1) join, length_steps service o (n + 1 + numbered y) sc d other join, length_steps service rest (n + 1 + numbered y + numbered o) sc d (join + 1) q)
+    omega (arith, length-append ys (os ++ more), length-append os more, length_steps service y (n + 1) sc d (p + 1) join,
+    length_steps service o (n + 1 + numbered y) sc d other join, length_steps service rest (n + 1 + numbered y + numbered o) sc d (join + 1) q)
 length_steps service (while_loop e b rest) n sc d p q =
     let behind = p + 1 + count b in
-    omega (arith, length-append (steps service b (n + 1) sc d (p + 1) p) (steps service rest (n + 1 + numbered b) sc d behind q), length_steps service b (n + 1) sc d (p + 1) p, length_steps service rest (n + 1 + numbered b) sc d behind q)
+    omega (arith, length-append (steps service b (n + 1) sc d (p + 1) p) (steps service rest (n + 1 + numbered b) sc d behind q),
+    length_steps service b (n + 1) sc d (p + 1) p, length_steps service rest (n + 1 + numbered b) sc d behind q)
 length_steps service (for_each w e b rest) n sc d p q =
     let behind = p + 1 + count b in let inner = with_local sc w kinds.Str in
-    omega (arith, length-append (steps service b (n + 1) inner (d + 1) (p + 1) p) (steps service rest (n + 1 + numbered b) sc d behind q), length_steps service b (n + 1) inner (d + 1) (p + 1) p, length_steps service rest (n + 1 + numbered b) sc d behind q)
+    omega (arith, length-append (steps service b (n + 1) inner (d + 1) (p + 1) p) (steps service rest (n + 1 + numbered b) sc d behind q),
+    length_steps service b (n + 1) inner (d + 1) (p + 1) p, length_steps service rest (n + 1 + numbered b) sc d behind q)
 length_steps service (block b rest) n sc d p q =
     let r = enter rest (p + count b) q in
-    omega (arith, length-append (steps service b n sc d p r) (steps service rest (n + numbered b) sc d (p + count b) q), length_steps service b n sc d p r, length_steps service rest (n + numbered b) sc d (p + count b) q)
+    omega (arith, length-append (steps service b n sc d p r) (steps service rest (n + numbered b) sc d (p + count b) q), length_steps service b n sc d p r,
+    length_steps service rest (n + numbered b) sc d (p + count b) q)
 length_steps service (show e rs rest) n sc d p q = omega (arith, length_steps service rest (n + 1) sc d (p + 1) q)
 length_steps service (exit e rest) n sc d p q = omega (arith, length_steps service rest (n + 1) sc d (p + 1) q)
 
@@ -105,10 +110,13 @@ glue_block : (ys r : List Step) → ys ++ r ≡ (ys ++ []) ++ r
 glue_block ys r = ap (λ l. l ++ r) (sym (append-nil ys))
 
 -- The points of a statement, and then those behind it, which stand from place m on with the numbers from k on.
-pub steps_before : (service : Service) (s : Stmt) (c : Code) (n : ℕ) (sc : List Local) (d p q m k : ℕ) → m ≡ p + count (before s done) → k ≡ n + numbered (before s done)
+pub steps_before : (service : Service) (s : Stmt) (c : Code) (n : ℕ) (sc : List Local) (d p q m k : ℕ) → m ≡ p + count (before s done) →
+    k ≡ n + numbered (before s done)
     → steps service (before s c) n sc d p q ≡ steps service (before s done) n sc d p (enter c m q) ++ steps service c k (after (before s done) sc) d m q
-steps_before service (Declare kind w e) c n sc d p q m k em ek = λ i. step n sc d (sets w (term e)) (enter c (sym em i) q ∷ []) ∷ steps service c (sym ek i) (with_local sc w kind) d (sym em i) q
-steps_before service (Assign w e) c n sc d p q m k em ek = λ i. step n sc d (sets w (term e)) (enter c (sym em i) q ∷ []) ∷ steps service c (sym ek i) sc d (sym em i) q
+steps_before service (Declare kind w e) c n sc d p q m k em ek = λ i.
+    step n sc d (sets w (term e)) (enter c (sym em i) q ∷ []) ∷ steps service c (sym ek i) (with_local sc w kind) d (sym em i) q
+steps_before service (Assign w e) c n sc d p q m k em ek = λ i.
+    step n sc d (sets w (term e)) (enter c (sym em i) q ∷ []) ∷ steps service c (sym ek i) sc d (sym em i) q
 steps_before service (If e y None) c n sc d p q m k em ek =
     let join = p + 1 + count y in
     let a : join + 1 ≡ m = omega arith in

@@ -1,16 +1,16 @@
 -- What comes next in the flow is what the statements say.
-use Rattle.std.proofs.Common.{◌≡◌, ℕ, zero, suc, ◌+◌, ◌≤◌, List, [], ◌∷◌, ◌++◌, length, refl, ap, sym, ◌∙◌, arith, append_assoc, Option, Some, None}
+use Rattle.std.proofs.Common.{◌≡◌, ℕ, ◌+◌, List, [], ◌∷◌, ◌++◌, length, refl, ap, sym, ◌∙◌, append_assoc, Option, Some, None}
 use Rattle.std.specs.Prelude.{slice_get, option_map}
-use Rattle.std.proofs.lemmas.List.{append-nil, length-append}
+use Rattle.std.proofs.lemmas.List.{append-nil}
 use Rattle.bw_lang.specs.declared.service.Session.{Session}
 use Rattle.bw_lang.specs.declared.stmt.Kind.TheVariants as kinds
 use Rattle.bw_lang.specs.Code.{Code, done, declare, assign, if_then, if_else, while_loop, for_each, block, show, exit, numbered}
 use Rattle.bw_lang.specs.declared.service.Service.{Service}
 use Rattle.bw_flow.specs.declared.point.Local.{Local}
-use Rattle.bw_flow.specs.Layout.{count, enter, step, steps, receives, points, session_steps}
+use Rattle.bw_flow.specs.Layout.{count, enter, step, steps, points, session_steps}
 use Rattle.bw_flow.specs.Leads.{Spot, statement, meeting, starts, from, leads, service_leads, spot_of, spot_at, from_to, nexts, LeadsAgree}
 use Rattle.bw_flow.specs.Scopes.{with_local}
-use Rattle.bw_flow.specs.Steps.{Act, sets, tests, goes_over, shows, exits, joins, Step}
+use Rattle.bw_flow.specs.Steps.{joins, Step}
 use Rattle.bw_flow.proofs.Layouts.{length_steps}
 use Rattle.bw_flow.proofs.Parts.{Holds, holds_at, holds_parts, holds_self}
 use Rattle.bw_flow.proofs.Stands.{length_sessions}
@@ -18,7 +18,8 @@ use Rattle.bw_flow.proofs.Stands.{length_sessions}
 nexts_parts : (flow xs ys : List Step) → nexts flow (xs ++ ys) ≡ nexts flow xs ++ nexts flow ys
 nexts_parts flow [] ys = refl
 nexts_parts flow (x ∷ xs) ys =
-    ap (λ l. from_to flow (spot_of x) x.next ++ l) (nexts_parts flow xs ys) ∙ sym (append_assoc (from_to flow (spot_of x) x.next) (nexts flow xs) (nexts flow ys))
+    ap (λ l. from_to flow (spot_of x) x.next ++ l) (nexts_parts flow xs ys)
+    ∙ sym (append_assoc (from_to flow (spot_of x) x.next) (nexts flow xs) (nexts flow ys))
 
 to_one : (flow : List Step) (a : Spot) (q : ℕ) → from_to flow a (q ∷ []) ≡ from a (spot_at flow q)
 to_one flow a q = append-nil (from a (spot_at flow q))
@@ -27,7 +28,8 @@ to_two : (flow : List Step) (a : Spot) (q r : ℕ) → from_to flow a (q ∷ r �
 to_two flow a q r = ap (λ l. from a (spot_at flow q) ++ l) (append-nil (from a (spot_at flow r)))
 
 -- where statements begin in the flow is where they begin
-begins : (service : Service) (flow : List Step) (c : Code) (n : ℕ) (sc : List Local) (d p q : ℕ) → Holds flow p (steps service c n sc d p q) → spot_at flow (enter c p q) ≡ starts c n (spot_at flow q)
+begins : (service : Service) (flow : List Step) (c : Code) (n : ℕ) (sc : List Local) (d p q : ℕ) → Holds flow p (steps service c n sc d p q) →
+    spot_at flow (enter c p q) ≡ starts c n (spot_at flow q)
 begins service flow done n sc d p q h = refl
 begins service flow (declare k w e rest) n sc d p q h = ap (option_map spot_of) h.0
 begins service flow (assign w e rest) n sc d p q h = ap (option_map spot_of) h.0
@@ -45,7 +47,8 @@ begins service flow (block y rest) n sc d p q h =
 begins service flow (show e rs rest) n sc d p q h = ap (option_map spot_of) h.0
 begins service flow (exit e rest) n sc d p q h = ap (option_map spot_of) h.0
 
-agree : (service : Service) (flow : List Step) (c : Code) (n : ℕ) (sc : List Local) (d p q : ℕ) (Q : Option Spot) → Holds flow p (steps service c n sc d p q) → spot_at flow q ≡ Q → nexts flow (steps service c n sc d p q) ≡ leads c n Q
+agree : (service : Service) (flow : List Step) (c : Code) (n : ℕ) (sc : List Local) (d p q : ℕ) (Q : Option Spot) → Holds flow p (steps service c n sc d p q) →
+    spot_at flow q ≡ Q → nexts flow (steps service c n sc d p q) ≡ leads c n Q
 agree service flow done n sc d p q Q h e = refl
 agree service flow (declare k w v rest) n sc d p q Q h e =
     let inner = with_local sc w k in
@@ -76,7 +79,8 @@ agree service flow (if_else v y o rest) n sc d p q Q h e =
     let os = steps service o k sc d other join in
     let more = step n sc d joins (enter rest (join + 1) q ∷ []) ∷ steps service rest m sc d (join + 1) q in
     let a = holds_parts flow (p + 1) ys (os ++ more) h.1 in
-    let b = holds_parts flow other os more (holds_at flow (p + 1 + length ys) other (os ++ more) (ap (λ l. p + 1 + l) (length_steps service y (n + 1) sc d (p + 1) join)) a.1) in
+    let b = holds_parts flow other os more (holds_at flow (p + 1 + length ys) other (os ++ more)
+    (ap (λ l. p + 1 + l) (length_steps service y (n + 1) sc d (p + 1) join)) a.1) in
     let c = holds_at flow (other + length os) join more (ap (λ l. other + l) (length_steps service o k sc d other join)) b.1 in
     let js : spot_at flow join ≡ J = ap (option_map spot_of) c.0 in
     let by = begins service flow y (n + 1) sc d (p + 1) join a.0 ∙ ap (starts y (n + 1)) js in
@@ -87,7 +91,8 @@ agree service flow (if_else v y o rest) n sc d p q Q h e =
     let ay = agree service flow y (n + 1) sc d (p + 1) join J a.0 js in
     let ao = agree service flow o k sc d other join J b.0 js in
     let ar = agree service flow rest m sc d (join + 1) q Q c.1 e in
-    (λ i. two i ++ nexts_parts flow ys (os ++ more) i) ∙ (λ i. (from (statement n) (starts y (n + 1) J) ++ from (statement n) (starts o k J)) ++ (ay i ++ nexts_parts flow os more i))
+    (λ i. two i ++ nexts_parts flow ys (os ++ more) i)
+    ∙ (λ i. (from (statement n) (starts y (n + 1) J) ++ from (statement n) (starts o k J)) ++ (ay i ++ nexts_parts flow os more i))
     ∙ (λ i. (from (statement n) (starts y (n + 1) J) ++ from (statement n) (starts o k J)) ++ (leads y (n + 1) J ++ (ao i ++ (one i ++ ar i))))
 agree service flow (while_loop v y rest) n sc d p q Q h e =
     let behind = p + 1 + count y in let m = n + 1 + numbered y in let H = Some (statement n) in
@@ -129,14 +134,16 @@ agree service flow (show v rs rest) n sc d p q Q h e =
     λ i. o i ++ agree service flow rest (n + 1) sc d (p + 1) q Q h.1 e i
 agree service flow (exit v rest) n sc d p q Q h e = agree service flow rest (n + 1) sc d (p + 1) q Q h.1 e
 
-sessions_agree : (service : Service) (flow : List Step) (ss : List Session) (n p out : ℕ) → spot_at flow out ≡ None → Holds flow p (session_steps service ss n p out) → nexts flow (session_steps service ss n p out) ≡ service_leads ss n
+sessions_agree : (service : Service) (flow : List Step) (ss : List Session) (n p out : ℕ) → spot_at flow out ≡ None →
+    Holds flow p (session_steps service ss n p out) → nexts flow (session_steps service ss n p out) ≡ service_leads ss n
 sessions_agree service flow [] n p out e h = refl
 sessions_agree service flow (s ∷ ss) n p out e h =
     let body = steps service s.body n [] 0 p out in
     let more = session_steps service ss (n + numbered s.body) (p + count s.body) out in
     let a = holds_parts flow p body more h in
     let b = holds_at flow (p + length body) (p + count s.body) more (ap (λ l. p + l) (length_steps service s.body n [] 0 p out)) a.1 in
-    nexts_parts flow body more ∙ (λ i. agree service flow s.body n [] 0 p out None a.0 e i ++ sessions_agree service flow ss (n + numbered s.body) (p + count s.body) out e b i)
+    nexts_parts flow body more ∙ (λ i. agree service flow s.body n [] 0 p out None a.0 e i ++ sessions_agree service flow ss (n + numbered s.body)
+    (p + count s.body) out e b i)
 
 past_end : (xs : List Step) → slice_get xs (length xs) ≡ None
 past_end [] = refl

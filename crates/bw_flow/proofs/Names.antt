@@ -1,5 +1,6 @@
 -- What names stand for at a point.
-use Rattle.std.proofs.Common.{◌≡◌, ◌⊎◌, ℕ, zero, suc, ◌+◌, ◌<◌, Bool, true, false, cond, List, [], ◌∷◌, ◌++◌, map, length, Option, Some, None, refl, sym, ap, ◌∙◌, subst, inl, inr, arith}
+use Rattle.std.proofs.Common.{◌≡◌, ◌⊎◌, ℕ, zero, suc, Bool, true, false, cond, List, [], ◌∷◌, ◌++◌, map, Option, Some, None, refl, sym, ap, ◌∙◌, subst, inl}
+use Rattle.std.proofs.Common.{inr, arith}
 use Rattle.std.specs.Prelude.{◌≢◌, slice_get, find, if◌then◌else◌}
 use Rattle.std.specs.List.{AllPairs, Contains}
 use Rattle.std.specs.Option.{option_map, option_or}
@@ -11,14 +12,13 @@ use Rattle.bw_lang.specs.declared.declaration.Declaration.TheVariants as declara
 use Rattle.bw_lang.specs.declared.service.Service.{Service}
 use Rattle.bw_lang.specs.declared.service.Shared.{Shared}
 use Rattle.bw_lang.specs.declared.stmt.Kind.{Kind}
-use Rattle.bw_lang.specs.Code.{Code}
-use Rattle.bw_lang.specs.CodeNames.{local_names}
 use Rattle.bw_lang.specs.Names.{same, beside}
 use Rattle.bw_lang.specs.Order.{declarations_of}
 use Rattle.bw_lang.specs.Sorted.{shared_of}
 use Rattle.bw_lang.specs.Term.{Term, int, truth, string, name, nothing, paren, not, neg, binary, call, plug, Fillings, no_more, filling}
-use Rattle.bw_types.specs.Scopes.{Scope, no_locals, name_of, declared_names, shared_kind, variable_kind, template_kind, name_kind, with_local, behind, behind_each}
+use Rattle.bw_types.specs.Scopes.{Scope, no_locals, name_of, declared_names, shared_kind, variable_kind, template_kind, name_kind, with_local}
 use Rattle.bw_types.specs.Typing.{HasKind, AreTyped, IsNew, IsTypedService}
+use Rattle.bw_flow.proofs.Parts.{either}
 use Rattle.bw_flow.specs.declared.point.Local.{Local}
 use Rattle.bw_flow.specs.Scopes as flow
 use Rattle.bw_flow.specs.Scopes.{kind_in}
@@ -27,10 +27,6 @@ use Rattle.bw_flow.specs.Woven.{IsWoven}
 
 exact : (x y : List ℕ) → same x y ≡ true → x ≡ y
 exact x y e = same_text x y (sym e)
-
-pub either : (b : Bool) → (b ≡ true) ⊎ (b ≡ false)
-either true = inl refl
-either false = inr refl
 
 -- ---- shared variables among the declarations of a service
 
@@ -52,6 +48,7 @@ shared_named (declarations.Shared v ∷ ds) w k e = by (either (same w v.name)) 
   where
     rest : List (List ℕ × Kind)
     rest = map (λ u. (u.name, u.kind)) (shared_of ds)
+
     by : (same w v.name ≡ true) ⊎ (same w v.name ≡ false) → (beside w rest ≡ Some k → Contains (map name_of ds) w) → Contains (v.name ∷ map name_of ds) w
     by (inl h) more = (0, omega arith, sym (exact w v.name h))
     by (inr h) more = Contains-append_right (v.name ∷ []) (map name_of ds) w (more (sym (beside_there w (v.name, v.kind) rest h) ∙ e))
@@ -69,7 +66,8 @@ shared_found (declarations.Template t ∷ ds) h j v e = shared_found ds (tail_pa
 shared_found (declarations.Session s ∷ ds) h j v e = shared_found ds (tail_pairs s.name (map name_of ds) h) j v e
 shared_found (declarations.Shared u ∷ ds) h zero v e =
     let is : u ≡ v = cc in
-    beside_here v.name (u.name, u.kind) (map (λ z. (z.name, z.kind)) (shared_of ds)) (ap (λ (z : Shared). same v.name z.name) is ∙ nat_list_eq_equiv.refl v.name)
+    beside_here v.name (u.name, u.kind) (map (λ z. (z.name, z.kind)) (shared_of ds))
+    (ap (λ (z : Shared). same v.name z.name) is ∙ nat_list_eq_equiv.refl v.name)
     ∙ ap (λ (z : Shared). Some z.kind) is
 shared_found (declarations.Shared u ∷ ds) h (suc j) v e =
     let more = shared_found ds (tail_pairs u.name (map name_of ds) h) j v e in
@@ -109,7 +107,8 @@ kind_in_is (l ∷ ls) w = by (same w l.name) (kind_in_is ls w)
     by true e = refl
     by false e = e
 
-kind_in_push : (scope : List Local) (l : Local) (w : List ℕ) → kind_in (scope ++ l ∷ []) w ≡ option_or (kind_in scope w) (if same w l.name then Some l.kind else None)
+kind_in_push : (scope : List Local) (l : Local) (w : List ℕ) →
+    kind_in (scope ++ l ∷ []) w ≡ option_or (kind_in scope w) (if same w l.name then Some l.kind else None)
 kind_in_push [] l w = one (same w l.name)
   where
     one : (b : Bool) → option_map (λ z. z.kind) (cond b (Some l) (find (λ (z : Local). same w z.name) [])) ≡ (if b then Some l.kind else None)
@@ -138,6 +137,7 @@ matches_nothing service = record {
   where
     none : (i : ℕ) (l : Local) → slice_get [] i ≡ Some l → kind_in [] l.name ≡ Some l.kind
     none i l e = cc
+
     none_kind : (i : ℕ) (l : Local) → slice_get [] i ≡ Some l → shared_kind service l.name ≡ None
     none_kind i l e = cc
 
@@ -154,10 +154,12 @@ unknown service scope sc w m new = by (kind_in sc w) refl
     by None e = refl
     by (Some k) e = absurd (new.1 (m.taken w k e))
 
-pub kind_at_is : (service : Service) (scope : Scope) (sc : List Local) (w : List ℕ) → Matches service scope sc → variable_kind service scope w ≡ kind_at service sc w
+pub kind_at_is : (service : Service) (scope : Scope) (sc : List Local) (w : List ℕ) → Matches service scope sc →
+    variable_kind service scope w ≡ kind_at service sc w
 kind_at_is service scope sc w m = ap (λ o. option_or o (shared_kind service w)) (m.kinds w ∙ sym (kind_in_is sc w))
 
-pub new_at : (service : Service) (scope : Scope) (sc : List Local) (w : List ℕ) → IsWoven service → Matches service scope sc → IsNew service scope w → kind_at service sc w ≡ None
+pub new_at : (service : Service) (scope : Scope) (sc : List Local) (w : List ℕ) → IsWoven service → Matches service scope sc → IsNew service scope w →
+    kind_at service sc w ≡ None
 new_at service scope sc w woven m new =
     ap (λ o. option_or o (shared_kind service w)) (kind_in_is sc w ∙ unknown service scope sc w m new) ∙ unshared service w woven new.0
 
@@ -169,7 +171,8 @@ push_cases [] l (suc i) x e = cc
 push_cases (y ∷ ys) l zero x e = inl e
 push_cases (y ∷ ys) l (suc i) x e = push_cases ys l i x e
 
-pub names_push : (service : Service) (sc : List Local) (l : Local) → AreNames service sc → kind_in sc l.name ≡ None → shared_kind service l.name ≡ None → AreNames service (sc ++ l ∷ [])
+pub names_push : (service : Service) (sc : List Local) (l : Local) → AreNames service sc → kind_in sc l.name ≡ None → shared_kind service l.name ≡ None →
+    AreNames service (sc ++ l ∷ [])
 names_push service sc l names fresh apart =
     record { found = λ i x e. found i x (push_cases sc l i x e); apart = λ i x e. away i x (push_cases sc l i x e) }
   where
@@ -179,11 +182,13 @@ names_push service sc l names fresh apart =
         kind_in_push sc l x.name ∙ ap (λ (z : Local). option_or (kind_in sc z.name) (if same z.name l.name then Some l.kind else None)) (sym h)
         ∙ ap (λ o. option_or o (if same l.name l.name then Some l.kind else None)) fresh
         ∙ ap (λ (b : Bool). if b then Some l.kind else None) (nat_list_eq_equiv.refl l.name) ∙ ap (λ (z : Local). Some z.kind) h
+
     away : (i : ℕ) (x : Local) → (slice_get sc i ≡ Some x) ⊎ (l ≡ x) → shared_kind service x.name ≡ None
     away i x (inl h) = names.apart i x h
     away i x (inr h) = ap (λ (z : Local). shared_kind service z.name) (sym h) ∙ apart
 
-pub matches_new : (service : Service) (scope : Scope) (sc : List Local) (w : List ℕ) (k : Kind) → IsWoven service → Matches service scope sc → IsNew service scope w
+pub matches_new : (service : Service) (scope : Scope) (sc : List Local) (w : List ℕ) (k : Kind) → IsWoven service → Matches service scope sc →
+    IsNew service scope w
     → Matches service (with_local scope w k) (flow.with_local sc w k)
 matches_new service scope sc w k woven m new =
     let l : Local = record { name = w; kind = k } in
@@ -194,20 +199,25 @@ matches_new service scope sc w k woven m new =
       names = names_push service sc l m.names fresh (unshared service w woven new.0);
     }
   where
-    seen : (v : List ℕ) → (same v w ≡ true) ⊎ (same v w ≡ false) → beside v ((w, k) ∷ scope.locals) ≡ option_or (kind_in sc v) (if same v w then Some k else None)
+    seen : (v : List ℕ) → (same v w ≡ true) ⊎ (same v w ≡ false) →
+        beside v ((w, k) ∷ scope.locals) ≡ option_or (kind_in sc v) (if same v w then Some k else None)
     seen v (inl h) =
         beside_here v (w, k) scope.locals h
         ∙ sym (ap (λ (b : Bool). option_or (kind_in sc v) (if b then Some k else None)) h
         ∙ ap (λ o. option_or o (Some k)) (ap (kind_in sc) (exact v w h) ∙ unknown service scope sc w m new))
     seen v (inr h) =
-        beside_there v (w, k) scope.locals h ∙ m.kinds v ∙ sym (ap (λ (b : Bool). option_or (kind_in sc v) (if b then Some k else None)) h ∙ same_or (kind_in sc v))
+        beside_there v (w, k) scope.locals h ∙ m.kinds v
+        ∙ sym (ap (λ (b : Bool). option_or (kind_in sc v) (if b then Some k else None)) h ∙ same_or (kind_in sc v))
       where
         same_or : (o : Option Kind) → option_or o None ≡ o
         same_or None = refl
         same_or (Some j) = refl
-    took : (v : List ℕ) (j : Kind) → (same v w ≡ true) ⊎ (same v w ≡ false) → option_or (kind_in sc v) (if same v w then Some k else None) ≡ Some j → Contains (scope.taken ++ w ∷ []) v
+
+    took : (v : List ℕ) (j : Kind) → (same v w ≡ true) ⊎ (same v w ≡ false) → option_or (kind_in sc v) (if same v w then Some k else None) ≡ Some j →
+        Contains (scope.taken ++ w ∷ []) v
     took v j (inl h) e = subst (λ z. Contains (scope.taken ++ w ∷ []) z) (sym (exact v w h)) (Contains-push scope.taken w)
-    took v j (inr h) e = Contains-append_left scope.taken (w ∷ []) v (old (kind_in sc v) refl (ap (λ (b : Bool). option_or (kind_in sc v) (if b then Some k else None)) (sym h) ∙ e))
+    took v j (inr h) e = Contains-append_left scope.taken (w ∷ []) v
+        (old (kind_in sc v) refl (ap (λ (b : Bool). option_or (kind_in sc v) (if b then Some k else None)) (sym h) ∙ e))
       where
         old : (o : Option Kind) → kind_in sc v ≡ o → option_or o None ≡ Some j → Contains scope.taken v
         old None a b = cc
@@ -235,6 +245,7 @@ module _ (service : Service) (a b : Scope) (alike : (w : List ℕ) → name_kind
     typed_alike (filling w e ps) h = let p = h.0 in ((p.0, p.1, p.2, kind_alike e p.1 p.3, p.4), typed_alike ps h.1)
 
 -- what has a kind by bw_types' scope has it where these locals are in scope
-pub has_kind : (service : Service) (scope : Scope) (sc : List Local) (e : Term) (k : Kind) → Matches service scope sc → HasKind service scope e k → HasKindAt service sc e k
+pub has_kind : (service : Service) (scope : Scope) (sc : List Local) (e : Term) (k : Kind) → Matches service scope sc → HasKind service scope e k →
+    HasKindAt service sc e k
 has_kind service scope sc e k m h =
     kind_alike service scope (names_at sc) (λ w. ap (λ o. option_or o (template_kind service w)) (kind_at_is service scope sc w m)) e k h

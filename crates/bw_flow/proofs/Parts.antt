@@ -1,23 +1,17 @@
 -- Parts of a flow.
-use Rattle.std.proofs.Common.{◌≡◌, ◌⊎◌, ℕ, zero, suc, ◌+◌, ◌<◌, ◌≤◌, Bool, true, false, List, [], ◌∷◌, ◌++◌, length, refl, ap, sym, ◌∙◌, subst, inl, inr, arith, append_assoc, Option, Some, None}
-use Rattle.std.specs.Prelude.{slice_get, if◌then◌else◌}
-use Rattle.std.proofs.lemmas.List.{append-nil, length-append}
+use Rattle.std.proofs.Common.{◌≡◌, ◌⊎◌, ℕ, ◌+◌, Bool, true, false, List, [], ◌∷◌, ◌++◌, length, refl, ap, sym, ◌∙◌, subst, inl, inr, arith, append_assoc, Some}
+use Rattle.std.specs.Prelude.{slice_get}
+use Rattle.std.proofs.lemmas.List.{length-append}
 use Rattle.std.proofs.lemmas.List.Sums.{sum_by-cons}
 use Rattle.bw_lang.specs.declared.service.Session.{Session}
-use Rattle.bw_lang.specs.declared.stmt.Kind.TheVariants as kinds
-use Rattle.bw_lang.specs.Code.{Code, done, declare, assign, if_then, if_else, while_loop, for_each, block, show, exit, numbered}
-use Rattle.bw_lang.specs.declared.service.Service.{Service}
+use Rattle.bw_lang.specs.Code.{numbered}
 use Rattle.bw_lang.specs.Numbers.{statements}
-use Rattle.bw_flow.specs.declared.point.Local.{Local}
-use Rattle.bw_flow.specs.Drafts.{first_of}
-use Rattle.bw_flow.specs.Flows.{is_join}
-use Rattle.bw_flow.specs.Layout.{count, enter, step, steps, receives, points, session_steps, session_firsts}
-use Rattle.bw_flow.specs.Scopes.{with_local}
-use Rattle.bw_flow.specs.Steps.{Act, sets, tests, goes_over, shows, exits, joins, Step}
-use Rattle.bw_flow.specs.Stands.{IsAt, Lowered, AllLowered, StandsForAll}
-use Rattle.bw_flow.specs.Places.{join_of, JoinsRise, AllJoinsRise}
-use Rattle.bw_flow.specs.Numbers.{numbers_of, numbers_from, StatementsInOrder, HasNumbers, AllHaveNumbers}
-use Rattle.bw_flow.proofs.Layouts.{first_of_is, length_steps}
+use Rattle.bw_flow.specs.Steps.{Step}
+use Rattle.bw_flow.specs.Stands.{IsAt}
+
+pub either : (b : Bool) → (b ≡ true) ⊎ (b ≡ false)
+either true = inl refl
+either false = inr refl
 
 -- these points stand in the flow from place p on
 abbrev pub Holds : List Step → ℕ → List Step → Type 0

@@ -1,11 +1,9 @@
 -- In a service that is typed names are declared once, and before they are used.
-use Rattle.std.proofs.Common.{◌≡◌, ℕ, Bool, true, false, List, [], ◌∷◌, Some, None, Option, ap, sym, ◌∙◌}
+use Rattle.std.proofs.Common.{◌≡◌, ℕ, List, [], ◌∷◌, ap, sym, ◌∙◌}
 use Rattle.std.specs.Prelude.{is_some}
-use Rattle.std.specs.List.{All}
 use Rattle.std.specs.Option.{option_or}
 use Rattle.std.proofs.lemmas.List.Elements.{All-weaker}
 use Rattle.bw_lang.specs.declared.service.Service.{Service}
-use Rattle.bw_lang.specs.declared.stmt.Kind.{Kind}
 use Rattle.bw_lang.specs.declared.stmt.Kind.TheVariants as kinds
 use Rattle.bw_lang.specs.Code.{Code, done, declare, assign, if_then, if_else, while_loop, for_each, block, show, exit}
 use Rattle.bw_lang.specs.CodeNames.{local_names}
@@ -14,7 +12,7 @@ use Rattle.bw_types.specs.Scopes.{Scope, no_locals, shared_kind, behind, behind_
 use Rattle.bw_types.specs.Typing.{IsTypedCode, IsTypedSession}
 use Rattle.bw_flow.specs.declared.point.Local.{Local}
 use Rattle.bw_flow.specs.Scoped.{is_known, IsScoped, TypedIsScoped}
-use Rattle.bw_flow.specs.Scopes.{kind_in, with_local}
+use Rattle.bw_flow.specs.Scopes.{with_local}
 use Rattle.bw_flow.specs.TypedFlow.{kind_at}
 use Rattle.bw_flow.specs.Woven.{IsWoven}
 use Rattle.bw_flow.proofs.Names.{Matches, matches_nothing, matches_more, matches_new, kind_in_is, kind_at_is, new_at}
@@ -26,9 +24,9 @@ module _ (service : Service) (woven : IsWoven service) where
   scoped : (c : Code) (sc : List Local) (scope : Scope) → Matches service scope sc → IsTypedCode service scope c → IsScoped service c sc
   scoped done sc scope m t = tt
   scoped (declare k w e rest) sc scope m t = (
-      known_is service sc w ∙ ap is_some (new_at service scope sc w woven m t.0),
-      scoped rest (with_local sc w k) (names.with_local scope w k) (matches_new service scope sc w k woven m t.0) t.2,
-    )
+    known_is service sc w ∙ ap is_some (new_at service scope sc w woven m t.0),
+    scoped rest (with_local sc w k) (names.with_local scope w k) (matches_new service scope sc w k woven m t.0) t.2,
+  )
   scoped (assign w e rest) sc scope m t =
       let a = t.0 in (known_is service sc w ∙ ap is_some (sym (kind_at_is service scope sc w m) ∙ a.1), scoped rest sc scope m t.1)
   scoped (if_then e y rest) sc scope m t =
@@ -44,10 +42,10 @@ module _ (service : Service) (woven : IsWoven service) where
   scoped (block y rest) sc scope m t =
       (scoped y sc scope m t.0, scoped rest sc (behind scope y) (matches_more service scope sc (local_names y) m) t.1)
   scoped (for_each w e y rest) sc scope m t = (
-      known_is service sc w ∙ ap is_some (new_at service scope sc w woven m t.0),
-      scoped y (with_local sc w kinds.Str) (names.with_local scope w kinds.Str) (matches_new service scope sc w kinds.Str woven m t.0) t.2,
-      scoped rest sc (behind_each scope w y) (matches_more service scope sc (w ∷ local_names y) m) t.3,
-    )
+    known_is service sc w ∙ ap is_some (new_at service scope sc w woven m t.0),
+    scoped y (with_local sc w kinds.Str) (names.with_local scope w kinds.Str) (matches_new service scope sc w kinds.Str woven m t.0) t.2,
+    scoped rest sc (behind_each scope w y) (matches_more service scope sc (w ∷ local_names y) m) t.3,
+  )
   scoped (show e rs rest) sc scope m t = scoped rest sc scope m t.2
   scoped (exit e rest) sc scope m t = scoped rest sc scope m t.1
 

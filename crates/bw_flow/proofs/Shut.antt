@@ -1,15 +1,15 @@
 -- No point leads out of the flow.
-use Rattle.std.proofs.Common.{◌≡◌, ◌⊎◌, ℕ, zero, suc, ◌+◌, ◌<◌, ◌≤◌, Bool, true, false, List, [], ◌∷◌, ◌++◌, length, refl, ap, sym, ◌∙◌, subst, inl, inr, arith}
+use Rattle.std.proofs.Common.{◌≡◌, ◌⊎◌, ℕ, zero, suc, ◌+◌, ◌<◌, ◌≤◌, Bool, true, false, List, [], ◌∷◌, ◌++◌, length, refl, sym, subst, inl, inr, arith}
 use Rattle.bw_lang.specs.declared.service.Session.{Session}
 use Rattle.bw_lang.specs.declared.stmt.Kind.TheVariants as kinds
 use Rattle.bw_lang.specs.Code.{Code, done, declare, assign, if_then, if_else, while_loop, for_each, block, show, exit, numbered}
 use Rattle.bw_lang.specs.declared.service.Service.{Service}
 use Rattle.bw_flow.specs.declared.point.Local.{Local}
 use Rattle.bw_flow.specs.Drafts.{first_of}
-use Rattle.bw_flow.specs.Layout.{count, enter, step, steps, points, session_steps, session_firsts}
+use Rattle.bw_flow.specs.Layout.{count, enter, steps, points, session_steps, session_firsts}
 use Rattle.bw_flow.specs.Scopes.{with_local}
 use Rattle.bw_flow.specs.Places.{Among, IsShut, FirstsAreAll}
-use Rattle.bw_flow.specs.Steps.{joins, Step}
+use Rattle.bw_flow.specs.Steps.{Step}
 use Rattle.bw_types.specs.Faults.{ends_in_exit}
 use Rattle.std.specs.Prelude.{slice_get, Some}
 use Rattle.std.specs.List.{All}
@@ -99,8 +99,10 @@ behind_exit c q b (inr h) = by (none_behind c h)
 
 below : (service : Service) (c : Code) (n : ℕ) (sc : List Local) (d p q b : ℕ) → p + count c ≤ b → Safe c q b → NextsBelow b (steps service c n sc d p q)
 below service done n sc d p q b le h = tt
-below service (declare k w e rest) n sc d p q b le h = ((enter_below rest (p + 1) q b (omega arith) h, tt), below service rest (n + 1) (with_local sc w k) d (p + 1) q b (omega arith) h)
-below service (assign w e rest) n sc d p q b le h = ((enter_below rest (p + 1) q b (omega arith) h, tt), below service rest (n + 1) sc d (p + 1) q b (omega arith) h)
+below service (declare k w e rest) n sc d p q b le h =
+    ((enter_below rest (p + 1) q b (omega arith) h, tt), below service rest (n + 1) (with_local sc w k) d (p + 1) q b (omega arith) h)
+below service (assign w e rest) n sc d p q b le h =
+    ((enter_below rest (p + 1) q b (omega arith) h, tt), below service rest (n + 1) sc d (p + 1) q b (omega arith) h)
 below service (if_then e y rest) n sc d p q b le h =
     let join = p + 1 + count y in
     let j : join < b = omega arith in (
@@ -120,28 +122,34 @@ below service (while_loop e y rest) n sc d p q b le h =
     let behind = p + 1 + count y in
     let j : p < b = omega arith in (
       (enter_below y (p + 1) p b (omega arith) (inl j), (enter_below rest behind q b (omega arith) h, tt)),
-      below_parts b (steps service y (n + 1) sc d (p + 1) p) _ (below service y (n + 1) sc d (p + 1) p b (omega arith) (inl j)) (below service rest (n + 1 + numbered y) sc d behind q b (omega arith) h),
+      below_parts b (steps service y (n + 1) sc d (p + 1) p) _ (below service y (n + 1) sc d (p + 1) p b (omega arith) (inl j))
+      (below service rest (n + 1 + numbered y) sc d behind q b (omega arith) h),
     )
 below service (for_each w e y rest) n sc d p q b le h =
     let behind = p + 1 + count y in let inner = with_local sc w kinds.Str in
     let j : p < b = omega arith in (
       (enter_below y (p + 1) p b (omega arith) (inl j), (enter_below rest behind q b (omega arith) h, tt)),
-      below_parts b (steps service y (n + 1) inner (d + 1) (p + 1) p) _ (below service y (n + 1) inner (d + 1) (p + 1) p b (omega arith) (inl j)) (below service rest (n + 1 + numbered y) sc d behind q b (omega arith) h),
+      below_parts b (steps service y (n + 1) inner (d + 1) (p + 1) p) _ (below service y (n + 1) inner (d + 1) (p + 1) p b (omega arith) (inl j))
+      (below service rest (n + 1 + numbered y) sc d behind q b (omega arith) h),
     )
 below service (block y rest) n sc d p q b le h =
     let behind = p + count y in let r = enter rest behind q in
-    below_parts b (steps service y n sc d p r) _ (below service y n sc d p r b (omega arith) (inl (enter_below rest behind q b (omega arith) h))) (below service rest (n + numbered y) sc d behind q b (omega arith) h)
-below service (show e rs rest) n sc d p q b le h = ((enter_below rest (p + 1) q b (omega arith) h, tt), below service rest (n + 1) sc d (p + 1) q b (omega arith) h)
+    below_parts b (steps service y n sc d p r) _ (below service y n sc d p r b (omega arith) (inl (enter_below rest behind q b (omega arith) h)))
+    (below service rest (n + numbered y) sc d behind q b (omega arith) h)
+below service (show e rs rest) n sc d p q b le h =
+    ((enter_below rest (p + 1) q b (omega arith) h, tt), below service rest (n + 1) sc d (p + 1) q b (omega arith) h)
 below service (exit e rest) n sc d p q b le h = (tt, by (behind_exit rest q b h) (below service rest (n + 1) sc d (p + 1) q b (omega arith)))
   where
-    by : (rest ≡ done) ⊎ Safe rest q b → (Safe rest q b → NextsBelow b (steps service rest (n + 1) sc d (p + 1) q)) → NextsBelow b (steps service rest (n + 1) sc d (p + 1) q)
+    by : (rest ≡ done) ⊎ Safe rest q b → (Safe rest q b → NextsBelow b (steps service rest (n + 1) sc d (p + 1) q)) →
+        NextsBelow b (steps service rest (n + 1) sc d (p + 1) q)
     by (inl k) go = subst (λ c. NextsBelow b (steps service c (n + 1) sc d (p + 1) q)) (sym k) tt
     by (inr k) go = go k
 
 sessions_below : (service : Service) (ss : List Session) (n p out b : ℕ) → AllClose ss → p + points ss ≤ b → NextsBelow b (session_steps service ss n p out)
 sessions_below service [] n p out b h le = tt
 sessions_below service (s ∷ ss) n p out b h le =
-    below_parts b (steps service s.body n [] 0 p out) _ (below service s.body n [] 0 p out b (omega arith) (inr h.0)) (sessions_below service ss (n + numbered s.body) (p + count s.body) out b h.1 (omega arith))
+    below_parts b (steps service s.body n [] 0 p out) _ (below service s.body n [] 0 p out b (omega arith) (inr h.0))
+    (sessions_below service ss (n + numbered s.body) (p + count s.body) out b h.1 (omega arith))
 
 firsts_below : (ss : List Session) (p out b : ℕ) → AllClose ss → p + points ss ≤ b → AllBelow b (session_firsts ss p out)
 firsts_below [] p out b h le = tt

@@ -1,5 +1,5 @@
 -- The points of statements that are typed are typed.
-use Rattle.std.proofs.Common.{◌≡◌, ◌⊎◌, ℕ, zero, suc, ◌+◌, List, [], ◌∷◌, ◌++◌, map, length, Some, None, Option, refl, ap, sym, ◌∙◌, subst, inl, inr, arith}
+use Rattle.std.proofs.Common.{◌≡◌, ℕ, zero, suc, ◌+◌, List, [], ◌∷◌, ◌++◌, length, Some, refl, ap, sym, ◌∙◌, subst, inl, inr}
 use Rattle.std.specs.Prelude.{slice_get}
 use Rattle.std.specs.List.{All}
 use Rattle.std.specs.Option.{option_or}
@@ -17,7 +17,6 @@ use Rattle.bw_types.specs.Typing.{IsReceived, IsTypedCode, IsTypedSession}
 use Rattle.bw_flow.specs.declared.point.Local.{Local}
 use Rattle.bw_flow.specs.Layout.{count, enter, after, step, steps, received, receives, session_steps}
 use Rattle.bw_flow.specs.Scopes.{with_local, kind_in, kind_or_string}
-use Rattle.bw_flow.specs.Stands.{IsAt}
 use Rattle.bw_flow.specs.Steps.{sets, tests, goes_over, shows, exits, joins, Step}
 use Rattle.bw_flow.specs.TypedFlow.{kind_at, AreNames, IsTypedReceive, IsTypedAct}
 use Rattle.bw_flow.specs.Woven.{IsWoven}
@@ -47,7 +46,8 @@ goes_well_at service flow (y ∷ ys) (suc p) x h e = goes_well_at service flow y
 
 -- ---- receives
 
-kind_of_target : (service : Service) (sc : List Local) (w : List ℕ) (k : Kind) → kind_at service sc w ≡ Some k → kind_or_string (option_or (kind_in sc w) (shared_kind service w)) ≡ k
+kind_of_target : (service : Service) (sc : List Local) (w : List ℕ) (k : Kind) → kind_at service sc w ≡ Some k →
+    kind_or_string (option_or (kind_in sc w) (shared_kind service w)) ≡ k
 kind_of_target service sc w k e = ap kind_or_string (ap (λ o. option_or o (shared_kind service w)) (sym (kind_in_is sc w)) ∙ e)
 
 receive_typed : (service : Service) (scope : Scope) (sc : List Local) (r : Receive) → Matches service scope sc → IsReceived service scope r
@@ -132,7 +132,8 @@ module _ (service : Service) (flow : List Step) (woven : IsWoven service) where
       let meet = step n sc d joins (r ∷ []) in
       let more = meet ∷ steps service rest (n + 1 + numbered y + numbered o) sc d (join + 1) q in
       let a = holds_parts flow (p + 1) ys (os ++ more) h.1 in
-      let b = holds_parts flow other os more (holds_at flow (p + 1 + length ys) other (os ++ more) (ap (λ l. p + 1 + l) (length_steps service y (n + 1) sc d (p + 1) join)) a.1) in
+      let b = holds_parts flow other os more (holds_at flow (p + 1 + length ys) other (os ++ more)
+      (ap (λ l. p + 1 + l) (length_steps service y (n + 1) sc d (p + 1) join)) a.1) in
       let c = holds_at flow (other + length os) join more (ap (λ l. other + l) (length_steps service o (n + 1 + numbered y) sc d other join)) b.1 in
       let at_join = ends_at flow join meet c.0 in
       let first = ends_after flow join y sc at_join in
@@ -145,17 +146,19 @@ module _ (service : Service) (flow : List Step) (woven : IsWoven service) where
           acts = has_kind service scope sc v kinds.Bool m t.0;
           follows = next_kept service flow here (enter y (p + 1) join) (enter o other join ∷ [])
               (entry service flow y (n + 1) sc d (p + 1) join a.0 first)
-              (next_kept service flow here (enter o other join) [] (entry service flow o (n + 1 + numbered y) sc d other join b.0 second) (no_next service flow here));
+              (next_kept service flow here (enter o other join) [] (entry service flow o (n + 1 + numbered y) sc d other join b.0 second)
+              (no_next service flow here));
         },
         parts_go_well service flow ys (os ++ more) (typed y (n + 1) sc d (p + 1) join scope m t.1 a.0 first)
-        (parts_go_well service flow os more (typed o (n + 1 + numbered y) sc d other join (behind scope y) m1 t.2 b.0 second) (
-          record {
-            names = m.names;
-            acts = tt;
-            follows = next_kept service flow meet r [] (entry service flow rest (n + 1 + numbered y + numbered o) sc d (join + 1) q c.1 e) (no_next service flow meet);
-          },
-          typed rest (n + 1 + numbered y + numbered o) sc d (join + 1) q (behind (behind scope y) o) m2 t.3 c.1 e,
-        )),
+            (parts_go_well service flow os more (typed o (n + 1 + numbered y) sc d other join (behind scope y) m1 t.2 b.0 second) (
+              record {
+                names = m.names;
+                acts = tt;
+                follows = next_kept service flow meet r [] (entry service flow rest (n + 1 + numbered y + numbered o) sc d (join + 1) q c.1 e)
+                (no_next service flow meet);
+              },
+              typed rest (n + 1 + numbered y + numbered o) sc d (join + 1) q (behind (behind scope y) o) m2 t.3 c.1 e,
+            )),
       )
   typed (while_loop v y rest) n sc d p q scope m t h e =
       let after_body = p + 1 + count y in
@@ -174,7 +177,7 @@ module _ (service : Service) (flow : List Step) (woven : IsWoven service) where
               (next_kept service flow here past [] (entry service flow rest (n + 1 + numbered y) sc d after_body q b e) (no_next service flow here));
         },
         parts_go_well service flow ys more (typed y (n + 1) sc d (p + 1) p scope m t.1 a.0 inside)
-        (typed rest (n + 1 + numbered y) sc d after_body q (behind scope y) (matches_more service scope sc (local_names y) m) t.2 b e),
+            (typed rest (n + 1 + numbered y) sc d after_body q (behind scope y) (matches_more service scope sc (local_names y) m) t.2 b e),
       )
   typed (for_each w v y rest) n sc d p q scope m t h e =
       let after_body = p + 1 + count y in
@@ -196,8 +199,8 @@ module _ (service : Service) (flow : List Step) (woven : IsWoven service) where
               (next_kept service flow here past [] (entry service flow rest (n + 1 + numbered y) sc d after_body q b e) (no_next service flow here));
         },
         parts_go_well service flow ys more
-        (typed y (n + 1) inner (d + 1) (p + 1) p (names.with_local scope w kinds.Str) (matches_new service scope sc w kinds.Str woven m t.0) t.2 a.0 inside)
-        (typed rest (n + 1 + numbered y) sc d after_body q (behind_each scope w y) (matches_more service scope sc (w ∷ local_names y) m) t.3 b e),
+            (typed y (n + 1) inner (d + 1) (p + 1) p (names.with_local scope w kinds.Str) (matches_new service scope sc w kinds.Str woven m t.0) t.2 a.0 inside)
+            (typed rest (n + 1 + numbered y) sc d after_body q (behind_each scope w y) (matches_more service scope sc (w ∷ local_names y) m) t.3 b e),
       )
   typed (block y rest) n sc d p q scope m t h e =
       let after_body = p + count y in let r = enter rest after_body q in
@@ -220,9 +223,9 @@ module _ (service : Service) (flow : List Step) (woven : IsWoven service) where
         typed rest (n + 1) sc d (p + 1) q scope m t.2 h.1 e,
       )
   typed (exit v rest) n sc d p q scope m t h e = (
-      record { names = m.names; acts = has_kind service scope sc v kinds.Html m t.0; follows = no_next service flow (step n sc d (exits v) []) },
-      typed rest (n + 1) sc d (p + 1) q scope m t.1 h.1 e,
-    )
+    record { names = m.names; acts = has_kind service scope sc v kinds.Html m t.0; follows = no_next service flow (step n sc d (exits v) []) },
+    typed rest (n + 1) sc d (p + 1) q scope m t.1 h.1 e,
+  )
 
   pub sessions_typed : (ss : List Session) (n p out : ℕ) → All (IsTypedSession service) ss → Ends flow out [] → Holds flow p (session_steps service ss n p out)
       → AllGoWell service flow (session_steps service ss n p out)

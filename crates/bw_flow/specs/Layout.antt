@@ -1,9 +1,8 @@
 -- The points of statements: one for each statement other than a block, in source order, and one for each `if`, behind
 -- its branches, where they meet.
-use Rattle.std.specs.Prelude.{ℕ, zero, suc, ◌+◌, List, [], ◌∷◌, ◌++◌, map, length}
+use Rattle.std.specs.Prelude.{ℕ, ◌+◌, List, [], ◌∷◌, ◌++◌, map}
 use Rattle.bw_lang.specs.declared.service.Service.{Service}
 use Rattle.bw_lang.specs.declared.service.Session.{Session}
-use Rattle.bw_lang.specs.declared.stmt.Kind.{Kind}
 use Rattle.bw_lang.specs.declared.stmt.Kind.TheVariants as kinds
 use Rattle.bw_lang.specs.declared.stmt.Receive.{Receive}
 use Rattle.bw_lang.specs.Code.{Code, done, declare, assign, if_then, if_else, while_loop, for_each, block, show, exit, numbered}
@@ -57,13 +56,15 @@ after (exit e rest) scope = after rest scope
 abbrev pub field_number : Service → List ℕ → ℕ
 field_number service w = number (with_names [] (field_names service)) w
 
--- the fields that a show receives
+-- a field that a show receives, with the kind of its target and its number
 abbrev pub received : Service → List Local → Receive → Received
 received service scope r = record { target = r.target; kind = target_kind service scope r.target; field = r.field; id = field_number service r.field }
 
+-- all of them, in source order
 abbrev pub receives : Service → List Local → List Receive → List Received
 receives service scope rs = map (received service scope) rs
 
+-- the point of the statement of number n, with this scope in front of it and d foreachs around it
 abbrev pub step : ℕ → List Local → ℕ → Act → List ℕ → Step
 step n scope d act next = record { number = n; scope = scope; inside = d; act = act; next = next }
 
@@ -71,7 +72,8 @@ step n scope d act next = record { number = n; scope = scope; inside = d; act = 
 -- around it. At the end they lead to place q.
 abbrev pub steps : Service → Code → ℕ → List Local → ℕ → ℕ → ℕ → List Step
 steps service done n scope d p q = []
-steps service (declare k w e rest) n scope d p q = step n scope d (sets w e) (enter rest (p + 1) q ∷ []) ∷ steps service rest (n + 1) (with_local scope w k) d (p + 1) q
+steps service (declare k w e rest) n scope d p q =
+    step n scope d (sets w e) (enter rest (p + 1) q ∷ []) ∷ steps service rest (n + 1) (with_local scope w k) d (p + 1) q
 steps service (assign w e rest) n scope d p q = step n scope d (sets w e) (enter rest (p + 1) q ∷ []) ∷ steps service rest (n + 1) scope d (p + 1) q
 steps service (if_then e y rest) n scope d p q =
     let join = p + 1 + count y in
@@ -95,8 +97,10 @@ steps service (for_each w e b rest) n scope d p q =
     let behind = p + 1 + count b in
     step n scope d (goes_over w e) (enter b (p + 1) p ∷ enter rest behind q ∷ [])
     ∷ (steps service b (n + 1) (with_local scope w kinds.Str) (d + 1) (p + 1) p ++ steps service rest (n + 1 + numbered b) scope d behind q)
-steps service (block b rest) n scope d p q = steps service b n scope d p (enter rest (p + count b) q) ++ steps service rest (n + numbered b) scope d (p + count b) q
-steps service (show e rs rest) n scope d p q = step n scope d (shows e (receives service scope rs)) (enter rest (p + 1) q ∷ []) ∷ steps service rest (n + 1) scope d (p + 1) q
+steps service (block b rest) n scope d p q =
+    steps service b n scope d p (enter rest (p + count b) q) ++ steps service rest (n + numbered b) scope d (p + count b) q
+steps service (show e rs rest) n scope d p q =
+    step n scope d (shows e (receives service scope rs)) (enter rest (p + 1) q ∷ []) ∷ steps service rest (n + 1) scope d (p + 1) q
 steps service (exit e rest) n scope d p q = step n scope d (exits e) [] ∷ steps service rest (n + 1) scope d (p + 1) q
 
 -- The points of sessions, from place p on, the first of number n. A body ends in `exit`; what would follow behind its end

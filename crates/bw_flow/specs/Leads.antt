@@ -1,5 +1,5 @@
 -- Which point leads to which, read from the statements. It knows no places and no flow.
-use Rattle.std.specs.Prelude.{◌≡◌, ◌⊎◌, ℕ, ◌+◌, Bool, true, false, List, [], ◌∷◌, ◌++◌, Option, Some, None, slice_get, option_map, if◌then◌else◌}
+use Rattle.std.specs.Prelude.{◌≡◌, ℕ, ◌+◌, List, [], ◌∷◌, ◌++◌, Option, Some, None, slice_get, option_map, if◌then◌else◌}
 use Rattle.bw_lang.specs.declared.service.Session.{Session}
 use Rattle.bw_lang.specs.Code.{Code, done, declare, assign, if_then, if_else, while_loop, for_each, block, show, exit, numbered}
 use Rattle.bw_lang.specs.declared.service.Service.{Service}
@@ -66,6 +66,7 @@ service_leads (s ∷ ss) n = leads s.body n None ++ service_leads ss (n + number
 abbrev pub spot_of : Step → Spot
 spot_of x = if is_join x.act then meeting x.number else statement x.number
 
+-- which point stands at a place
 abbrev pub spot_at : List Step → ℕ → Option Spot
 spot_at flow p = option_map spot_of (slice_get flow p)
 

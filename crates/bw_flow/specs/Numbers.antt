@@ -1,5 +1,5 @@
 -- The numbers of points.
-use Rattle.std.specs.Prelude.{◌≡◌, ◌≤◌, ℕ, zero, suc, ◌+◌, false, List, [], ◌∷◌, position, Option, Some, if◌then◌else◌}
+use Rattle.std.specs.Prelude.{◌≡◌, ◌≤◌, ℕ, zero, suc, ◌+◌, false, List, [], ◌∷◌, position, Some, if◌then◌else◌}
 use Rattle.bw_lang.specs.declared.service.Service.{Service}
 use Rattle.bw_lang.specs.Numbers.{statements}
 use Rattle.bw_flow.specs.Flows.{is_join, is_statement}
@@ -25,6 +25,7 @@ StatementsInOrder = (service : Service) → numbers_of (plan_of service).steps �
 abbrev pub HasNumbers : List Step → Type 0
 HasNumbers flow = (p q : ℕ) (x y : Step) → IsAt flow p x → IsAt flow q y → is_join x.act ≡ false → is_join y.act ≡ false → x.number ≡ y.number → p ≡ q
 
+-- so in the flow of a service
 abbrev pub AllHaveNumbers : Type 0
 AllHaveNumbers = (service : Service) → HasNumbers (plan_of service).steps
 

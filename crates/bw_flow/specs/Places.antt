@@ -15,9 +15,11 @@ Among x (y ∷ ys) = (x ≡ y) ⊎ Among x ys
 
 -- ---- how many points come next
 
+-- there is one
 abbrev pub IsOne : List ℕ → Type 0
 IsOne next = (q : ℕ) × (next ≡ q ∷ [])
 
+-- there are two
 abbrev pub AreTwo : List ℕ → Type 0
 AreTwo next = (q : ℕ) × (r : ℕ) × (next ≡ q ∷ r ∷ [])
 
@@ -56,5 +58,6 @@ join_of (Some x) = is_join x.act
 abbrev pub JoinsRise : List Step → Type 0
 JoinsRise flow = (p q : ℕ) (x : Step) → IsAt flow p x → is_join x.act ≡ true → x.next ≡ q ∷ [] → (p < q) ⊎ (join_of (slice_get flow q) ≡ false)
 
+-- so in the flow of a service
 abbrev pub AllJoinsRise : Type 0
 AllJoinsRise = (service : Service) → JoinsRise (plan_of service).steps

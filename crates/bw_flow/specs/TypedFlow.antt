@@ -95,6 +95,7 @@ Leaves w joins = Unit {0}
 
 -- ---- the flow
 
+-- the points of a flow are typed
 pub record IsTypedFlow (service : Service) (flow : List Step) : Type 0 where
   -- names, and what points do in them
   pub names : (p : ℕ) (x : Step) → IsAt flow p x → AreNames service x.scope

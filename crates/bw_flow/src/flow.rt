@@ -55,6 +55,13 @@ impl Flow {
         Flow { points, firsts }
     }
 
+    /// The points, in the order of their places.
+    pub fn points(&self) -> &[Point]
+        ensures { map seen result.now ≡ self.now.steps }
+    {
+        self.points.as_slice()
+    }
+
     /// The point at this place, or none where there are no more than so many points.
     pub fn point(&self, id: PointId) -> Option<&Point>
         ensures { MatchOption result (slice_get self.now.steps id ≡ None) (λ p. slice_get self.now.steps id ≡ Some (seen p.now)) }

@@ -1,4 +1,4 @@
-use Rattle.std.proofs.Common.{ap, ◌∙◌, sym, arith}
+use Rattle.std.proofs.Common.{arith}
 use Rattle.bw_flow.proofs.Codes.{count_more}
 use Rattle.bw_flow.proofs.counting.+count.Goals as goal
 
