@@ -10,7 +10,8 @@ use Rattle.bw_lang.specs.Levels.{Levelled}
 use Rattle.bw_lang.specs.Spelling.{spell, spell_test, spell_value, spell_code, spell_receives, IsCode, HaveTargets}
 use Rattle.bw_lang.specs.Term.{Term}
 use Rattle.bw_lang.specs.Words.{IsName, kind_word}
-use Rattle.bw_parse.specs.Fronts.{Read, ◌>>=◌, behind, keyword, word, named}
+use Rattle.bw_parse.specs.Expressions.{parse_inside}
+use Rattle.bw_parse.specs.Fronts.{behind, keyword, word, named}
 use Rattle.bw_parse.specs.Statements.{condition, each_head, valued, simple, parse_show, parse_exit, parse_declare, parse_assign, code_of, one, braces, parse_code}
 use Rattle.bw_parse.proofs.CodeSteps.{code_is}
 use Rattle.bw_parse.proofs.Complete.{Comes, later}
@@ -22,15 +23,19 @@ use Rattle.bw_parse.proofs.Whole.{parse_complete}
 abbrev Got : Type 0
 Got = Code × List Lexeme
 
+inside_gives : (e : Term) (k : List Lexeme) → Levelled e → parse_inside (spell e (lex.Sign (codes ")") ∷ k)) ≡ Some (e, k)
+unfolding behind
+inside_gives e k v = parse_inside_is (spell e (lex.Sign (codes ")") ∷ k)) ∙ rw (parse_complete e (lex.Sign (codes ")") ∷ k) v (omega arith)) refl
+
 condition_gives : (t : Term) (k : List Lexeme) → Levelled t → condition (spell_test t k) ≡ Some (t, k)
 unfolding condition behind
-condition_gives t k v = parse_inside_is (spell t (lex.Sign (codes ")") ∷ k)) ∙ rw (parse_complete t (lex.Sign (codes ")") ∷ k) v (omega arith)) refl
+condition_gives t k v = inside_gives t k v
 
 head_gives : (w : List ℕ) (e : Term) (k : List Lexeme) → IsName w → Levelled e →
     each_head (lex.Sign (codes "(") ∷ lex.Word w ∷ lex.Word (codes "in") ∷ spell e (lex.Sign (codes ")") ∷ k)) ≡ Some ((w, e), k)
 unfolding each_head named word behind keyword
 head_gives w e k n v =
-    rw n (ap (λ (o : Read Term). o >>= λ x. Some ((w, x.0), x.1)) (parse_inside_is (spell e (lex.Sign (codes ")") ∷ k)) ∙ rw (parse_complete e (lex.Sign (codes ")") ∷ k) v (omega arith)) refl))
+    rw n (rw (inside_gives e k v) refl)
 
 valued_gives : (w : List ℕ) (e : Term) (k : List Lexeme) → IsName w → Levelled e → valued (spell_value w e k) ≡ Some ((w, e), k)
 unfolding valued named word behind

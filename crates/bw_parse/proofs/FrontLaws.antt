@@ -219,7 +219,7 @@ no_kind w ts n = rw (not_keyword w (codes "int") n refl, not_keyword w (codes "b
 -- a kind that is no list
 pub shareable : (t : Kind) → is_list t ≡ false → IsShareable t
 shareable kinds.Strs l e = absurd cc
-shareable t l e = absurd (ap is_list e ∙ sym l)
+shareable t l e = let p : true ≡ false = sym (ap is_list e) ∙ l in absurd cc
 
 pub shared_kind_is : (ts : List Lexeme) (x : Kind × List Lexeme) → shared_kind ts ≡ Some x → (ts ≡ lex.Word (kind_word x.0) ∷ x.1) × IsShareable x.0
 unfolding shared_kind
