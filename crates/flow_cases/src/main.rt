@@ -22,9 +22,9 @@ use std::process::ExitCode;
 
 /// Services and their flows.
 #[derive(Clone, Copy)]
-struct Flows;
+struct Services;
 
-impl Kind for Flows {
+impl Kind for Services {
     fn file_name(self) -> &'static str {
         "flows.cases"
     }
@@ -35,5 +35,5 @@ impl Kind for Flows {
 }
 
 fn main(rt: HostRuntime) -> ExitCode {
-    try_files(&rt, &[Flows])
+    try_files(&rt, &[Services])
 }
