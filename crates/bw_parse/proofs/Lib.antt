@@ -1,3 +1,4 @@
+pub mod Answered
 pub mod CodeComplete
 pub mod CodeSound
 pub mod CodeSteps

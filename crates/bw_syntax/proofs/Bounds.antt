@@ -12,7 +12,7 @@ use Rattle.bw_lang.specs.declared.token.Lexeme.TheVariants as lex
 use Rattle.bw_lang.specs.declared.token.Token.{Token}
 use Rattle.bw_lang.specs.declared.token.TokenKind.{TokenKind}
 use Rattle.bw_lang.specs.declared.token.TokenKind.TheVariants as kinds
-use Rattle.bw_lang.specs.Code.{Code, done, declare, assign, if_then, if_else, while_loop, block, show, exit}
+use Rattle.bw_lang.specs.Code.{Code, done, declare, assign, if_then, if_else, while_loop, block, for_each, show, exit}
 use Rattle.bw_lang.specs.CodeNames.{local_names}
 use Rattle.bw_lang.specs.Drafts.{spell_literal, spell_draft, spell_drafts, spell_service}
 use Rattle.bw_lang.specs.Lexemes.{lexeme, lexeme_of}
@@ -67,6 +67,9 @@ locals_within (if_else t y n r) k =
 locals_within (while_loop t b r) k =
     let a = lex.Sign (codes "}") ∷ spell_code r k in
     omega (arith, length-append (local_names b) (local_names r), longer t (lex.Sign (codes ")") ∷ lex.Sign (codes "{") ∷ spell_code b a), locals_within b a, locals_within r k)
+locals_within (for_each w e b r) k =
+    let a = lex.Sign (codes "}") ∷ spell_code r k in
+    omega (arith, length-append (local_names b) (local_names r), longer e (lex.Sign (codes ")") ∷ lex.Sign (codes "{") ∷ spell_code b a), locals_within b a, locals_within r k)
 locals_within (block b r) k =
     let a = lex.Sign (codes "}") ∷ spell_code r k in omega (arith, length-append (local_names b) (local_names r), locals_within b a, locals_within r k)
 locals_within (show p rs r) k = omega (arith, code_longer (show p rs r) k, code_longer (show p rs done) (spell_code r k), locals_within r k)

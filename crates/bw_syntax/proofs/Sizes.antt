@@ -9,7 +9,7 @@ use Rattle.bw_lang.specs.declared.declaration.Draft.TheVariants as drafts
 use Rattle.bw_lang.specs.declared.service.Session.{Session}
 use Rattle.bw_lang.specs.declared.service.Template.{Template}
 use Rattle.bw_lang.specs.CodeNames.{local_names}
-use Rattle.bw_lang.specs.Limits.{templates_of, sessions_of}
+use Rattle.bw_lang.specs.Sorted.{templates_of, sessions_of}
 use Rattle.bw_lang.specs.Measures.{constant_weight}
 use Rattle.bw_lang.specs.Reads.{AreRead}
 use Rattle.bw_tmpl.proofs.Weights.{items_bounded}

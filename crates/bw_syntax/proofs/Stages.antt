@@ -51,7 +51,7 @@ unparsed_refuses bytes ls fault t u = absurd u
 pub drafted : (bytes : List ℕ) (ls : List Lexeme) (name : List ℕ) (ds : List Draft) → IsText bytes ls → IsParsed ls name ds → IsDraft bytes name ds
 drafted bytes ls name ds t p = record { lexemes = ls; text = t; shallow = p.shallow; named = p.named; formed = p.formed; spelled = p.spelled }
 
-draft_refuses : (bytes name : List ℕ) (ds : List Draft) (fault : SyntaxFault) → IsDraft bytes name ds → IsRefusedDraft name ds fault → Refuses bytes fault
+pub draft_refuses : (bytes name : List ℕ) (ds : List Draft) (fault : SyntaxFault) → IsDraft bytes name ds → IsRefusedDraft name ds fault → Refuses bytes fault
 draft_refuses bytes name ds (faults.Template n f) d u = record { name = name; drafts = ds; drafted = d; unread = u }
 draft_refuses bytes name ds (faults.TooMany limit n) d u = inr (record { name = name; drafts = ds; drafted = d; declarations = u.0; gaps = u.1; read = u.2; passed = u.3 })
 draft_refuses bytes name ds faults.Memory d u = tt
