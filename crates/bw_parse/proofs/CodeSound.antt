@@ -9,9 +9,11 @@ use Rattle.bw_lang.specs.Spelling.{spell, spell_test, spell_value, spell_code, s
 use Rattle.bw_lang.specs.Term.{Term}
 use Rattle.bw_lang.specs.Words.{IsName, kind_word}
 use Rattle.bw_parse.specs.Expressions.{parse, parse_inside, steps}
-use Rattle.bw_parse.specs.Fronts.{◌>>=◌, behind, keyword, named, kind}
+use Rattle.bw_lang.specs.Options.{◌>>=◌}
+use Rattle.bw_parse.specs.Fronts.{behind, keyword, named, kind}
 use Rattle.bw_parse.specs.Statements.{condition, each_head, valued, parse_receives, parse_show, parse_exit, parse_declare, parse_assign, simple, code_of, one, braces}
-use Rattle.bw_parse.proofs.FrontLaws.{bind_some, where_cases, some, some_is, behind_is, keyword_is, named_is, kind_is}
+use Rattle.bw_lang.proofs.Options.{bind_some, where_cases, some_is}
+use Rattle.bw_parse.proofs.FrontLaws.{some, behind_is, keyword_is, named_is, kind_is}
 use Rattle.bw_parse.proofs.Receives.{sound_receives}
 use Rattle.bw_parse.proofs.Sound.{sound_inside}
 use Rattle.bw_parse.proofs.Whole.{parse_sound}

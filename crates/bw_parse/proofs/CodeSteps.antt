@@ -8,7 +8,8 @@ use Rattle.bw_lang.specs.declared.token.Lexeme.{Lexeme}
 use Rattle.bw_lang.specs.declared.token.Lexeme.TheVariants as lex
 use Rattle.bw_lang.specs.Spelling.{spell_code, spell_receives, spell_each}
 use Rattle.bw_lang.specs.Term.{Term}
-use Rattle.bw_parse.specs.Fronts.{Read, ◌>>=◌, where_some, behind, keyword}
+use Rattle.bw_lang.specs.Options.{◌>>=◌, where_some}
+use Rattle.bw_parse.specs.Fronts.{Read, behind, keyword}
 use Rattle.bw_parse.specs.Statements.{condition, each_head, simple, code_of, one, braces, parse_code, parse_one, parse_braces, with_code, parse_if, parse_while, parse_each}
 use Rattle.bw_lang.proofs.Codes.{append_code_assoc, append_done, code-append}
 use Rattle.bw_parse.proofs.CodeSound.{condition_is, each_is, IsStatement, sound_one, sound_braces}

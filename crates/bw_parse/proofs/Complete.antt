@@ -17,7 +17,8 @@ use Rattle.bw_lang.specs.Words.{op_sign, truth_word, fun_word}
 use Rattle.bw_lang.proofs.Terms.{append_fillings_assoc}
 use Rattle.bw_parse.specs.declared.lexemes.Meaning.{Meaning}
 use Rattle.bw_parse.specs.declared.lexemes.Meaning.TheVariants.{Truth, Function, Nothing, Free}
-use Rattle.bw_parse.specs.Fronts.{Read, ◌>>=◌, behind, word, op_of, if_level, operator, meaning}
+use Rattle.bw_lang.specs.Options.{◌>>=◌}
+use Rattle.bw_parse.specs.Fronts.{Read, behind, word, op_of, if_level, operator, meaning}
 use Rattle.bw_parse.specs.Expressions.{expr, more, prefix, plugs, pairs, atom, inside, by_meaning}
 use Rattle.bw_parse.specs.Follow.{binds, op_binds}
 use Rattle.bw_parse.proofs.FrontLaws.{some, is_same, free_meaning}

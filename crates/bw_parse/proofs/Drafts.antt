@@ -12,13 +12,15 @@ use Rattle.bw_lang.specs.Drafts.{IsWritten, spell_literal, spell_draft, spell_dr
 use Rattle.bw_lang.specs.Words.{IsName, kind_word}
 use Rattle.bw_parse.specs.declared.lexemes.Meaning.{Meaning}
 use Rattle.bw_parse.specs.declared.lexemes.Meaning.TheVariants.{Truth, Function, Nothing, Other, Free}
-use Rattle.bw_parse.specs.Fronts.{Read, ◌>>=◌, where_some, behind, keyword, word, named, kind, shared_kind, meaning}
+use Rattle.bw_lang.specs.Options.{◌>>=◌, where_some}
+use Rattle.bw_parse.specs.Fronts.{Read, behind, keyword, word, named, kind, shared_kind, meaning}
 use Rattle.bw_parse.specs.Services.{template_token, number_token, word_literal, plain_literal, literal, parse_template, parse_shared, parse_session, draft, drafts_from, parse_drafts, if_last, parse_service}
 use Rattle.bw_parse.specs.Statements.{parse_code}
 use Rattle.bw_parse.proofs.CodeComplete.{parse_code_gives}
 use Rattle.bw_parse.proofs.CodeSound.{sound_code}
 use Rattle.bw_parse.proofs.CodeSteps.{code_longer}
-use Rattle.bw_parse.proofs.FrontLaws.{bind_some, where_cases, chosen, some, some_is, behind_is, keyword_is, named_is, shared_kind_is, truth_is, free_is, shared_kind_self, free_meaning}
+use Rattle.bw_lang.proofs.Options.{bind_some, where_cases, chosen, some_is}
+use Rattle.bw_parse.proofs.FrontLaws.{some, behind_is, keyword_is, named_is, shared_kind_is, truth_is, free_is, shared_kind_self, free_meaning}
 use Rattle.bw_parse.proofs.Steps.{bind_same, where_same, same_from}
 
 -- ---- literals
@@ -172,7 +174,7 @@ literal_longer (written.Bool b) k = omega arith
 literal_longer (written.Str s) k = omega arith
 literal_longer (written.Name w) k = omega arith
 
-draft_longer : (d : Draft) (k : List Lexeme) → length k < length (spell_draft d k)
+pub draft_longer : (d : Draft) (k : List Lexeme) → length k < length (spell_draft d k)
 draft_longer (drafts.Template name inside) k = omega arith
 draft_longer (drafts.Shared t name init) k = omega (arith, literal_longer init (lex.Sign (codes ";") ∷ k))
 draft_longer (drafts.Session s) k = omega (arith, code_longer s.body (lex.Sign (codes "}") ∷ k))

@@ -14,28 +14,15 @@ use Rattle.bw_lang.specs.Keywords.{is, is_keyword}
 use Rattle.bw_lang.specs.Levels.{op_level}
 use Rattle.bw_lang.specs.declared.token.Lexeme.{Lexeme}
 use Rattle.bw_lang.specs.declared.token.Lexeme.TheVariants as lex
+use Rattle.bw_lang.proofs.Options.{some_is, bind_some, chosen}
 use Rattle.bw_lang.specs.Words.{op_sign, truth_word, fun_word, kind_word}
 use Rattle.bw_parse.specs.declared.lexemes.Meaning.{Meaning}
 use Rattle.bw_parse.specs.declared.lexemes.Meaning.TheVariants.{Truth, Function, Nothing, Other, Free}
-use Rattle.bw_parse.specs.Fronts.{◌>>=◌, where_some, behind, keyword, word, named, op_of, if_level, operator, meaning, kind_of, kind, is_list, shared_kind}
-
-pub bind_some : {A B : Type 0} (o : Option A) (f : A → Option B) (y : B) → (o >>= f) ≡ Some y → (x : A) × (o ≡ Some x) × (f x ≡ Some y)
-bind_some (Some x) f y e = (x, refl, e)
-bind_some None f y e = absurd cc
-
-pub where_cases : {A B : Type 0} (o : Option A) (f : A → B) (d z : B) → where_some o f d ≡ z → ((x : A) × (o ≡ Some x) × (f x ≡ z)) ⊎ ((o ≡ None) × (d ≡ z))
-where_cases (Some x) f d z e = inl (x, refl, e)
-where_cases None f d z e = inr (refl, e)
-
-pub chosen : {A : Type 0} (b : Bool) (x y z : A) → cond b x y ≡ z → ((b ≡ true) × (x ≡ z)) ⊎ ((b ≡ false) × (y ≡ z))
-chosen true x y z e = inl (refl, e)
-chosen false x y z e = inr (refl, e)
+use Rattle.bw_lang.specs.Options.{◌>>=◌, where_some}
+use Rattle.bw_parse.specs.Fronts.{behind, keyword, word, named, op_of, if_level, operator, meaning, kind_of, kind, is_list, shared_kind}
 
 abbrev pub some : {A : Type 0} → A → Option A
 some x = Some x
-
-pub some_is : {A : Type 0} (x y : A) → some x ≡ some y → x ≡ y
-some_is x y e = cc
 
 -- ---- words and signs
 

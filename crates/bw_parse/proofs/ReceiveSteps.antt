@@ -2,7 +2,8 @@
 use Rattle.std.proofs.Common.{◌≡◌, List, [], ◌∷◌, ◌++◌, Some, None, ap, ◌∙◌, codes}
 use Rattle.bw_lang.specs.declared.stmt.Receive.{Receive}
 use Rattle.bw_lang.specs.declared.token.Lexeme.{Lexeme}
-use Rattle.bw_parse.specs.Fronts.{Read, ◌>>=◌, where_some, behind}
+use Rattle.bw_lang.specs.Options.{◌>>=◌, where_some}
+use Rattle.bw_parse.specs.Fronts.{Read, behind}
 use Rattle.bw_parse.specs.Statements.{receive, parse_list}
 use Rattle.bw_parse.proofs.Receives.{parse_list_is}
 

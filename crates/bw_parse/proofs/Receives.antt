@@ -6,9 +6,11 @@ use Rattle.bw_lang.specs.declared.token.Lexeme.TheVariants as lex
 use Rattle.bw_lang.specs.Spelling.{spell_each, spell_receives, HaveTargets}
 use Rattle.bw_lang.specs.Words.{IsName}
 use Rattle.bw_parse.specs.Follow.{binds}
-use Rattle.bw_parse.specs.Fronts.{◌>>=◌, where_some, behind, keyword, word, named}
+use Rattle.bw_lang.specs.Options.{◌>>=◌, where_some}
+use Rattle.bw_parse.specs.Fronts.{behind, keyword, word, named}
 use Rattle.bw_parse.specs.Statements.{receive, receives_from, parse_list, parse_receives}
-use Rattle.bw_parse.proofs.FrontLaws.{bind_some, where_cases, some_is, behind_is, keyword_is, named_is, word_is}
+use Rattle.bw_lang.proofs.Options.{bind_some, where_cases, some_is}
+use Rattle.bw_parse.proofs.FrontLaws.{behind_is, keyword_is, named_is, word_is}
 use Rattle.bw_parse.proofs.Steps.{bind_same, where_same, same_from, behind_shorter}
 
 -- the lexemes are those of a receive, and then the rest

@@ -12,9 +12,11 @@ use Rattle.bw_lang.specs.Words.{op_sign}
 use Rattle.bw_lang.proofs.Terms.{append_fillings_assoc}
 use Rattle.bw_parse.specs.declared.lexemes.Meaning.{Meaning}
 use Rattle.bw_parse.specs.declared.lexemes.Meaning.TheVariants.{Truth, Function, Nothing, Other, Free}
-use Rattle.bw_parse.specs.Fronts.{◌>>=◌, behind, word, operator, meaning}
+use Rattle.bw_lang.specs.Options.{◌>>=◌}
+use Rattle.bw_parse.specs.Fronts.{behind, word, operator, meaning}
 use Rattle.bw_parse.specs.Expressions.{expr, more, prefix, plugs, pairs, atom, inside, by_meaning}
-use Rattle.bw_parse.proofs.FrontLaws.{bind_some, where_cases, chosen, some, some_is, behind_is, word_is, operator_is, truth_is, function_is, nothing_is, free_is}
+use Rattle.bw_lang.proofs.Options.{bind_some, where_cases, chosen, some_is}
+use Rattle.bw_parse.proofs.FrontLaws.{some, behind_is, word_is, operator_is, truth_is, function_is, nothing_is, free_is}
 
 -- the tokens are those of the expression, of the level, and then the rest
 pub record Reads (n : ℕ) (ts : List Lexeme) (e : Term) (k : List Lexeme) : Type 0 where

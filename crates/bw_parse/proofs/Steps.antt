@@ -13,7 +13,8 @@ use Rattle.bw_lang.specs.Term.{Term, int, truth, string, name, paren, not, neg, 
 use Rattle.bw_lang.specs.Words.{op_sign}
 use Rattle.bw_parse.specs.declared.lexemes.Meaning.{Meaning}
 use Rattle.bw_parse.specs.declared.lexemes.Meaning.TheVariants.{Truth, Function, Nothing, Other, Free}
-use Rattle.bw_parse.specs.Fronts.{Read, ◌>>=◌, where_some, behind, word, operator, meaning}
+use Rattle.bw_lang.specs.Options.{◌>>=◌, where_some}
+use Rattle.bw_parse.specs.Fronts.{Read, behind, word, operator, meaning}
 use Rattle.bw_parse.specs.Expressions.{number_at, expr, more, prefix, plugs, pairs, atom, inside, by_meaning}
 use Rattle.bw_parse.specs.Expressions.{steps, parse, parse_more, parse_prefix, parse_plugs, parse_pairs, parse_atom, parse_inside, parse_word}
 use Rattle.bw_parse.proofs.FrontLaws.{behind_is, word_is, operator_is}

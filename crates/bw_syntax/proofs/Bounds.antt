@@ -19,6 +19,7 @@ use Rattle.bw_lang.specs.Lexemes.{lexeme, lexeme_of}
 use Rattle.bw_lang.specs.Reads.{IsText}
 use Rattle.bw_lang.specs.Spelling.{spell_code}
 use Rattle.bw_parse.proofs.CodeSteps.{code_longer}
+use Rattle.bw_parse.proofs.Drafts.{draft_longer}
 use Rattle.bw_parse.proofs.Steps.{longer}
 use Rattle.bw_syntax.specs.Stages.{IsBounded, AreBounded}
 use Rattle.bw_syntax.proofs.Rests.{Fits, AllFit, draft_rest}
@@ -82,23 +83,11 @@ draft_bounded (drafts.Template name inside) k h l = h.1.1.1.0
 draft_bounded (drafts.Shared t name init) k h l = tt
 draft_bounded (drafts.Session s) k h l = omega (arith, locals_within s.body (lex.Sign (codes "}") ∷ k))
 
-literal_longer : (l : Written) (k : List Lexeme) → length k ≤ length (spell_literal l k)
-literal_longer (written.Plus n) k = omega arith
-literal_longer (written.Minus n) k = omega arith
-literal_longer (written.Bool b) k = omega arith
-literal_longer (written.Str s) k = omega arith
-literal_longer (written.Name w) k = omega arith
-
-draft_shorter : (d : Draft) (k : List Lexeme) → length k ≤ length (spell_draft d k)
-draft_shorter (drafts.Template name inside) k = omega arith
-draft_shorter (drafts.Shared t name init) k = omega (arith, literal_longer init (lex.Sign (codes ";") ∷ k))
-draft_shorter (drafts.Session s) k = omega (arith, code_longer s.body (lex.Sign (codes "}") ∷ k))
-
 drafts_bounded : (ds : List Draft) (k : List Lexeme) → AllFit 1048576 (spell_drafts ds k) → length (spell_drafts ds k) < 2 ^ 64 → AreBounded ds
 drafts_bounded [] k h l = tt
 drafts_bounded (d ∷ ds) k h l = (
   draft_bounded d (spell_drafts ds k) h l,
-  drafts_bounded ds k (draft_rest 1048576 d (spell_drafts ds k) h) (omega (arith, draft_shorter d (spell_drafts ds k))),
+  drafts_bounded ds k (draft_rest 1048576 d (spell_drafts ds k) h) (omega (arith, draft_longer d (spell_drafts ds k))),
 )
 
 pub service_bounded : (bytes : List ℕ) (ls : List Lexeme) (name : List ℕ) (ds : List Draft) → IsText bytes ls → ls ≡ spell_service name ds → length ls < 2 ^ 64 → AreBounded ds

@@ -5,7 +5,8 @@ use Rattle.std.proofs.lemmas.Bool.Decides.{nat_tests}
 use Rattle.std.proofs.lemmas.List.{length-append}
 use Rattle.bw_tmpl.specs.Reading.{stripped, as_char, ref_at, char_at, each}
 use Rattle.bw_lang.specs.Pieces.{IsRef, IsChar}
-use Rattle.bw_tmpl.proofs.Many.{map_or_some, cond_none, some_is, stripped_is, Shrinks, onto, onto_more, onto_none}
+use Rattle.bw_lang.proofs.Options.{where_cases, cond_none, some_is}
+use Rattle.bw_tmpl.proofs.Many.{stripped_is, Shrinks, onto, onto_more, onto_none}
 
 abbrev Written : ℕ → List ℕ → List ℕ → Type 0
 Written c bytes rest = (w : List ℕ) × IsRef c w × (bytes ≡ w ++ rest)
@@ -15,19 +16,19 @@ as_char_is c rest x h = let e = some_is (c, rest) x h in (sym (ap (λ (p : ℕ �
 
 ref_is : (bytes : List ℕ) (x : ℕ × List ℕ) → ref_at bytes ≡ Some x → Written x.0 bytes x.1
 ref_is bytes x h =
-    elim (map_or_some (stripped (codes "&amp;") bytes) (as_char 38) _ x h) [
+    elim (where_cases (stripped (codes "&amp;") bytes) (as_char 38) _ (Some x) h) [
       | inl a ↦
           let e = as_char_is 38 a.0 x a.2 in (codes "&amp;", inl (e.0, refl), stripped_is (codes "&amp;") bytes x.1 (a.1 ∙ ap Some e.1))
       | inr n ↦
-          elim (map_or_some (stripped (codes "&lt;") bytes) (as_char 60) _ x n.1) [
+          elim (where_cases (stripped (codes "&lt;") bytes) (as_char 60) _ (Some x) n.1) [
             | inl a ↦
                 let e = as_char_is 60 a.0 x a.2 in (codes "&lt;", inr (inl (e.0, refl)), stripped_is (codes "&lt;") bytes x.1 (a.1 ∙ ap Some e.1))
             | inr m ↦
-                elim (map_or_some (stripped (codes "&gt;") bytes) (as_char 62) _ x m.1) [
+                elim (where_cases (stripped (codes "&gt;") bytes) (as_char 62) _ (Some x) m.1) [
                   | inl a ↦
                       let e = as_char_is 62 a.0 x a.2 in (codes "&gt;", inr (inr (inl (e.0, refl))), stripped_is (codes "&gt;") bytes x.1 (a.1 ∙ ap Some e.1))
                   | inr k ↦
-                      elim (map_or_some (stripped (codes "&quot;") bytes) (as_char 34) _ x k.1) [
+                      elim (where_cases (stripped (codes "&quot;") bytes) (as_char 34) _ (Some x) k.1) [
                         | inl a ↦
                             let e = as_char_is 34 a.0 x a.2 in (codes "&quot;", inr (inr (inr (e.0, refl))), stripped_is (codes "&quot;") bytes x.1 (a.1 ∙ ap Some e.1))
                         | inr z ↦ absurd (none_is x z.1)

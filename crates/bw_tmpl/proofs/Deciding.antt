@@ -11,15 +11,13 @@ use Rattle.bw_lang.specs.Pieces.{SpellsPieces}
 use Rattle.bw_lang.specs.Templates.{ReadsBy, SpellsClosed}
 use Rattle.bw_tmpl.specs.Refusals.{RefusedBy}
 use Rattle.bw_tmpl.specs.Laws.{OneTemplate, NotBoth, OneReason, OneClosedTemplate, NotBothClosed, OneClosedReason}
+use Rattle.bw_lang.proofs.Options.{some_is}
 use Rattle.bw_tmpl.proofs.Inverse.{reads_once}
 use Rattle.bw_tmpl.proofs.Depths.{reads_depth}
 use Rattle.bw_tmpl.proofs.Spelled.{spelled_once}
 
 true_false : true ≡ false → ⊥
 true_false p = cc
-
-some_is : (m n : ℕ) → Some m ≡ Some n → m ≡ n
-some_is m n p = cc
 
 -- items of the same pieces stand as deep in one another, whatever the tables
 same_nesting : (ps : List Piece) (names others : List (List ℕ)) (f g : Forest) → ReadsAs names ps f → ReadsAs others ps g → nest f ≡ nest g

@@ -8,6 +8,7 @@ use Rattle.bw_lang.specs.Markup.{is_void}
 use Rattle.bw_lang.specs.declared.pieces.Tag.{Tag}
 use Rattle.bw_lang.specs.declared.pieces.Piece.{Piece}
 use Rattle.bw_lang.specs.declared.pieces.Piece.TheVariants as piece
+use Rattle.bw_lang.proofs.Options.{some_is}
 use Rattle.bw_tmpl.specs.declared.building.OpenElement.{OpenElement}
 use Rattle.bw_tmpl.specs.declared.nesting.OpenTags.{OpenTags}
 use Rattle.bw_lang.specs.Names.{same, number}
@@ -103,6 +104,3 @@ depth_reads table ps h e =
     let r = built_reads table ps b.0 b.1 in
     let k = reads_depth table ps b.0 r in
     let same_depth : h ≡ nest b.0 = some_is h (nest b.0) (sym e ∙ k) in (b.0, r, same_depth)
-  where
-    some_is : (m n : ℕ) → Some m ≡ Some n → m ≡ n
-    some_is m n p = cc

@@ -4,27 +4,10 @@ use Rattle.std.specs.Prelude.{if◌then◌else◌, nat_eq}
 use Rattle.std.specs.Cmp.Lexicographic.{same_text}
 use Rattle.std.proofs.lemmas.List.{take_at, drop_at, take-append-drop, append-nil}
 use lib.Pointwise.{pointwise}
-use Rattle.bw_tmpl.specs.Reading.{◌>>=◌, map_or, stripped, many_next, many, each}
+use Rattle.bw_lang.specs.Options.{◌>>=◌, where_some}
+use Rattle.bw_tmpl.specs.Reading.{stripped, many_next, many, each}
+use Rattle.bw_lang.proofs.Options.{cond_some, some_is}
 use Rattle.bw_tmpl.proofs.Inverse.{same-refl}
-
-pub bind_some : {A B : Type 0} (o : Option A) (f : A → Option B) (y : B) → (o >>= f) ≡ Some y → (x : A) × (o ≡ Some x) × (f x ≡ Some y)
-bind_some None f y h = absurd (cc)
-bind_some (Some x) f y h = (x, refl, h)
-
-pub map_or_some : {A B : Type 0} (o : Option A) (f : A → Option B) (d : Option B) (y : B) → map_or o f d ≡ Some y → ((x : A) × (o ≡ Some x) × (f x ≡ Some y)) ⊎ ((o ≡ None) × (d ≡ Some y))
-map_or_some None f d y h = inr (refl, h)
-map_or_some (Some x) f d y h = inl (x, refl, h)
-
-pub cond_some : {A : Type 0} (b : Bool) (x y : A) → (if b then Some x else None) ≡ Some y → (b ≡ true) × (x ≡ y)
-cond_some true x y h = (refl, cc)
-cond_some false x y h = absurd (cc)
-
-pub cond_none : {A : Type 0} (b : Bool) (o : Option A) (y : A) → (if b then None else o) ≡ Some y → (b ≡ false) × (o ≡ Some y)
-cond_none true o y h = absurd (cc)
-cond_none false o y h = (refl, h)
-
-pub some_is : {A : Type 0} (x y : A) → Some x ≡ Some y → x ≡ y
-some_is x y h = cc
 
 -- ---- fronts
 

@@ -14,15 +14,13 @@ use Rattle.bw_lang.specs.PieceGaps.{gap_names}
 use Rattle.bw_tmpl.specs.Checks.{Passes, Fails}
 use Rattle.bw_lang.specs.Templates.{ReadsBy, SpellsClosed}
 use Rattle.bw_tmpl.specs.Refusals.{RefusedBy}
+use Rattle.bw_lang.proofs.Options.{some_is}
 use Rattle.bw_tmpl.proofs.Inverse.{built_reads, reads_built}
 use Rattle.bw_tmpl.proofs.Depths.{reads_depth, depth_reads}
 use Rattle.bw_tmpl.proofs.Spelled.{spelled_pieces, spelled_once}
 
 apart : {A : Type 0} (x : A) (o : Option A) → o ≡ None → o ≡ Some x → ⊥
 apart x o p q = cc
-
-some_is : {A : Type 0} (x y : A) → Some x ≡ Some y → x ≡ y
-some_is x y p = cc
 
 pub unread : (S : List Piece → List ℕ → Type 0) → ((ps : List Piece) (bytes : List ℕ) → S ps bytes → SpellsPieces ps bytes) → (most : ℕ) (bytes : List ℕ) (e : TmplFault) → MalformedIfNone e (pieces_of bytes) → RefusedBy S most bytes e
 unread S s most bytes fault.Malformed h = λ (ps : List Piece) (k : S ps bytes). apart ps (pieces_of bytes) h (spelled_pieces ps bytes (s ps bytes k))

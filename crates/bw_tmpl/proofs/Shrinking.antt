@@ -10,9 +10,12 @@ use Rattle.bw_lang.specs.declared.pieces.RawValue.TheVariants as raw
 use Rattle.bw_lang.specs.declared.pieces.Tag.{Tag}
 use Rattle.bw_lang.specs.declared.pieces.Piece.{Piece}
 use Rattle.bw_lang.specs.declared.pieces.Piece.TheVariants as piece
-use Rattle.bw_tmpl.specs.Reading.{◌>>=◌, map_or, stripped, leading, past_blanks, name_at, char_at, many, many_next, each, checked, quoted_at, hole_at, value_at, attr_at, tag_at, whole_at, end_at, gap_at, text_at, piece_at}
-use Rattle.bw_lang.specs.MarkupNames.{begins, first_of, later_of, is_blank}
-use Rattle.bw_tmpl.proofs.Many.{bind_some, map_or_some, cond_some, cond_none, some_is, stripped_is, Shrinks, each_more, each_none}
+use Rattle.bw_lang.specs.Options.{◌>>=◌, where_some}
+use Rattle.bw_tmpl.specs.Reading.{stripped, leading, past_blanks, name_at, char_at, many, many_next, each, checked, quoted_at, hole_at, value_at, attr_at, tag_at, whole_at, end_at, gap_at, text_at, piece_at}
+use Rattle.bw_lang.specs.Bytes.{is_blank}
+use Rattle.bw_lang.specs.MarkupNames.{begins, first_of, later_of}
+use Rattle.bw_lang.proofs.Options.{if_some, bind_some, where_cases, cond_some, cond_none, some_is}
+use Rattle.bw_tmpl.proofs.Many.{stripped_is, Shrinks, each_more, each_none}
 use Rattle.bw_tmpl.proofs.Characters.{char_shrinks}
 
 -- ---- what is behind is not longer
@@ -62,13 +65,13 @@ hole_le bytes x h =
 value_le : (bytes : List ℕ) (x : RawValue × List ℕ) → value_at bytes ≡ Some x → length x.1 ≤ length bytes
 unfolding value_at
 value_le bytes x h =
-    elim (map_or_some (stripped (codes "\"") bytes) (quoted_at 34) _ x h) [
+    elim (where_cases (stripped (codes "\"") bytes) (quoted_at 34) _ (Some x) h) [
       | inl a ↦ omega (arith, stripped_le (codes "\"") bytes a.0 a.1, quoted_le 34 a.0 x a.2)
       | inr n ↦
-          elim (map_or_some (stripped (codes "'") bytes) (quoted_at 39) _ x n.1) [
+          elim (where_cases (stripped (codes "'") bytes) (quoted_at 39) _ (Some x) n.1) [
             | inl a ↦ omega (arith, stripped_le (codes "'") bytes a.0 a.1, quoted_le 39 a.0 x a.2)
             | inr m ↦
-                elim (map_or_some (stripped (codes "[") bytes) hole_at None x m.1) [
+                elim (where_cases (stripped (codes "[") bytes) hole_at None (Some x) m.1) [
                   | inl a ↦ omega (arith, stripped_le (codes "[") bytes a.0 a.1, hole_le a.0 x a.2)
                   | inr z ↦ absurd (none_is x z.1)
                 ]
@@ -90,10 +93,6 @@ attr_less bytes x h =
     let c = bind_some (value_at b.0) (λ v. Some (record { name = a.0.0; value = v.0 }, v.1)) x b.2 in
     let e : length c.0.1 ≡ length x.1 = ap (λ (p : RawAttr × List ℕ). length p.1) (some_is (record { name = a.0.0; value = c.0.0 }, c.0.1) x c.2) in
     omega (arith, length-drop (leading is_blank bytes) bytes, name_le class.Attr (past_blanks bytes) a.0 a.1, stripped_le (codes "=") a.0.1 b.0 b.1, value_le b.0 c.0 c.1)
-  where
-    if_some : {A : Type 0} (b : Bool) (o : Option A) (y : A) → (if b then o else None) ≡ Some y → (b ≡ true) × (o ≡ Some y)
-    if_some true o y h = (refl, h)
-    if_some false o y h = absurd (cc)
 
 pub attr_shrinks : Shrinks attr_at
 attr_shrinks = record { less = attr_less }
@@ -109,13 +108,13 @@ tag_le bytes x h =
 whole_le : (bytes : List ℕ) (x : Piece × List ℕ) → whole_at bytes ≡ Some x → length x.1 ≤ length bytes
 unfolding whole_at
 whole_le bytes x h =
-    let a = bind_some (tag_at bytes) (λ t. map_or (stripped (codes "/>") t.1) (λ rest. Some (piece.Whole t.0, rest)) (map_or (stripped (codes ">") t.1) (λ rest. Some (piece.Start t.0, rest)) None)) x h in
+    let a = bind_some (tag_at bytes) (λ t. where_some (stripped (codes "/>") t.1) (λ rest. Some (piece.Whole t.0, rest)) (where_some (stripped (codes ">") t.1) (λ rest. Some (piece.Start t.0, rest)) None)) x h in
     let l = tag_le bytes a.0 a.1 in
-    elim (map_or_some (stripped (codes "/>") a.0.1) (λ rest. Some (piece.Whole a.0.0, rest)) _ x a.2) [
+    elim (where_cases (stripped (codes "/>") a.0.1) (λ rest. Some (piece.Whole a.0.0, rest)) _ (Some x) a.2) [
       | inl b ↦
           let e : length b.0 ≡ length x.1 = ap (λ (p : Piece × List ℕ). length p.1) (some_is (piece.Whole a.0.0, b.0) x b.2) in omega (arith, stripped_le (codes "/>") a.0.1 b.0 b.1)
       | inr n ↦
-          elim (map_or_some (stripped (codes ">") a.0.1) (λ rest. Some (piece.Start a.0.0, rest)) None x n.1) [
+          elim (where_cases (stripped (codes ">") a.0.1) (λ rest. Some (piece.Start a.0.0, rest)) None (Some x) n.1) [
             | inl b ↦
                 let e : length b.0 ≡ length x.1 = ap (λ (p : Piece × List ℕ). length p.1) (some_is (piece.Start a.0.0, b.0) x b.2) in omega (arith, stripped_le (codes ">") a.0.1 b.0 b.1)
             | inr z ↦ absurd (none_is x z.1)
@@ -163,13 +162,13 @@ text_less bytes x h =
 pub piece_less : (bytes : List ℕ) (x : Piece × List ℕ) → piece_at bytes ≡ Some x → length x.1 < length bytes
 unfolding piece_at
 piece_less bytes x h =
-    elim (map_or_some (stripped (codes "<[") bytes) gap_at _ x h) [
+    elim (where_cases (stripped (codes "<[") bytes) gap_at _ (Some x) h) [
       | inl a ↦ omega (arith, stripped_le (codes "<[") bytes a.0 a.1, gap_le a.0 x a.2)
       | inr n ↦
-          elim (map_or_some (stripped (codes "</") bytes) end_at _ x n.1) [
+          elim (where_cases (stripped (codes "</") bytes) end_at _ (Some x) n.1) [
             | inl a ↦ omega (arith, stripped_le (codes "</") bytes a.0 a.1, end_le a.0 x a.2)
             | inr m ↦
-                elim (map_or_some (stripped (codes "<") bytes) whole_at (text_at bytes) x m.1) [
+                elim (where_cases (stripped (codes "<") bytes) whole_at (text_at bytes) (Some x) m.1) [
                   | inl a ↦ omega (arith, stripped_le (codes "<") bytes a.0 a.1, whole_le a.0 x a.2)
                   | inr z ↦ text_less bytes x z.1
                 ]

@@ -15,10 +15,13 @@ use Rattle.bw_lang.specs.declared.pieces.Tag.{Tag}
 use Rattle.bw_lang.specs.declared.pieces.Piece.{Piece}
 use Rattle.bw_lang.specs.declared.pieces.Piece.TheVariants as piece
 use Rattle.std.specs.Char.{is_ascii_lowercase}
-use Rattle.bw_tmpl.specs.Reading.{◌>>=◌, map_or, stripped, leading, past_blanks, name_at, char_at, many, many_next, each, checked, quoted_at, hole_at, value_at, attr_at, tag_at, whole_at, end_at, gap_at, text_at, piece_at, pieces_of}
-use Rattle.bw_lang.specs.MarkupNames.{begins, first_of, later_of, is_blank}
+use Rattle.bw_lang.specs.Options.{◌>>=◌, where_some}
+use Rattle.bw_tmpl.specs.Reading.{stripped, leading, past_blanks, name_at, char_at, many, many_next, each, checked, quoted_at, hole_at, value_at, attr_at, tag_at, whole_at, end_at, gap_at, text_at, piece_at, pieces_of}
+use Rattle.bw_lang.specs.Bytes.{is_blank}
+use Rattle.bw_lang.specs.MarkupNames.{begins, first_of, later_of}
 use Rattle.bw_lang.specs.Pieces.{passes, IsName, IsChar, Each, IsValue, IsAttr, IsTag, IsPiece, is_text, begins_with_text, Apart, SpellsPieces}
-use Rattle.bw_tmpl.proofs.Many.{bind_some, map_or_some, cond_some, cond_none, some_is, stripped_is, stripped_again, Shrinks, put, each_more, each_none}
+use Rattle.bw_lang.proofs.Options.{if_some, bind_some, where_cases, cond_some, cond_none, some_is}
+use Rattle.bw_tmpl.proofs.Many.{stripped_is, stripped_again, Shrinks, put, each_more, each_none}
 use Rattle.bw_tmpl.proofs.Characters.{char_shrinks, char_is, char_written}
 use Rattle.bw_tmpl.proofs.Shrinking.{attr_shrinks, piece_shrinks}
 use Rattle.bw_tmpl.proofs.Runs.{checked_ok}
@@ -26,10 +29,6 @@ use Rattle.bw_tmpl.proofs.Runs.{checked_ok}
 both : (a b : Bool) → (a && b) ≡ true → (a ≡ true) × (b ≡ true)
 both true b h = (refl, h)
 both false b h = absurd (cc)
-
-if_some : {A : Type 0} (b : Bool) (o : Option A) (y : A) → (if b then o else None) ≡ Some y → (b ≡ true) × (o ≡ Some y)
-if_some true o y h = (refl, h)
-if_some false o y h = absurd (cc)
 
 none_some : {A : Type 0} (x : A) → None ≡ Some x → ⊥
 none_some x h = cc
@@ -162,20 +161,20 @@ hole_is bytes x h =
 value_is : (bytes : List ℕ) (x : RawValue × List ℕ) → value_at bytes ≡ Some x → IsValue x.0 bytes x.1
 unfolding value_at
 value_is bytes x h =
-    elim (map_or_some (stripped (codes "\"") bytes) (quoted_at 34) _ x h) [
+    elim (where_cases (stripped (codes "\"") bytes) (quoted_at 34) _ (Some x) h) [
       | inl a ↦ subst (λ (l : List ℕ). IsValue x.0 l x.1) (sym (stripped_is (codes "\"") bytes a.0 a.1)) (quoted_is 34 a.0 x (inl refl) a.2)
       | inr n ↦
-          elim (map_or_some (stripped (codes "'") bytes) (quoted_at 39) _ x n.1) [
+          elim (where_cases (stripped (codes "'") bytes) (quoted_at 39) _ (Some x) n.1) [
             | inl a ↦ subst (λ (l : List ℕ). IsValue x.0 l x.1) (sym (stripped_is (codes "'") bytes a.0 a.1)) (quoted_is 39 a.0 x (inr refl) a.2)
             | inr m ↦
-                elim (map_or_some (stripped (codes "[") bytes) hole_at None x m.1) [
+                elim (where_cases (stripped (codes "[") bytes) hole_at None x m.1) [
                   | inl a ↦ subst (λ (l : List ℕ). IsValue x.0 l x.1) (sym (stripped_is (codes "[") bytes a.0 a.1)) (hole_is a.0 x a.2)
                   | inr z ↦ absurd (none_some x z.1)
                 ]
           ]
     ]
 
-quoted_written : (q : ℕ) (v u rest : List ℕ) → char_at q (q ∷ rest) ≡ None → Each (IsChar q) v u (q ∷ rest) → IsUtf8 v → quoted_at q u ≡ Some (raw.Fixed v, rest)
+(Some quoted_written) : (q : ℕ) (v u rest : List ℕ) → char_at q (q ∷ rest) ≡ None → Each (IsChar q) v u (q ∷ rest) → IsUtf8 v → quoted_at q u ≡ Some (raw.Fixed v, rest)
 unfolding quoted_at
 quoted_written q v u rest e h k =
     ap (λ (t : List ℕ × List ℕ). checked t.0 >>= λ w. stripped (q ∷ []) t.1 >>= λ r. Some (raw.Fixed w, r)) (chars_written q v u (q ∷ rest) h e)
@@ -298,14 +297,14 @@ tag_written t bytes rest h e =
 whole_is : (bytes : List ℕ) (x : Piece × List ℕ) → whole_at bytes ≡ Some x → IsPiece x.0 (60 ∷ bytes) x.1 × (is_text x.0 ≡ false)
 unfolding whole_at
 whole_is bytes x h =
-    let a = bind_some (tag_at bytes) (λ t. map_or (stripped (codes "/>") t.1) (λ rest. Some (piece.Whole t.0, rest)) (map_or (stripped (codes ">") t.1) (λ rest. Some (piece.Start t.0, rest)) None)) x h in
+    let a = bind_some (tag_at bytes) (λ t. where_some (stripped (codes "/>") t.1) (λ rest. Some (piece.Whole t.0, rest)) (where_some (stripped (codes ">") t.1) (λ rest. Some (piece.Start t.0, rest)) None)) x h in
     let t = tag_is bytes a.0 a.1 in
-    elim (map_or_some (stripped (codes "/>") a.0.1) (λ rest. Some (piece.Whole a.0.0, rest)) _ x a.2) [
+    elim (where_cases (stripped (codes "/>") a.0.1) (λ rest. Some (piece.Whole a.0.0, rest)) _ (Some x) a.2) [
       | inl b ↦
           let k : IsTag a.0.0 bytes (codes "/>" ++ b.0) = subst (λ (l : List ℕ). IsTag a.0.0 bytes l) (stripped_is (codes "/>") a.0.1 b.0 b.1) t in
           subst (λ (y : Piece × List ℕ). IsPiece y.0 (60 ∷ bytes) y.1 × (is_text y.0 ≡ false)) (some_is (piece.Whole a.0.0, b.0) x b.2) ((bytes, refl, k), refl)
       | inr n ↦
-          elim (map_or_some (stripped (codes ">") a.0.1) (λ rest. Some (piece.Start a.0.0, rest)) None x n.1) [
+          elim (where_cases (stripped (codes ">") a.0.1) (λ rest. Some (piece.Start a.0.0, rest)) None (Some x) n.1) [
             | inl b ↦
                 let k : IsTag a.0.0 bytes (codes ">" ++ b.0) = subst (λ (l : List ℕ). IsTag a.0.0 bytes l) (stripped_is (codes ">") a.0.1 b.0 b.1) t in
                 subst (λ (y : Piece × List ℕ). IsPiece y.0 (60 ∷ bytes) y.1 × (is_text y.0 ≡ false)) (some_is (piece.Start a.0.0, b.0) x b.2) ((bytes, refl, k), refl)
@@ -360,13 +359,13 @@ met_at p bytes front x e k = record { is = subst (λ (l : List ℕ). IsPiece x.0
 pub piece_met : (bytes : List ℕ) (x : Piece × List ℕ) → piece_at bytes ≡ Some x → Met bytes x
 unfolding piece_at
 piece_met bytes x h =
-    elim (map_or_some (stripped (codes "<[") bytes) gap_at _ x h) [
+    elim (where_cases (stripped (codes "<[") bytes) gap_at _ x h) [
       | inl a ↦ met_at a.0 bytes (codes "<[") x (stripped_is (codes "<[") bytes a.0 a.1) (gap_is a.0 x a.2)
       | inr n ↦
-          elim (map_or_some (stripped (codes "</") bytes) end_at _ x n.1) [
+          elim (where_cases (stripped (codes "</") bytes) end_at _ (Some x) n.1) [
             | inl a ↦ met_at a.0 bytes (codes "</") x (stripped_is (codes "</") bytes a.0 a.1) (end_is a.0 x a.2)
             | inr m ↦
-                elim (map_or_some (stripped (codes "<") bytes) whole_at (text_at bytes) x m.1) [
+                elim (where_cases (stripped (codes "<") bytes) whole_at (text_at bytes) (Some x) m.1) [
                   | inl a ↦ met_at a.0 bytes (codes "<") x (stripped_is (codes "<") bytes a.0 a.1) (whole_is a.0 x a.2)
                   | inr z ↦ let k = text_is bytes x z.1 in record { is = k.0; kind = inr (k.1, k.2) }
                 ]
@@ -428,7 +427,7 @@ slash_ends : (rest : List ℕ) → Ends (codes "/>" ++ rest)
 slash_ends rest = record { no_blank = refl; no_name = refl; no_later = refl }
 
 abbrev closing : Tag → List ℕ → Option (Piece × List ℕ)
-closing t l = map_or (stripped (codes "/>") l) (λ rest. Some (piece.Whole t, rest)) (map_or (stripped (codes ">") l) (λ rest. Some (piece.Start t, rest)) None)
+closing t l = where_some (stripped (codes "/>") l) (λ rest. Some (piece.Whole t, rest)) (where_some (stripped (codes ">") l) (λ rest. Some (piece.Start t, rest)) None)
 
 no_slash : (t : Tag) (rest : List ℕ) → closing t (62 ∷ rest) ≡ Some (piece.Start t, rest)
 no_slash t [] = refl
@@ -475,7 +474,7 @@ gap_written : (n rest : List ℕ) → IsName class.Word n → gap_at (n ++ (code
 unfolding gap_at
 gap_written n rest h = ap (λ (o : Option (List ℕ × List ℕ)). o >>= λ n. stripped (codes "]>") n.1 >>= λ rest. Some (piece.Gap n.0, rest)) (name_written class.Word n (codes "]>" ++ rest) h refl)
 
--- where a character stands no < does
+-- (Some where) a character stands no < does
 no_bracket : (front b : ℕ) (fs bs : List ℕ) (v : Bool) → nat_eq b front ≡ v → (v ≡ true → ⊥) → stripped (front ∷ fs) (b ∷ bs) ≡ None
 no_bracket front b fs bs true e h = absurd (h refl)
 no_bracket front b fs bs false e h = rw e refl
@@ -494,9 +493,9 @@ char_bracket c bytes rest fs h =
 text_dispatch : (bytes : List ℕ) → ((fs : List ℕ) → stripped (60 ∷ fs) bytes ≡ None) → piece_at bytes ≡ text_at bytes
 unfolding piece_at
 text_dispatch bytes h =
-    ap (λ (o : Option (List ℕ)). map_or o gap_at (map_or (stripped (codes "</") bytes) end_at (map_or (stripped (codes "<") bytes) whole_at (text_at bytes)))) (h (codes "["))
-    ∙ ap (λ (o : Option (List ℕ)). map_or o end_at (map_or (stripped (codes "<") bytes) whole_at (text_at bytes))) (h (codes "/"))
-    ∙ ap (λ (o : Option (List ℕ)). map_or o whole_at (text_at bytes)) (h [])
+    ap (λ (o : Option (List ℕ)). where_some o gap_at (where_some (stripped (codes "</") bytes) end_at (where_some (stripped (codes "<") bytes) whole_at (text_at bytes)))) (h (codes "["))
+    ∙ ap (λ (o : Option (List ℕ)). where_some o end_at (where_some (stripped (codes "<") bytes) whole_at (text_at bytes))) (h (codes "/"))
+    ∙ ap (λ (o : Option (List ℕ)). where_some o whole_at (text_at bytes)) (h [])
 
 text_read : (s bytes rest : List ℕ) → (length s == 0) ≡ false → IsUtf8 s → Each (IsChar 60) s bytes rest → char_at 60 rest ≡ None → text_at bytes ≡ Some (piece.Text s, rest)
 unfolding text_at
