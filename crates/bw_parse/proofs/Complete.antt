@@ -1,5 +1,6 @@
 -- What is spelled so is parsed, where no operator of the level follows.
-use Rattle.std.proofs.Common.{◌≡◌, ℕ, zero, suc, ◌+◌, ◌<◌, ◌≤◌, Bool, true, false, cond, ◌==◌, List, [], ◌∷◌, Option, Some, None, refl, sym, ap, ◌∙◌, subst, arith, inl, inr}
+use Rattle.std.proofs.Common.{◌≡◌, ℕ, zero, suc, ◌+◌, ◌<◌, ◌≤◌, Bool, true, false, cond, ◌==◌, List, [], ◌∷◌, Option, Some, None, refl, sym, ap, ◌∙◌}
+use Rattle.std.proofs.Common.{subst, arith, inl, inr}
 use Rattle.std.specs.Prelude.{if◌then◌else◌, pos, negsuc, ◌^◌, codes}
 use Rattle.std.proofs.lemmas.Bool.{lt-ltb, eq-eqb, cases_lt}
 use Rattle.std.proofs.lemmas.Bool.Decides.{nat_tests}
@@ -234,20 +235,23 @@ whole_prefix e l seven =
     }
 
 -- one operator more
-binary_more : (op : Op) (l r : Term) (k : List Lexeme) (x : Got) → left_level (op_level op) ≡ op_level op → AtLevel (op_level op + 1) r → binds k ≤ op_level op → Gives (λ f. more f (op_level op) (binary op l r) k) x → Gives (λ f. more f (op_level op) l (lex.Sign (op_sign op) ∷ spell r k)) x
+binary_more : (op : Op) (l r : Term) (k : List Lexeme) (x : Got) → left_level (op_level op) ≡ op_level op → AtLevel (op_level op + 1) r
+    → binds k ≤ op_level op → Gives (λ f. more f (op_level op) (binary op l r) k) x → Gives (λ f. more f (op_level op) l (lex.Sign (op_sign op) ∷ spell r k)) x
 unfolding AtLevel expr
 binary_more op l r k x c a h b =
     let g = a k (omega arith) in
     later (λ f. more f (op_level op) l (lex.Sign (op_sign op) ∷ spell r k)) x (g.from + b.from)
     (λ f le. rw (the_operator op (spell r k)) (rw (g.gives f (omega arith)) (rw (eq-eqb (left_level (op_level op)) (op_level op) c) (b.gives f (omega arith)))))
 
-binary_last : (op : Op) (l r : Term) (k : List Lexeme) → AtLevel (op_level op + 1) r → binds k < op_level op → Gives (λ f. more f (op_level op) l (lex.Sign (op_sign op) ∷ spell r k)) (binary op l r, k)
+binary_last : (op : Op) (l r : Term) (k : List Lexeme) → AtLevel (op_level op + 1) r → binds k < op_level op
+    → Gives (λ f. more f (op_level op) l (lex.Sign (op_sign op) ∷ spell r k)) (binary op l r, k)
 unfolding AtLevel expr
 binary_last op l r k a h =
     let g = a k (omega arith) in
     let m = more_stops (op_level op) (binary op l r) k h in
     later (λ f. more f (op_level op) l (lex.Sign (op_sign op) ∷ spell r k)) (binary op l r, k) (g.from + m.from)
-    (λ f le. rw (the_operator op (spell r k)) (rw (g.gives f (omega arith)) (both (left_level (op_level op) == op_level op) _ _ _ (m.gives f (omega arith)) refl)))
+    (λ f le. rw (the_operator op (spell r k))
+    (rw (g.gives f (omega arith)) (both (left_level (op_level op) == op_level op) _ _ _ (m.gives f (omega arith)) refl)))
   where
     both : (b : Bool) (x y z : Read Term) → x ≡ z → y ≡ z → cond b x y ≡ z
     both true x y z p q = p
@@ -270,7 +274,8 @@ whole_binary op l r ll lr wl wr =
         | inr ge ↦
             let same : m ≡ n = omega (arith, le_left n, h) in
             subst (λ j. First j (binary op l r)) same
-            (λ k x b g. start (lex.Sign (op_sign op) ∷ spell r k) x (omega (arith, op_binds_is op (spell r k))) (binary_more op l r k x (omega (arith, le_left m, subst (λ j. left_level j ≤ m) (sym same) h)) right b g))
+            (λ k x b g. start (lex.Sign (op_sign op) ∷ spell r k) x (omega (arith, op_binds_is op (spell r k)))
+            (binary_more op l r k x (omega (arith, le_left m, subst (λ j. left_level j ≤ m) (sym same) h)) right b g))
       ];
       base = λ h. absurd (omega arith);
     }
@@ -303,7 +308,8 @@ unfolding meaning
 bool_meaning true = refl
 bool_meaning false = refl
 
-word_atom : (w : List ℕ) (m : Meaning) (ts : List Lexeme) (x : Got) → meaning w ≡ m → Gives (λ f. by_meaning f w m ts) x → Gives (λ f. atom f (lex.Word w ∷ ts)) x
+word_atom : (w : List ℕ) (m : Meaning) (ts : List Lexeme) (x : Got) → meaning w ≡ m → Gives (λ f. by_meaning f w m ts) x
+    → Gives (λ f. atom f (lex.Word w ∷ ts)) x
 unfolding expr
 word_atom w m ts x e g = later (λ f. atom f (lex.Word w ∷ ts)) x g.from (λ f le. ap (λ j. by_meaning f w j ts) e ∙ g.gives f (omega arith))
 
@@ -312,7 +318,8 @@ unfolding Atom expr behind
 call_atom g e a k =
     let i = inside_gives e k a in
     word_atom (fun_word g) (Function g) _ (call g e, k) (fun_meaning g)
-    (later (λ f. by_meaning f (fun_word g) (Function g) (lex.Sign (codes "(") ∷ spell e (lex.Sign (codes ")") ∷ k))) (call g e, k) i.from (λ f le. rw (i.gives f (omega arith)) refl))
+    (later (λ f. by_meaning f (fun_word g) (Function g) (lex.Sign (codes "(") ∷ spell e (lex.Sign (codes ")") ∷ k))) (call g e, k) i.from
+    (λ f le. rw (i.gives f (omega arith)) refl))
 
 name_atom : (w : List ℕ) → is_keyword w ≡ false → Atom (name w)
 unfolding Atom expr
@@ -320,7 +327,8 @@ name_atom w v k = word_atom w Free k (name w, k) (free_meaning w v) (later (λ f
 
 bool_atom : (b : Bool) → Atom (truth b)
 unfolding Atom expr
-bool_atom b k = word_atom (truth_word b) (Truth b) k (truth b, k) (bool_meaning b) (later (λ f. by_meaning f (truth_word b) (Truth b) k) (truth b, k) 0 (λ f le. refl))
+bool_atom b k =
+    word_atom (truth_word b) (Truth b) k (truth b, k) (bool_meaning b) (later (λ f. by_meaning f (truth_word b) (Truth b) k) (truth b, k) 0 (λ f le. refl))
 
 nothing_atom : Atom nothing
 unfolding Atom expr meaning
@@ -371,7 +379,9 @@ abbrev pub tail_of : List ℕ → Term → Fillings → List Lexeme → List Lex
 tail_of w e ps k = lex.Word w ∷ lex.Sign (codes "=") ∷ spell e (spell_pairs (codes ",") ps (lex.Sign (codes "]") ∷ k))
 
 unfoldable pub Pairs : Fillings → Type 0
-Pairs ps = (front : Fillings) (w : List ℕ) (e : Term) (k : List Lexeme) → AtLevel 1 e → Comes (Fillings × List Lexeme) (λ f. pairs f front (tail_of w e ps k)) (append_fillings front (filling w e ps), lex.Sign (codes "]") ∷ k)
+Pairs ps =
+    (front : Fillings) (w : List ℕ) (e : Term) (k : List Lexeme) → AtLevel 1 e
+    → Comes (Fillings × List Lexeme) (λ f. pairs f front (tail_of w e ps k)) (append_fillings front (filling w e ps), lex.Sign (codes "]") ∷ k)
 
 pairs_end : Pairs no_more
 unfolding Pairs AtLevel expr behind word
@@ -385,7 +395,8 @@ pairs_more v d ps ad rest front w e k a =
     let g = a (spell_pairs (codes ",") (filling v d ps) (lex.Sign (codes "]") ∷ k)) (omega arith) in
     let r = rest (append_fillings front (filling w e no_more)) v d k ad in
     later (λ f. pairs f front (tail_of w e (filling v d ps) k)) _ (g.from + r.from)
-    (λ f le. rw (g.gives f (omega arith)) (r.gives f (omega arith) ∙ ap (λ y. Some (y, lex.Sign (codes "]") ∷ k)) (append_fillings_assoc front (filling w e no_more) (filling v d ps))))
+    (λ f le. rw (g.gives f (omega arith)) (r.gives f (omega arith)
+    ∙ ap (λ y. Some (y, lex.Sign (codes "]") ∷ k)) (append_fillings_assoc front (filling w e no_more) (filling v d ps))))
 
 plug_base : (base : Term) (w : List ℕ) (e : Term) (ps : Fillings) → Base base → AtLevel 1 e → Pairs ps → Base (plug base (filling w e ps))
 unfolding Base Pairs expr behind

@@ -1,5 +1,6 @@
 -- More steps than can be needed change nothing, so the parser meets its own equations.
-use Rattle.std.proofs.Common.{◌≡◌, ℕ, zero, suc, ◌+◌, ◌*◌, ◌<◌, ◌≤◌, Bool, true, false, cond, ◌==◌, List, [], ◌∷◌, length, Option, Some, None, refl, sym, ap, ◌∙◌, arith, inl, inr}
+use Rattle.std.proofs.Common.{◌≡◌, ℕ, zero, suc, ◌+◌, ◌*◌, ◌<◌, ◌≤◌, Bool, true, false, cond, ◌==◌, List, [], ◌∷◌, length, Option, Some, None, refl}
+use Rattle.std.proofs.Common.{sym, ap, ◌∙◌, arith, inl, inr}
 use Rattle.std.specs.Prelude.{if◌then◌else◌, nat_lt, codes}
 use Rattle.std.proofs.lemmas.Bool.{eqb-true, eqb-false, ltb-true, ltb-false, lt-ltb, cases_lt}
 use Rattle.std.proofs.Common.{◌-◌}
@@ -34,7 +35,8 @@ mutual
   longer (binary op l r) k = omega (arith, longer l (lex.Sign (op_sign op) ∷ spell r k), longer r k)
   longer (call f e) k = omega (arith, longer e (lex.Sign (codes ")") ∷ k))
   longer nothing k = omega arith
-  longer (plug base ps) k = omega (arith, longer base (spell_pairs (codes "<[") ps (lex.Sign (codes "]") ∷ k)), pairs_longer (codes "<[") ps (lex.Sign (codes "]") ∷ k))
+  longer (plug base ps) k =
+      omega (arith, longer base (spell_pairs (codes "<[") ps (lex.Sign (codes "]") ∷ k)), pairs_longer (codes "<[") ps (lex.Sign (codes "]") ∷ k))
 
   pub pairs_longer : (s : List ℕ) (ps : Fillings) (k : List Lexeme) → length k ≤ length (spell_pairs s ps k)
   pairs_longer s no_more k = omega arith
@@ -76,7 +78,8 @@ bind_same {B = B} o p q r e h = ap (λ (y : Option _). y >>= q) e ∙ go p h
     go (Some x) h = h x refl
     go None h = refl
 
-pub where_same : {A B : Type 0} (o : Option A) (q r : A → B) (d c : B) → ((x : A) → o ≡ Some x → q x ≡ r x) → (o ≡ None → d ≡ c) → where_some o q d ≡ where_some o r c
+pub where_same : {A B : Type 0} (o : Option A) (q r : A → B) (d c : B) → ((x : A) → o ≡ Some x → q x ≡ r x) → (o ≡ None → d ≡ c)
+    → where_some o q d ≡ where_some o r c
 where_same (Some x) q r d c h e = h x refl
 where_same None q r d c h e = e refl
 
@@ -186,7 +189,8 @@ same_from p b h f g lf lg = constant_from p b h f lf ∙ sym (constant_from p b 
 
 pub expr_is : (f n : ℕ) (ts : List Lexeme) → n ≤ 8 → 20 * length ts + 20 ≤ f + 2 * n → expr f n ts ≡ parse n ts
 unfolding parse
-expr_is f n ts b le = same_from (λ f. expr f n ts) (20 * length ts + (20 - 2 * n)) (λ f h. stable_expr f n ts b (omega arith)) f (steps ts) (omega arith) (omega arith)
+expr_is f n ts b le =
+    same_from (λ f. expr f n ts) (20 * length ts + (20 - 2 * n)) (λ f h. stable_expr f n ts b (omega arith)) f (steps ts) (omega arith) (omega arith)
 
 more_is : (f n : ℕ) (left : Term) (ts : List Lexeme) → n < 7 → 20 * length ts + 1 ≤ f → more f n left ts ≡ parse_more n left ts
 unfolding parse_more
@@ -223,7 +227,8 @@ parse_loose n ts lt =
     sym (expr_is (suc f) n ts (omega arith) (omega arith))
     ∙ rw (lt-ltb n 7 lt)
     (bind_same (expr f (n + 1) ts) (parse (n + 1) ts) _ _ (expr_is f (n + 1) ts (omega arith) (omega arith))
-    (λ x e. let s = expr_shorter (20 * length ts + 20) (n + 1) ts x (omega arith) (expr_is (20 * length ts + 20) (n + 1) ts (omega arith) (omega arith) ∙ e) in more_is f n x.0 x.1 lt (omega arith)))
+    (λ x e. let s = expr_shorter (20 * length ts + 20) (n + 1) ts x (omega arith)
+    (expr_is (20 * length ts + 20) (n + 1) ts (omega arith) (omega arith) ∙ e) in more_is f n x.0 x.1 lt (omega arith)))
 
 pub parse_seven : (ts : List Lexeme) → parse 7 ts ≡ parse_prefix ts
 unfolding expr
@@ -240,7 +245,8 @@ parse_eight ts =
     (λ x e. let s = atom_shorter f ts x (atom_is f ts (omega arith) ∙ e) in plugs_is f x.0 x.1 (omega arith))
 
 pub parse_more_is : (n : ℕ) (left : Term) (ts : List Lexeme) → n < 7 → parse_more n left ts ≡
-    where_some (operator n ts) (λ o. parse (n + 1) o.1 >>= λ x. if left_level n == n then parse_more n (binary o.0 left x.0) x.1 else Some (binary o.0 left x.0, x.1)) (Some (left, ts))
+    where_some (operator n ts) (λ o. parse (n + 1) o.1 >>= λ x. if left_level n == n then parse_more n (binary o.0 left x.0) x.1 else Some
+    (binary o.0 left x.0, x.1)) (Some (left, ts))
 unfolding expr
 parse_more_is n left ts lt =
     let f = 20 * length ts + 30 in
@@ -283,7 +289,8 @@ parse_plugs_is base ts =
 
 pub parse_pairs_is : (front : Fillings) (ts : List Lexeme) → parse_pairs front ts ≡
     (word ts >>= λ w. behind (codes "=") w.1 >>= λ k. parse 1 k >>= λ x.
-    where_some (behind (codes ",") x.1) (λ r. parse_pairs (append_fillings front (filling w.0 x.0 no_more)) r) (Some (append_fillings front (filling w.0 x.0 no_more), x.1)))
+    where_some (behind (codes ",") x.1) (λ r. parse_pairs (append_fillings front (filling w.0 x.0 no_more)) r)
+    (Some (append_fillings front (filling w.0 x.0 no_more), x.1)))
 unfolding expr
 parse_pairs_is front ts =
     let f = 20 * length ts + 30 in
@@ -325,7 +332,8 @@ parse_atom_is ts = sym (atom_is (suc (20 * length ts + 30)) ts (omega arith)) �
     go (lex.Word w ∷ ts) = word_is_by (20 * suc (length ts) + 30) w (meaning w) ts (omega arith)
     go (lex.Sign s ∷ ts) =
         bind_same (behind (codes "(") (lex.Sign s ∷ ts)) _ _ _ refl
-        (λ k p. let t = behind_shorter (codes "(") (lex.Sign s ∷ ts) k p in ap (λ o. o >>= λ x. Some (paren x.0, x.1)) (inside_is (20 * suc (length ts) + 30) k (omega arith)))
+        (λ k p. let t = behind_shorter (codes "(") (lex.Sign s ∷ ts) k p in
+        ap (λ o. o >>= λ x. Some (paren x.0, x.1)) (inside_is (20 * suc (length ts) + 30) k (omega arith)))
 
 pub parse_truth : (w : List ℕ) (b : Bool) (ts : List Lexeme) → parse_word w (Truth b) ts ≡ Some (truth b, ts)
 unfolding expr
@@ -343,7 +351,8 @@ pub parse_free : (w : List ℕ) (ts : List Lexeme) → parse_word w Free ts ≡ 
 unfolding expr
 parse_free w ts = sym (word_is_by (suc (20 * length ts + 30)) w Free ts (omega arith))
 
-pub parse_function : (w : List ℕ) (g : Fun) (ts : List Lexeme) → parse_word w (Function g) ts ≡ (behind (codes "(") ts >>= λ k. parse_inside k >>= λ x. Some (call g x.0, x.1))
+pub parse_function : (w : List ℕ) (g : Fun) (ts : List Lexeme)
+    → parse_word w (Function g) ts ≡ (behind (codes "(") ts >>= λ k. parse_inside k >>= λ x. Some (call g x.0, x.1))
 unfolding expr
 parse_function w g ts =
     sym (word_is_by (suc (20 * length ts + 30)) w (Function g) ts (omega arith))
@@ -359,7 +368,8 @@ parse_number n ts = parse_atom_is (lex.Number n ∷ ts)
 pub parse_str : (s : List ℕ) (ts : List Lexeme) → parse_atom (lex.Str s ∷ ts) ≡ Some (string s, ts)
 parse_str s ts = parse_atom_is (lex.Str s ∷ ts)
 
-pub parse_sign : (s : List ℕ) (ts : List Lexeme) → parse_atom (lex.Sign s ∷ ts) ≡ (behind (codes "(") (lex.Sign s ∷ ts) >>= λ k. parse_inside k >>= λ x. Some (paren x.0, x.1))
+pub parse_sign : (s : List ℕ) (ts : List Lexeme)
+    → parse_atom (lex.Sign s ∷ ts) ≡ (behind (codes "(") (lex.Sign s ∷ ts) >>= λ k. parse_inside k >>= λ x. Some (paren x.0, x.1))
 parse_sign s ts = parse_atom_is (lex.Sign s ∷ ts)
 
 pub parse_word_is : (w : List ℕ) (ts : List Lexeme) → parse_atom (lex.Word w ∷ ts) ≡ parse_word w (meaning w) ts
@@ -371,4 +381,26 @@ parse_none = parse_atom_is []
 pub parse_template : (t : List ℕ) (ts : List Lexeme) → parse_atom (lex.Template t ∷ ts) ≡ None
 parse_template t ts = parse_atom_is (lex.Template t ∷ ts)
 
-pub ruleset equations = (parse_none, parse_template, parse_tight, parse_number, parse_str, parse_sign, parse_word_is, parse_loose, parse_seven, parse_eight, parse_more_is, parse_prefix_is, parse_plugs_is, parse_pairs_is, parse_inside_is, parse_atom_is, parse_truth, parse_nothing, parse_other, parse_free, parse_function)
+pub ruleset equations = (
+  parse_none,
+  parse_template,
+  parse_tight,
+  parse_number,
+  parse_str,
+  parse_sign,
+  parse_word_is,
+  parse_loose,
+  parse_seven,
+  parse_eight,
+  parse_more_is,
+  parse_prefix_is,
+  parse_plugs_is,
+  parse_pairs_is,
+  parse_inside_is,
+  parse_atom_is,
+  parse_truth,
+  parse_nothing,
+  parse_other,
+  parse_free,
+  parse_function,
+)

@@ -52,7 +52,13 @@ locals_within (declare t w e r) k = omega (arith, longer e (lex.Sign (codes ";")
 locals_within (assign w e r) k = omega (arith, longer e (lex.Sign (codes ";") ∷ spell_code r k), locals_within r k)
 locals_within (if_then t y r) k =
     let a = lex.Sign (codes "}") ∷ spell_code r k in
-    omega (arith, length-append (local_names y) (local_names r), longer t (lex.Sign (codes ")") ∷ lex.Sign (codes "{") ∷ spell_code y a), locals_within y a, locals_within r k)
+    omega (
+      arith,
+      length-append (local_names y) (local_names r),
+      longer t (lex.Sign (codes ")") ∷ lex.Sign (codes "{") ∷ spell_code y a),
+      locals_within y a,
+      locals_within r k,
+    )
 locals_within (if_else t y n r) k =
     let b = lex.Sign (codes "}") ∷ spell_code r k in
     let a = lex.Sign (codes "}") ∷ lex.Word (codes "else") ∷ lex.Sign (codes "{") ∷ spell_code n b in
@@ -67,10 +73,22 @@ locals_within (if_else t y n r) k =
     )
 locals_within (while_loop t b r) k =
     let a = lex.Sign (codes "}") ∷ spell_code r k in
-    omega (arith, length-append (local_names b) (local_names r), longer t (lex.Sign (codes ")") ∷ lex.Sign (codes "{") ∷ spell_code b a), locals_within b a, locals_within r k)
+    omega (
+      arith,
+      length-append (local_names b) (local_names r),
+      longer t (lex.Sign (codes ")") ∷ lex.Sign (codes "{") ∷ spell_code b a),
+      locals_within b a,
+      locals_within r k,
+    )
 locals_within (for_each w e b r) k =
     let a = lex.Sign (codes "}") ∷ spell_code r k in
-    omega (arith, length-append (local_names b) (local_names r), longer e (lex.Sign (codes ")") ∷ lex.Sign (codes "{") ∷ spell_code b a), locals_within b a, locals_within r k)
+    omega (
+      arith,
+      length-append (local_names b) (local_names r),
+      longer e (lex.Sign (codes ")") ∷ lex.Sign (codes "{") ∷ spell_code b a),
+      locals_within b a,
+      locals_within r k,
+    )
 locals_within (block b r) k =
     let a = lex.Sign (codes "}") ∷ spell_code r k in omega (arith, length-append (local_names b) (local_names r), locals_within b a, locals_within r k)
 locals_within (show p rs r) k = omega (arith, code_longer (show p rs r) k, code_longer (show p rs done) (spell_code r k), locals_within r k)
@@ -90,7 +108,8 @@ drafts_bounded (d ∷ ds) k h l = (
   drafts_bounded ds k (draft_rest 1048576 d (spell_drafts ds k) h) (omega (arith, draft_longer d (spell_drafts ds k))),
 )
 
-pub service_bounded : (bytes : List ℕ) (ls : List Lexeme) (name : List ℕ) (ds : List Draft) → IsText bytes ls → ls ≡ spell_service name ds → length ls < 2 ^ 64 → AreBounded ds
+pub service_bounded : (bytes : List ℕ) (ls : List Lexeme) (name : List ℕ) (ds : List Draft) → IsText bytes ls → ls ≡ spell_service name ds
+    → length ls < 2 ^ 64 → AreBounded ds
 service_bounded bytes ls name ds t e l =
     let fit = subst (AllFit 1048576) e (text_fits bytes ls t) in
     drafts_bounded ds _ fit.1.1.1 (omega (arith, ap length e))

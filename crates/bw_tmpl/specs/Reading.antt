@@ -1,5 +1,6 @@
 -- What stands at the front of bytes, and the bytes behind it.
-use Rattle.std.specs.Prelude.{ℕ, zero, suc, Bool, ◌||◌, ◌==◌, nat_eq, if◌then◌else◌, List, [], ◌∷◌, length, take, drop, Option, Some, None, Result, MatchResult, codes, ◌≡◌}
+use Rattle.std.specs.Prelude.{ℕ, zero, suc, Bool, ◌||◌, ◌==◌, nat_eq, if◌then◌else◌, List, [], ◌∷◌, length, take, drop, Option, Some, None, Result}
+use Rattle.std.specs.Prelude.{MatchResult, codes, ◌≡◌}
 use Rattle.std.specs.Str.{is_utf8}
 use lib.Pointwise.{pointwise}
 use Rattle.bw_lang.specs.MarkupBytes.{ampersand, less_than, greater_than, double_quote, single_quote}
@@ -123,7 +124,8 @@ tag_at bytes = name_at class.Tag bytes >>= λ n. let a = each attr_at n.1 in Som
 unfoldable pub whole_at : List ℕ → Option (Piece × List ℕ)
 whole_at bytes =
     tag_at bytes >>= λ t.
-    where_some (stripped (codes "/>") t.1) (λ rest. Some (piece.Whole t.0, rest)) (where_some (stripped (codes ">") t.1) (λ rest. Some (piece.Start t.0, rest)) None)
+    where_some (stripped (codes "/>") t.1) (λ rest. Some (piece.Whole t.0, rest))
+    (where_some (stripped (codes ">") t.1) (λ rest. Some (piece.Start t.0, rest)) None)
 
 -- an end tag, behind `</`
 unfoldable pub end_at : List ℕ → Option (Piece × List ℕ)

@@ -7,8 +7,8 @@ ghost use Rattle.bw_tmpl.specs.Reading.{attr_at, piece_at};
 
 use crate::chars::{chars_at, checked, name_at, past_blanks};
 use crate::fault::TmplFault;
-use bw_lang::{Memory, is_blank};
 use bw_lang::pieces::{NameClass, Piece, RawAttr, RawAttrs, RawValue, Tag};
+use bw_lang::{Memory, is_blank};
 use std::alloc::Global;
 
 /// A value up to its quote, behind the first quote, and the bytes behind it.
