@@ -15,7 +15,7 @@ use Rattle.bw_parse.specs.Fronts.{behind, keyword, word, named}
 use Rattle.bw_parse.specs.Statements.{condition, each_head, valued, simple, parse_show, parse_exit, parse_declare, parse_assign, code_of, one, braces}
 use Rattle.bw_parse.specs.Statements.{parse_code}
 use Rattle.bw_parse.proofs.CodeSteps.{code_is}
-use Rattle.bw_parse.proofs.Complete.{Comes, later}
+use Rattle.bw_parse.proofs.Comes.{Comes, later}
 use Rattle.bw_parse.proofs.FrontLaws.{no_keyword, no_kind, kind_self}
 use Rattle.bw_parse.proofs.Receives.{receives_give, receives_bind}
 use Rattle.bw_parse.proofs.Steps.{parse_inside_is}

@@ -15,7 +15,9 @@ use Rattle.bw_parse.specs.Statements.{parse_while, parse_each}
 use Rattle.bw_lang.proofs.Codes.{append_code_assoc, append_done, code-append}
 use Rattle.bw_parse.proofs.CodeSound.{condition_is, each_is, IsStatement, sound_one, sound_braces}
 use Rattle.bw_parse.proofs.FrontLaws.{keyword_is}
-use Rattle.bw_parse.proofs.Steps.{longer, bind_same, where_same, same_from, behind_shorter}
+use Rattle.bw_parse.proofs.Shorter.{longer, behind_shorter}
+use Rattle.bw_parse.proofs.Stable.{bind_same, where_same}
+use Rattle.bw_parse.proofs.Steps.{same_from}
 
 pub keyword_shorter : (v : List ℕ) (ts k : List Lexeme) → keyword v ts ≡ Some k → length k + 1 ≡ length ts
 keyword_shorter v ts k e = omega (arith, ap length (keyword_is v ts k e))

@@ -23,7 +23,8 @@ use Rattle.bw_parse.proofs.CodeSound.{sound_code}
 use Rattle.bw_parse.proofs.CodeSteps.{code_longer}
 use Rattle.bw_lang.proofs.Options.{bind_some, where_cases, chosen, some_is}
 use Rattle.bw_parse.proofs.FrontLaws.{some, behind_is, keyword_is, named_is, shared_kind_is, truth_is, free_is, shared_kind_self, free_meaning}
-use Rattle.bw_parse.proofs.Steps.{bind_same, where_same, same_from}
+use Rattle.bw_parse.proofs.Stable.{bind_same, where_same}
+use Rattle.bw_parse.proofs.Steps.{same_from}
 
 -- ---- literals
 

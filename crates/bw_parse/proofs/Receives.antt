@@ -12,7 +12,9 @@ use Rattle.bw_parse.specs.Fronts.{behind, keyword, word, named}
 use Rattle.bw_parse.specs.Statements.{receive, receives_from, parse_list, parse_receives}
 use Rattle.bw_lang.proofs.Options.{bind_some, where_cases, some_is}
 use Rattle.bw_parse.proofs.FrontLaws.{behind_is, keyword_is, named_is, word_is}
-use Rattle.bw_parse.proofs.Steps.{bind_same, where_same, same_from, behind_shorter}
+use Rattle.bw_parse.proofs.Stable.{bind_same, where_same}
+use Rattle.bw_parse.proofs.Steps.{same_from}
+use Rattle.bw_parse.proofs.Shorter.{behind_shorter}
 
 -- the lexemes are those of a receive, and then the rest
 abbrev pub ReadsReceive : List Lexeme → Receive → List Lexeme → Type 0

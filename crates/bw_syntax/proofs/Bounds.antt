@@ -20,7 +20,7 @@ use Rattle.bw_lang.specs.Reads.{IsText}
 use Rattle.bw_lang.specs.Spelling.{spell_code}
 use Rattle.bw_parse.proofs.CodeSteps.{code_longer}
 use Rattle.bw_parse.proofs.Drafts.{draft_longer}
-use Rattle.bw_parse.proofs.Steps.{longer}
+use Rattle.bw_parse.proofs.Shorter.{longer}
 use Rattle.bw_syntax.specs.Stages.{IsBounded, AreBounded}
 use Rattle.bw_syntax.proofs.Rests.{Fits, AllFit, draft_rest}
 

@@ -7,7 +7,7 @@ use Rattle.bw_tmpl.specs.Building.{built, MismatchedIfNone}
 use Rattle.bw_lang.specs.Templates.{SpellsClosed}
 use Rattle.bw_tmpl.proofs.GapLaws.{none_open}
 use Rattle.bw_tmpl.proofs.Inverse.{built_reads}
-use Rattle.bw_tmpl.proofs.Spelled.{pieces_spelled}
+use Rattle.bw_tmpl.proofs.SpelledPieces.{pieces_spelled}
 use Rattle.bw_tmpl.proofs.Refusals.{unread, refused, read, built_but_memory, refused_for_memory, has_gap}
 use Rattle.bw_tmpl.proofs.reading.read_closed.Goals as goal
 

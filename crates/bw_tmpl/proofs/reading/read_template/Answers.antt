@@ -11,7 +11,8 @@ use Rattle.bw_lang.specs.PieceGaps.{gap_names}
 use Rattle.bw_lang.specs.Pieces.{SpellsPieces}
 use Rattle.bw_tmpl.proofs.GapLaws.{none_unknown}
 use Rattle.bw_tmpl.proofs.Inverse.{built_reads}
-use Rattle.bw_tmpl.proofs.Spelled.{pieces_spelled, spelled_once}
+use Rattle.bw_tmpl.proofs.SpelledPieces.{pieces_spelled}
+use Rattle.bw_tmpl.proofs.Spelled.{spelled_once}
 use Rattle.bw_tmpl.proofs.Refusals.{unread, refused, read, built_but_memory, refused_for_memory}
 use Rattle.bw_tmpl.proofs.reading.read_template.Goals as goal
 
