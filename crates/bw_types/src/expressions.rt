@@ -26,6 +26,7 @@ impl Names<'_> {
             Expr::Int(_) => Ok(Kind::Int),
             Expr::Bool(_) => Ok(Kind::Bool),
             Expr::Str(_) => Ok(Kind::Str),
+            Expr::Nothing => Ok(Kind::Strs),
             Expr::Name(name) => self.name(locals, name),
             Expr::Paren(part) => self.expr(locals, part.expr()),
             Expr::Not(part) => self.part(locals, Kind::Bool, part),
@@ -49,7 +50,7 @@ impl Names<'_> {
         ensures kind { IfOk result (λ k. name_kind self.now.service.now locals.now name.now ≡ Some k) }
         ensures first { IfErr result (λ e. IsFirst e (spec.name_unknown name.now (name_kind self.now.service.now locals.now name.now))) }
     {
-        match self.name_kind(locals, name) {
+        match self.name_kind(locals, name.as_str()) {
             Some(kind) => Ok(kind),
             None => Err(TypeFault::Unknown(name.copy()?)),
         }
@@ -100,7 +101,7 @@ impl Names<'_> {
         ensures none { OnOk result (spec.faults_in_pairs self.now.service.now locals.now (filling pair.now.gap (term pair.now.value) no_more) ≡ []) }
         ensures first { IfErr result (λ e. IsFirst e (spec.faults_in_pairs self.now.service.now locals.now (filling pair.now.gap (term pair.now.value) no_more))) }
     {
-        let Some(gap) = self.gap_kind(&pair.gap) else {
+        let Some(gap) = self.gap_kind(pair.gap.as_str()) else {
             return Err(TypeFault::Unknown(pair.gap.copy()?));
         };
         let found = self.expr(locals, &pair.value)?;
