@@ -1,6 +1,7 @@
 //! The tests of a service, in one walk over its declarations.
 ghost use Rattle.std.specs.Prelude.{◌≡◌, Some, IfOk, IfErr, OnOk, [], ◌∷◌, ◌++◌, map};
-ghost use Rattle.bw_lang.specs.Order.{IsWoven, seen};
+ghost use Rattle.bw_lang.specs.Order.{seen};
+ghost use Rattle.bw_lang.specs.Reads.{IsReadable};
 ghost use Rattle.bw_lang.specs.declared.declaration.Declaration.TheVariants as declarations;
 ghost use Rattle.bw_types.specs.declared.fault.TypeFault.TheVariants.{Repeated};
 ghost use Rattle.bw_types.specs.Faults as spec;
@@ -20,7 +21,7 @@ use std::alloc::Global;
 
 /// The tests of a service, in source order, by its tables.
 pub fn check(alloc: Global, service: &Service, tables: &Tables) -> Result<(), TypeFault>
-    requires woven { IsWoven service.now }
+    requires readable { ∥ IsReadable service.now ∥₁ }
     requires known { IsKnown service.now tables.now }
     ensures none { OnOk result (spec.faults_of service.now ≡ []) }
     ensures first { IfErr result (λ e. IsFirst e (spec.faults_of service.now)) }

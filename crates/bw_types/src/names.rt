@@ -1,6 +1,6 @@
 //! What the names of a service stand for.
 ghost use Rattle.std.specs.Prelude.{◌≡◌, ◌||◌};
-ghost use Rattle.bw_lang.specs.Order.{IsWoven};
+ghost use Rattle.bw_lang.specs.Reads.{IsReadable};
 ghost use Rattle.bw_types.specs.Fields.{kind_of_field};
 ghost use Rattle.bw_types.specs.Gaps.{kind_of_gap, kind_of_number};
 ghost use Rattle.bw_types.specs.Known.{IsKnown};
@@ -18,7 +18,7 @@ pub struct Names<'a> {
     pub alloc: Global,
     pub service: &'a Service,
     pub tables: &'a Tables,
-    pub ghost woven: { IsWoven service.now },
+    pub ghost readable: { ∥ IsReadable service.now ∥₁ },
     pub ghost known: { IsKnown service.now tables.now },
 }
 

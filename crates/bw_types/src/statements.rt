@@ -17,7 +17,7 @@ use bw_lang::{Block, Expr, Kind, Name, Receive, Stmt};
 
 impl Names<'_> {
     /// The tests of the statements of a block. Behind it its locals are out of scope again, and their names are taken.
-    #[tactic(auto, using(crate::proofs::Codes::stmt_size_at_read))]
+    #[tactic(auto, using(bw_lang::proofs::Sizes::size_steps))]
     #[cycle(block)]
     pub fn block(&self, locals: &mut Locals, block: &Block) -> Result<(), TypeFault>
         ensures none { OnOk result (spec.code_faults self.now.service.now locals.old block.now ≡ []) }

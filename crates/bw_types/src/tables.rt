@@ -1,8 +1,8 @@
 //! Tables of names and gaps, with the kinds that they were first given.
-ghost use Rattle.std.specs.Prelude.{◌≡◌, ◌∷◌, IfOk, OnOk, [], map};
+ghost use Rattle.std.specs.Prelude.{◌≡◌, ◌∷◌, ◌<◌, ◌^◌, IfOk, OnOk, [], length, map, position};
 ghost use Rattle.bw_lang.specs.Controls.{fields, field_of};
 ghost use Rattle.bw_lang.specs.Forest.{none};
-ghost use Rattle.bw_lang.specs.Names.{beside, with_names};
+ghost use Rattle.bw_lang.specs.Names.{same, beside, with_names};
 ghost use Rattle.bw_lang.specs.View.{before};
 ghost use Rattle.bw_types.specs.Fields.{template_fields};
 ghost use Rattle.bw_types.specs.Gaps.{gap_kind, value_use, attr_uses, gap_uses, template_uses};
@@ -124,6 +124,19 @@ pub fn has(table: &NameTable, name: &str) -> bool
     table.number(name) < table.len()
 }
 
+/// The place of a name in the table, counted from 0, if it is there.
+pub fn place(table: &NameTable, name: &str) -> Option<u32>
+    requires { length table.now < 2 ^ 32 }
+    ensures { result ≡ position (same name.now) table.now }
+{
+    let place = table.number(name);
+    if place < table.len() {
+        Some(place as u32)
+    } else {
+        None
+    }
+}
+
 impl Tables {
     ghost use Rattle.bw_types.specs.Known.{IsKnown};
 
@@ -175,6 +188,7 @@ fn shared_kinds(alloc: Global, shared: &[Shared]) -> Result<Kinds<Kind>, Memory>
 }
 
 /// Takes in the gaps of templates and the fields of their controls.
+#[tactic(auto, using(crate::proofs::Notes::note_steps))]
 fn note_templates(
     gaps: &mut GapKinds,
     controls: &mut Kinds<FieldKind>,
@@ -190,7 +204,7 @@ fn note_templates(
 }
 
 /// Takes in the gaps of items and the fields of their controls, at all levels.
-#[tactic(auto, using(bw_lang::proofs::Forests::size_at_read))]
+#[tactic(auto, using(crate::proofs::Notes::note_steps, bw_lang::proofs::Sizes::size_steps))]
 #[cycle(items)]
 fn note_items(
     gaps: &mut GapKinds,
@@ -206,6 +220,7 @@ fn note_items(
     Ok(())
 }
 
+#[tactic(auto, using(crate::proofs::Notes::note_steps))]
 #[cycle(items)]
 fn note_item(
     gaps: &mut GapKinds,
@@ -227,6 +242,7 @@ fn note_item(
 }
 
 /// Takes in the gaps of attributes.
+#[tactic(auto, using(crate::proofs::Notes::note_steps))]
 fn note_attrs(gaps: &mut GapKinds, attrs: &Attrs) -> Result<(), Memory>
     ensures { OnOk result (gaps.new ≡ with_uses gaps.old (attr_uses attrs.now)) }
 {

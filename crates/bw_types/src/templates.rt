@@ -17,7 +17,7 @@ use bw_lang::{
 
 impl Names<'_> {
     /// The tests of a template's items, in source order.
-    #[tactic(auto, using(bw_lang::proofs::Forests::size_at_read))]
+    #[tactic(auto, using(bw_lang::proofs::Sizes::size_steps))]
     #[cycle(items)]
     pub fn items(&self, template: &Name, items: &Items) -> Result<(), TypeFault>
         ensures none { OnOk result (spec.items_faults self.now.service.now template.now items.now ≡ []) }
@@ -36,7 +36,7 @@ impl Names<'_> {
     {
         match item {
             Item::Text(_) => Ok(()),
-            Item::Gap(gap) => self.gap(*gap, GapKind::Content),
+            Item::Gap(gap) => self.open_gap(*gap, GapKind::Content),
             Item::Element(element) => {
                 self.element(template, element)?;
                 self.items(template, &element.items)
@@ -100,12 +100,12 @@ impl Names<'_> {
     {
         match value {
             AttrValue::Fixed(_) => Ok(()),
-            AttrValue::Hole(gap) => self.gap(*gap, GapKind::Attribute),
+            AttrValue::Hole(gap) => self.open_gap(*gap, GapKind::Attribute),
         }
     }
 
     /// The test of a gap: `GapKinds` where its first place has another kind.
-    fn gap(&self, gap: GapId, kind: GapKind) -> Result<(), TypeFault>
+    fn open_gap(&self, gap: GapId, kind: GapKind) -> Result<(), TypeFault>
         ensures none { OnOk result (spec.gap_fault self.now.service.now gap kind ≡ []) }
         ensures first { IfErr result (λ e. IsFirst e (spec.gap_fault self.now.service.now gap kind)) }
     {

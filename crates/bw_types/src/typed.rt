@@ -1,17 +1,17 @@
 //! Services that are well typed.
-ghost use Rattle.std.specs.Prelude.{◌≡◌, ◌⊎◌, ◌<◌, ◌^◌, [], Some, None, IfOk, IfErr, MatchOption, length, option_map, slice_get};
+ghost use Rattle.std.specs.Prelude.{◌≡◌, ◌⊎◌, [], Some, None, IfOk, IfErr, MatchOption, slice_get};
 ghost use Rattle.bw_lang.specs.Names.{with_names};
 ghost use Rattle.bw_lang.specs.Reads.{IsReadable};
 ghost use Rattle.bw_types.specs.declared.fault.TypeFault.TheVariants as faults;
 ghost use Rattle.bw_types.specs.Faults.{IsWellTyped, first_fault};
-ghost use Rattle.bw_types.specs.Fields.{field_names, kind_of_field, field_of};
-ghost use Rattle.bw_types.specs.Gaps.{kind_of_gap, kind_of_number, gap_of};
+ghost use Rattle.bw_types.specs.Fields.{field_names, field_number, kind_of_field};
+ghost use Rattle.bw_types.specs.Gaps.{gap_number, kind_of_number};
 ghost use Rattle.bw_types.specs.Known.{IsKnown};
 ghost use Rattle.bw_types.specs.Scopes.{session_of, shared_kind, template_of};
 
 use crate::declarations::check;
 use crate::fault::{GapKind, TypeFault};
-use crate::tables::Tables;
+use crate::tables::{Tables, place};
 use bw_lang::{
     Declared, FieldId, FieldKind, FieldNames, GapId, Kind, Memory, NameTable, Service, Session,
     SessionId, Template, TemplateId,
@@ -88,12 +88,8 @@ impl Typed {
     pub fn template(&self, name: &str) -> Option<TemplateId>
         ensures { result ≡ template_of self.now.service name.now }
     {
-        let number = self.tables.templates.number(name);
-        if number < self.tables.templates.len() {
-            Some(TemplateId::of(number as u32))
-        } else {
-            None
-        }
+        let number = place(&self.tables.templates, name)?;
+        Some(TemplateId::of(number))
     }
 
     /// The template of that number, or none where there are no more than so many.
@@ -110,12 +106,8 @@ impl Typed {
     pub fn session(&self, name: &str) -> Option<SessionId>
         ensures { result ≡ session_of self.now.service name.now }
     {
-        let number = self.tables.sessions.number(name);
-        if number < self.tables.sessions.len() {
-            Some(SessionId::of(number as u32))
-        } else {
-            None
-        }
+        let number = place(&self.tables.sessions, name)?;
+        Some(SessionId::of(number))
     }
 
     /// The session of that number, or none where there are no more than so many.
@@ -128,14 +120,15 @@ impl Typed {
             .get(session.number() as usize)
     }
 
-    /// The number of the gap of that name, if a template has it.
+    /// The number of the gap of that name, if there is one.
     pub fn gap(&self, name: &str) -> Option<GapId>
-        ensures { result ≡ gap_of self.now.service name.now }
+        ensures { result ≡ gap_number self.now.service name.now }
     {
         let gap = self.service.gaps.number(name);
-        match self.tables.gaps.get(gap) {
-            Some(_) => Some(gap),
-            None => None,
+        if (gap.number() as usize) < self.service.gaps.len() {
+            Some(gap)
+        } else {
+            None
         }
     }
 
@@ -148,7 +141,7 @@ impl Typed {
 
     /// The number of the field of that name, if a template has a control of it or a session receives it.
     pub fn field(&self, name: &str) -> Option<FieldId>
-        ensures { result ≡ field_of self.now.service name.now }
+        ensures { result ≡ field_number self.now.service name.now }
     {
         let field = self.fields.number(name);
         if (field.number() as usize) < self.fields.len() {
