@@ -15,7 +15,7 @@ use Rattle.bw_tmpl.specs.Reading.{pieces_of}
 use Rattle.bw_tmpl.specs.Refusals.{RefusedBy}
 use Rattle.bw_tmpl.proofs.Depths.{depth_reads}
 use Rattle.bw_tmpl.proofs.Refusals.{unread, refused, has_gap}
-use Rattle.bw_tmpl.proofs.Spelled.{pieces_spelled}
+use Rattle.bw_tmpl.proofs.SpelledPieces.{pieces_spelled}
 
 abbrev Answer : (List Piece → List ℕ → Type 0) → List (List ℕ) → ℕ → List ℕ → Type 0
 Answer S names most bytes = ((f : Forest) × ReadsBy S names most bytes f) ⊎ ((e : TmplFault) × (e ≢ fault.Memory) × RefusedBy S most bytes e)
