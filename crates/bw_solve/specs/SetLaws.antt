@@ -1,14 +1,14 @@
 -- The laws of sets: what the order, the union and a sift do to members, and that sets are a lattice.
 use Rattle.std.specs.Prelude.{◌≡◌, ◌<◌, ◌≤◌, Bool, true, false, ◌||◌, ◌&&◌, cond, List, [], ◌∷◌, length}
 use Rattle.std.proofs.Common.{refl, sym, ap, ◌∙◌, inl, inr, ◌⊎◌, arith}
-use Rattle.std.proofs.lemmas.Bool.{false≢true, or_cases, or_right, and_parts, and_from, cases_Bool}
+use Rattle.std.proofs.lemmas.Bool.{false≢true, or_cases, or_left, or_right, and_parts, and_from, cases_Bool}
 use Rattle.std.proofs.Math.Bool.{or-false}
 use Rattle.std.specs.declared.cmp.Ordering.{Ordering}
 use Rattle.std.specs.declared.cmp.Ordering.TheVariants.{Less, Equal, Greater}
 use Rattle.std.specs.Cmp.{IsTotalOrder}
 use Rattle.std.proofs.lemmas.Cmp.{tied_itself, tied_back, alike_right}
 use Rattle.std.specs.Ordering.{is_eq, match_ordering, ordering_reverse}
-use Rattle.std.specs.List.{AllByRecursion, AllByRecursion-prop}
+use Rattle.std.specs.List.{AllByRecursion, AllByRecursion-prop, list_any}
 use Rattle.std.specs.Coded.{×_prop, Unit-prop}
 use Rattle.std.specs.Ordering.{Ordering-set}
 use Rattle.bw_solve.specs.Sets.{IsSet, has, is_within, merge_into, merge, sifted}
@@ -74,19 +74,43 @@ module _ {T : Type 0} {cmp : T → T → Ordering} (o : IsTotalOrder cmp) where
   pub within_trans : (xs ys zs : List T) → is_within cmp xs ys ≡ true → is_within cmp ys zs ≡ true → is_within cmp xs zs ≡ true
   within_trans xs ys zs p q = within_by xs zs (λ z h. has_within ys zs z q (has_within xs ys z p h))
 
-  merge_into_has : (x : T) (xs : List T) (rest : List T → List T) → ((ys : List T) (z : T) → has cmp (rest ys) z ≡ (has cmp xs z || has cmp ys z))
-      → (ys : List T) (z : T) → has cmp (merge_into cmp x xs rest ys) z ≡ ((is_eq (cmp x z) || has cmp xs z) || has cmp ys z)
-  merge_into_has x xs rest h [] z = sym (or-false (is_eq (cmp x z) || has cmp xs z))
-  merge_into_has x xs rest h (y ∷ ys) z = by_order (λ l. has cmp l z ≡ ((is_eq (cmp x z) || has cmp xs z) || (is_eq (cmp y z) || has cmp ys z))) (cmp x y)
+  merge_into_any : (f : T → Bool) → ((x y : T) → cmp x y ≡ Equal → f x ≡ f y) → (x : T) (xs : List T) (rest : List T → List T)
+      → ((ys : List T) → list_any f (rest ys) ≡ (list_any f xs || list_any f ys)) → (ys : List T)
+      → list_any f (merge_into cmp x xs rest ys) ≡ (list_any f (x ∷ xs) || list_any f ys)
+  merge_into_any f congr x xs rest h [] = sym (or-false (list_any f (x ∷ xs)))
+  merge_into_any f congr x xs rest h (y ∷ ys) = by_order (λ l. list_any f l ≡ ((f x || list_any f xs) || (f y || list_any f ys))) (cmp x y)
       (x ∷ rest (y ∷ ys)) (x ∷ rest ys) (y ∷ merge_into cmp x xs rest ys)
-      (λ e. ap (λ b. is_eq (cmp x z) || b) (h (y ∷ ys) z) ∙ or_assoc (is_eq (cmp x z)) (has cmp xs z) (is_eq (cmp y z)) (has cmp ys z))
-      (λ e. ap (λ b. is_eq (cmp x z) || b) (h ys z) ∙ or_same (is_eq (cmp x z)) (has cmp xs z) (has cmp ys z)
-      ∙ ap (λ r. (is_eq (cmp x z) || has cmp xs z) || (is_eq r || has cmp ys z)) (o.congr x y z e))
-      (λ e. ap (λ b. is_eq (cmp y z) || b) (merge_into_has x xs rest h ys z) ∙ or_swap (is_eq (cmp x z) || has cmp xs z) (is_eq (cmp y z)) (has cmp ys z))
+      (λ e. ap (λ b. f x || b) (h (y ∷ ys)) ∙ or_assoc (f x) (list_any f xs) (f y) (list_any f ys))
+      (λ e. ap (λ b. f x || b) (h ys) ∙ or_same (f x) (list_any f xs) (list_any f ys)
+          ∙ ap (λ b. (f x || list_any f xs) || (b || list_any f ys)) (congr x y e))
+      (λ e. ap (λ b. f y || b) (merge_into_any f congr x xs rest h ys) ∙ or_swap (f x || list_any f xs) (f y) (list_any f ys))
+
+  -- a test that doesn't tell equal members apart finds in a union what it finds in either set
+  pub merge_any : (f : T → Bool) → ((x y : T) → cmp x y ≡ Equal → f x ≡ f y) → (xs ys : List T)
+      → list_any f (merge cmp xs ys) ≡ (list_any f xs || list_any f ys)
+  merge_any f congr [] ys = refl
+  merge_any f congr (x ∷ xs) ys = merge_into_any f congr x xs (merge cmp xs) (merge_any f congr xs) ys
 
   pub merge_has : (xs ys : List T) (z : T) → has cmp (merge cmp xs ys) z ≡ (has cmp xs z || has cmp ys z)
-  merge_has [] ys z = refl
-  merge_has (x ∷ xs) ys z = merge_into_has x xs (merge cmp xs) (merge_has xs) ys z
+  merge_has xs ys z = merge_any (λ y. is_eq (cmp y z)) (λ x y e. ap is_eq (o.congr x y z e)) xs ys
+
+  -- such a test finds a member of a set in each set that has it
+  has_any : (f : T → Bool) → ((x y : T) → cmp x y ≡ Equal → f x ≡ f y) → (ys : List T) (x : T) → has cmp ys x ≡ true → f x ≡ true → list_any f ys ≡ true
+  has_any f congr [] x h t = absurd (false≢true h)
+  has_any f congr (y ∷ ys) x h t = elim (or_cases (is_eq (cmp y x)) (has cmp ys x) h) [
+    | inl same ↦ or_left (f y) (list_any f ys) (congr y x (is_Equal (cmp y x) same) ∙ t)
+    | inr later ↦ or_right (f y) (list_any f ys) (has_any f congr ys x later t)
+  ]
+
+  pub within_any : (f : T → Bool) → ((x y : T) → cmp x y ≡ Equal → f x ≡ f y) → (xs ys : List T)
+      → is_within cmp xs ys ≡ true → list_any f xs ≡ true → list_any f ys ≡ true
+  within_any f congr [] ys w h = absurd (false≢true h)
+  within_any f congr (x ∷ xs) ys w h =
+      let p = and_parts (has cmp ys x) (is_within cmp xs ys) w in
+      elim (or_cases (f x) (list_any f xs) h) [
+        | inl here ↦ has_any f congr ys x p.0 here
+        | inr later ↦ within_any f congr xs ys p.1 later
+      ]
 
   merge_into_all : (P : T → Type 0) (x : T) (xs : List T) (rest : List T → List T) → P x → AllByRecursion P xs
       → ((ys : List T) → AllByRecursion P ys → AllByRecursion P (rest ys))

@@ -1,9 +1,9 @@
 -- Sets as ascending lists.
-use Rattle.std.specs.Prelude.{◌≡◌, Bool, true, false, ◌||◌, ◌&&◌, cond, List, [], ◌∷◌}
+use Rattle.std.specs.Prelude.{◌≡◌, Bool, cond, List, [], ◌∷◌}
 use Rattle.std.specs.declared.cmp.Ordering.{Ordering}
 use Rattle.std.specs.declared.cmp.Ordering.TheVariants.{Less}
 use Rattle.std.specs.Ordering.{is_eq, match_ordering}
-use Rattle.std.specs.List.{AllByRecursion}
+use Rattle.std.specs.List.{AllByRecursion, list_any, list_all}
 
 -- each member is below those after it
 abbrev pub IsSet : {T : Type 0} → (T → T → Ordering) → List T → Type 0
@@ -12,13 +12,11 @@ IsSet cmp (x ∷ xs) = AllByRecursion (λ y. cmp x y ≡ Less) xs × IsSet cmp x
 
 -- the value is a member
 abbrev pub has : {T : Type 0} → (T → T → Ordering) → List T → T → Bool
-has cmp [] x = false
-has cmp (y ∷ ys) x = is_eq (cmp y x) || has cmp ys x
+has cmp xs x = list_any (λ y. is_eq (cmp y x)) xs
 
 -- each member of the first set is one of the second
 abbrev pub is_within : {T : Type 0} → (T → T → Ordering) → List T → List T → Bool
-is_within cmp [] ys = true
-is_within cmp (x ∷ xs) ys = has cmp ys x && is_within cmp xs ys
+is_within cmp xs ys = list_all (has cmp ys) xs
 
 -- the set x ∷ xs and another in order, where `rest` puts xs and another in order
 abbrev pub merge_into : {T : Type 0} → (T → T → Ordering) → T → List T → (List T → List T) → List T → List T
