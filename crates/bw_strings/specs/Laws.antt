@@ -1,5 +1,5 @@
 -- Laws of sets of strings.
-use Rattle.std.specs.Prelude.{◌≡◌, ◌↔◌, ◌<◌, ℕ, true, ◌||◌, List, length}
+use Rattle.std.specs.Prelude.{◌≡◌, ◌↔◌, ◌<◌, ℕ, true, ◌||◌, List, [], length}
 use Rattle.bw_lang.specs.Names.{number, with_names}
 use Rattle.bw_strings.specs.declared.strings.StrSet.{StrSet}
 use Rattle.bw_strings.specs.Asking.{text_of, has_string, is_among, is_blank, within, blank}

@@ -53,4 +53,4 @@ declaration_strings (declarations.Session s) = code_strings s.body
 
 -- the different strings that the literals of declarations stand for, by their first places, and then the service's name, where it isn't one of them
 abbrev pub literals_of : List ℕ → List Declaration → List (List ℕ)
-literals_of name ds = with_names [] (flat_map declaration_strings ds ++ name ∷ [])
+literals_of service ds = with_names [] (flat_map declaration_strings ds ++ service ∷ [])
