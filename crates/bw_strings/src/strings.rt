@@ -42,12 +42,6 @@ impl StrSet {
     pub fn join(&self, alloc: Global, other: &StrSet) -> Result<StrSet, Memory>
         ensures { IfOk result (λ s. s ≡ both self.now other.now) }
     {
-        Ok(self.joined(alloc, other)?)
-    }
-
-    fn joined(&self, alloc: Global, other: &StrSet) -> Result<StrSet, AllocError>
-        ensures { IfOk result (λ s. s ≡ both self.now other.now) }
-    {
         match (self, other) {
             (StrSet::Of(a), StrSet::Of(b)) => Ok(StrSet::Of(a.union(alloc, b)?)),
             _ => Ok(StrSet::Any),
@@ -155,7 +149,7 @@ impl Lattice for StrSet {
     ghost laws = { strings_lattice };
 
     fn join(&self, alloc: Global, other: &Self) -> Result<Self, AllocError> {
-        self.joined(alloc, other)
+        Ok(self.join(alloc, other)?)
     }
 
     fn below(&self, other: &Self) -> bool {
