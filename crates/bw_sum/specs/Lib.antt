@@ -1,0 +1,10 @@
+pub mod Labels
+pub mod LabelLaws
+pub mod Edges
+pub mod Summaries
+pub mod SummaryLaws
+pub mod Opening
+pub mod Constants
+pub mod Graph
+pub mod Unfolding
+pub mod Laws
