@@ -11,7 +11,8 @@ use Rattle.bw_lang.specs.Markup.{is_void, escaped, escaped_byte}
 use Rattle.bw_lang.specs.Print.{print, printed_attr, printed_attrs, printed_start, printed_end}
 use Rattle.bw_lang.proofs.PrintLaws.{escaped-append, closed_alike}
 use Rattle.bw_page.specs.Bytes.{is_plain, is_word_byte, is_digit, is_hex_digit}
-use Rattle.bw_page.specs.Pages.{button, fixed_attr, show_page, exit_page}
+use Rattle.bw_lang.specs.Wrappers.{button, attr}
+use Rattle.bw_page.specs.Pages.{show_page, exit_page}
 use Rattle.bw_page.specs.Laws.{ExitLength, ShowLength, TurnLength, turn_target}
 use Rattle.bw_page.proofs.Printed.{print-append}
 
@@ -69,7 +70,7 @@ attr_size : (name value : List ℕ) → length (printed_attr name (Fixed value))
 attr_size name value =
     omega (arith, length-append name (codes "=\"" ++ (escaped value ++ codes "\"")), length-append (escaped value) (codes "\""))
 
-attrs_size : (name value name2 value2 : List ℕ) → length (printed_attrs (fixed_attr name value ∷ fixed_attr name2 value2 ∷ [])) ≡ 8 + length name + length name2 + length (escaped value2) + length (escaped value)
+attrs_size : (name value name2 value2 : List ℕ) → length (printed_attrs (attr name (Fixed value) ∷ attr name2 (Fixed value2) ∷ [])) ≡ 8 + length name + length name2 + length (escaped value2) + length (escaped value)
 attrs_size name value name2 value2 =
     let p = printed_attr name (Fixed value) in let q = printed_attr name2 (Fixed value2) in
     length-append p (q ++ []) ∙ omega (arith, length-append q [], attr_size name value, attr_size name2 value2)
@@ -105,7 +106,7 @@ exit_length title d w = exit_size title d ∙ omega (arith, escaped_length is_wo
 show_size : (title target : List ℕ) (d : Forest) → length (print (show_page title target d)) ≡ 137 + length (escaped title) + length (escaped target) + length (print d)
 show_size title target d =
     let items = append (close d) button in
-    let attrs = fixed_attr (codes "action") target ∷ fixed_attr (codes "method") (codes "post") ∷ [] in
+    let attrs = attr (codes "action") (Fixed target) ∷ attr (codes "method") (Fixed (codes "post")) ∷ [] in
     page_size (codes "html") (codes "head") (codes "title") (codes "body") refl refl refl refl (text title none) (element (codes "form") attrs items none)
     ∙ omega (arith, text_size title, element_size (codes "form") attrs items none refl, attrs_size (codes "action") target (codes "method") (codes "post"), closed_size d button)
 
