@@ -1,5 +1,5 @@
 -- The strings that sets have.
-use Rattle.std.proofs.Common.{◌≡◌, ℕ, Bool, true, false, ◌||◌, List, [], ◌∷◌, refl, sym, ap, ◌∙◌, inl, inr}
+use Rattle.std.proofs.Common.{◌≡◌, ℕ, Bool, true, List, [], ◌∷◌, refl, sym, ap, ◌∙◌, inl, inr}
 use Rattle.std.specs.List.{list_any, list_all}
 use Rattle.std.specs.declared.cmp.Ordering.TheVariants.{Equal}
 use Rattle.std.specs.Ordering.{nat_cmp}
@@ -8,11 +8,9 @@ use Rattle.std.proofs.lemmas.Cmp.{nat_cmp_total, ranked}
 use Rattle.std.proofs.lemmas.Slice.Eq.{bytes_eq-Decides}
 use Rattle.std.proofs.Math.Bool.{or-true}
 use Rattle.bw_lang.specs.Names.{same}
-use Rattle.bw_solve.specs.Sets.{is_within}
 use Rattle.bw_solve.specs.SetLaws.{merge_any, within_any}
-use Rattle.bw_strings.specs.declared.strings.StrSet.{StrSet}
 use Rattle.bw_strings.specs.declared.strings.StrSet.TheVariants.{Any, Of}
-use Rattle.bw_strings.specs.Asking.{text_of, has_string, is_among, is_blank, within, blank}
+use Rattle.bw_strings.specs.Asking.{text_of, has_string, is_among, is_blank}
 use Rattle.bw_strings.specs.Laws.{JoinByStrings, BelowByStrings, WithinByStrings, BlankByStrings}
 
 -- equal numbers have one literal

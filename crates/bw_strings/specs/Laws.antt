@@ -1,9 +1,9 @@
 -- Laws of sets of strings.
-use Rattle.std.specs.Prelude.{◌≡◌, ◌↔◌, ◌<◌, ℕ, true, ◌||◌, List, [], length}
+use Rattle.std.specs.Prelude.{◌≡◌, ◌<◌, ℕ, true, ◌||◌, List, [], length}
 use Rattle.bw_lang.specs.Names.{number, with_names}
 use Rattle.bw_strings.specs.declared.strings.StrSet.{StrSet}
 use Rattle.bw_strings.specs.Asking.{text_of, has_string, is_among, is_blank, within, blank}
-use Rattle.bw_strings.specs.Strings.{both, is_below, IsWellFormed}
+use Rattle.bw_strings.specs.Strings.{both, is_below}
 
 -- the join has the strings of both
 abbrev pub JoinByStrings : Type 0
@@ -15,7 +15,8 @@ BelowByStrings = (literals : List (List ℕ)) (a b : StrSet) (s : List ℕ) → 
 
 -- a set is within some words where each string that it has is one of them
 abbrev pub WithinByStrings : Type 0
-WithinByStrings = (literals words : List (List ℕ)) (a : StrSet) → within literals words a ≡ true → (s : List ℕ) → has_string literals a s ≡ true → is_among words s ≡ true
+WithinByStrings = (literals words : List (List ℕ)) (a : StrSet) → within literals words a ≡ true → (s : List ℕ) → has_string literals a s ≡ true
+    → is_among words s ≡ true
 
 -- and it is blank where each is blank
 abbrev pub BlankByStrings : Type 0

@@ -4,8 +4,10 @@ use Rattle.bw_lang.specs.declared.declaration.Declaration.{Declaration}
 use Rattle.bw_lang.specs.declared.declaration.Declaration.TheVariants as declarations
 use Rattle.bw_lang.specs.declared.service.Literal.{Literal}
 use Rattle.bw_lang.specs.declared.service.Literal.TheVariants as literals
+use Rattle.bw_lang.specs.declared.service.Service.{Service}
 use Rattle.bw_lang.specs.Code.{Code, done, declare, assign, if_then, if_else, while_loop, block, for_each, show, exit}
 use Rattle.bw_lang.specs.Names.{with_names}
+use Rattle.bw_lang.specs.Order.{declarations_of}
 use Rattle.bw_lang.specs.Term.{Term, int, truth, string, name, paren, not, neg, binary, call, plug, nothing, Fillings, no_more, filling}
 
 -- what the string literals of an expression stand for, and those of the pairs of a plug, in source order
@@ -51,6 +53,6 @@ declaration_strings (declarations.Template t) = []
 declaration_strings (declarations.Shared v) = literal_strings v.init
 declaration_strings (declarations.Session s) = code_strings s.body
 
--- the different strings that the literals of declarations stand for, by their first places, and then the service's name, where it isn't one of them
-abbrev pub literals_of : List ℕ → List Declaration → List (List ℕ)
-literals_of service ds = with_names [] (flat_map declaration_strings ds ++ service ∷ [])
+-- the different strings that the literals of a service stand for, by their first places, and then the service's name, where it isn't one of them
+abbrev pub literals_of : Service → List (List ℕ)
+literals_of service = with_names [] (flat_map declaration_strings (declarations_of service) ++ service.name ∷ [])

@@ -1,17 +1,17 @@
 -- The laws of string sets.
-use Rattle.std.specs.Prelude.{◌≡◌, ℕ, suc, ◌+◌, ◌-◌, ◌^◌, ◌<◌, ◌≤◌, Bool, true, false, List, [], ◌∷◌, length, min}
-use Rattle.std.proofs.Common.{refl, sym, ap, ◌∙◌, arith}
+use Rattle.std.specs.Prelude.{◌≡◌, ℕ, ◌+◌, ◌-◌, ◌^◌, ◌<◌, ◌≤◌, true, false, List, [], ◌∷◌, length}
+use Rattle.std.proofs.Common.{refl, sym, arith}
 use Rattle.std.proofs.lemmas.Bool.{false≢true}
 use Rattle.std.specs.declared.cmp.Ordering.TheVariants.{Less}
 use Rattle.std.specs.Ordering.{nat_cmp}
 use Rattle.std.specs.List.{AllByRecursion}
 use Rattle.std.proofs.lemmas.Cmp.{nat_cmp_total, ranked}
 use Rattle.bw_solve.specs.Lattice.{IsLattice}
-use Rattle.bw_solve.specs.Sets.{IsSet, is_within, merge}
+use Rattle.bw_solve.specs.Sets.{IsSet}
 use Rattle.bw_solve.specs.SetLaws.{merge_all, merge_set, merge_left, merge_right, merge_least, within_itself, within_trans, within_size, within_rises}
 use Rattle.bw_strings.specs.declared.strings.StrSet.{StrSet}
 use Rattle.bw_strings.specs.declared.strings.StrSet.TheVariants.{Any, Of}
-use Rattle.bw_strings.specs.Strings.{IsWellFormed, AreWellFormed, is_below, both, size_of, rank_of, is_none}
+use Rattle.bw_strings.specs.Strings.{AreWellFormed, is_below, both, size_of, rank_of, is_none}
 
 -- ascending numbers from low on, is_below a bound
 pub few_from : (n low : ℕ) (xs : List ℕ) → AllByRecursion (λ x. low ≤ x) xs → IsSet nat_cmp xs → AllByRecursion (λ x. x < n) xs → length xs ≤ n - low

@@ -1,4 +1,4 @@
-use Rattle.std.proofs.Common.{ℕ, ◌<◌, ◌^◌, subst}
+use Rattle.std.proofs.Common.{◌<◌, ◌^◌, subst}
 use Rattle.std.specs.List.{AllByRecursion}
 use Rattle.bw_strings.proofs.strings.StrSet.is_none.Goals as goal
 
