@@ -18,7 +18,8 @@ pub(crate) fn add_strings(
     texts: &mut NameTable,
     service: &Service,
 ) -> Result<(), Memory>
-    ensures { OnOk result (texts.new ≡ with_names texts.old (flat_map spec.declaration_strings (declarations_of service.now))) }
+    ensures { OnOk result (texts.new ≡
+        with_names texts.old (flat_map spec.declaration_strings (declarations_of service.now))) }
 {
     let declarations = service.declarations(alloc)?;
     for declaration in &declarations {

@@ -3,9 +3,9 @@ use Rattle.std.specs.Prelude.{◌≡◌, ℕ, Bool, true, false, ◌||◌, ◌&&
 use Rattle.std.proofs.Common.{refl, sym, ap, ◌∙◌, subst}
 use Rattle.std.specs.Ordering.{nat_cmp}
 use Rattle.std.proofs.lemmas.Cmp.{nat_cmp_total}
-use Rattle.std.proofs.lemmas.Bool.{false≢true}
+use Rattle.std.proofs.lemmas.Bool.{false≢true, and_parts, and_from}
 use Rattle.bw_solve.specs.Sets.{IsSet, has, is_within}
-use Rattle.bw_solve.specs.SetLaws.{both, and_both, has_within, within_by, merge_set}
+use Rattle.bw_solve.specs.SetLaws.{has_within, within_by, merge_set}
 use Rattle.bw_solve.specs.Lattice.{IsLattice}
 use Rattle.bw_solve.specs.Tables.{found}
 use Rattle.bw_solve.specs.TableLaws.{below_by, below_at}
@@ -21,6 +21,8 @@ use Rattle.bw_sum.specs.SummaryLaws.{edge_cmp_total}
 use Rattle.bw_sum.specs.Summaries.{AreAlike, is_below, plugged, plugged_text}
 use Rattle.bw_sum.specs.declared.summary.Summary.{Summary}
 use Rattle.bw_sum.specs.Graph.{Graph, graph}
+use Rattle.bw_sum.specs.Laws.{BelowByMembers, PlugGrows, PlugTextGrows}
+use Rattle.bw_strings.proofs.Members.{below_by_strings}
 use Rattle.bw_sum.proofs.GraphLaws.{plugs, plugs_text, new_are}
 
 or_more : (a b c d : Bool) → (a ≡ true → c ≡ true) → (b ≡ true → d ≡ true) → (a || b) ≡ true → (c || d) ≡ true
@@ -48,13 +50,13 @@ parts_below a b = (is_within nat_cmp a.roots b.roots ≡ true) × (is_within edg
 
 split : (a b : Summary) → is_below a b ≡ true → parts_below a b
 split a b h =
-    let p = both (is_within nat_cmp a.roots b.roots) (is_within edge_cmp a.edges b.edges && (are_below a.texts b.texts && (is_within pair_cmp a.tracks b.tracks && is_within nat_cmp a.lacks b.lacks))) h in
-    let q = both (is_within edge_cmp a.edges b.edges) (are_below a.texts b.texts && (is_within pair_cmp a.tracks b.tracks && is_within nat_cmp a.lacks b.lacks)) p.1 in
-    let r = both (are_below a.texts b.texts) (is_within pair_cmp a.tracks b.tracks && is_within nat_cmp a.lacks b.lacks) q.1 in
-    let t = both (is_within pair_cmp a.tracks b.tracks) (is_within nat_cmp a.lacks b.lacks) r.1 in
+    let p = and_parts (is_within nat_cmp a.roots b.roots) (is_within edge_cmp a.edges b.edges && (are_below a.texts b.texts && (is_within pair_cmp a.tracks b.tracks && is_within nat_cmp a.lacks b.lacks))) h in
+    let q = and_parts (is_within edge_cmp a.edges b.edges) (are_below a.texts b.texts && (is_within pair_cmp a.tracks b.tracks && is_within nat_cmp a.lacks b.lacks)) p.1 in
+    let r = and_parts (are_below a.texts b.texts) (is_within pair_cmp a.tracks b.tracks && is_within nat_cmp a.lacks b.lacks) q.1 in
+    let t = and_parts (is_within pair_cmp a.tracks b.tracks) (is_within nat_cmp a.lacks b.lacks) r.1 in
     (p.0, q.0, r.0, t.0, t.1)
 
-grows : (a b : Summary) → is_below a b ≡ true → Grows (graph a) (graph b)
+pub grows : (a b : Summary) → is_below a b ≡ true → Grows (graph [] a) (graph [] b)
 grows a b h = let p = split a b h in record {
   root = λ n. has_within nat_cmp_total a.roots b.roots n p.0;
   edge = λ n g m. has_within edge_cmp_total a.edges b.edges (n, g, m) p.1;
@@ -62,14 +64,14 @@ grows a b h = let p = split a b h in record {
   lack = λ g. has_within nat_cmp_total a.lacks b.lacks g p.4;
 }
 
-whole : (a b : Summary) → Grows (graph a) (graph b) → are_below a.texts b.texts ≡ true → is_below a b ≡ true
+whole : (a b : Summary) → Grows (graph [] a) (graph [] b) → are_below a.texts b.texts ≡ true → is_below a b ≡ true
 whole a b h t =
-    and_both (is_within nat_cmp a.roots b.roots) (is_within edge_cmp a.edges b.edges && (are_below a.texts b.texts && (is_within pair_cmp a.tracks b.tracks && is_within nat_cmp a.lacks b.lacks)))
+    and_from (is_within nat_cmp a.roots b.roots) (is_within edge_cmp a.edges b.edges && (are_below a.texts b.texts && (is_within pair_cmp a.tracks b.tracks && is_within nat_cmp a.lacks b.lacks)))
     (within_by nat_cmp_total a.roots b.roots (λ z. h.root z))
-    (and_both (is_within edge_cmp a.edges b.edges) (are_below a.texts b.texts && (is_within pair_cmp a.tracks b.tracks && is_within nat_cmp a.lacks b.lacks))
+    (and_from (is_within edge_cmp a.edges b.edges) (are_below a.texts b.texts && (is_within pair_cmp a.tracks b.tracks && is_within nat_cmp a.lacks b.lacks))
     (within_by edge_cmp_total a.edges b.edges (λ z. h.edge z.0 z.1 z.2))
-    (and_both (are_below a.texts b.texts) (is_within pair_cmp a.tracks b.tracks && is_within nat_cmp a.lacks b.lacks) t
-    (and_both (is_within pair_cmp a.tracks b.tracks) (is_within nat_cmp a.lacks b.lacks)
+    (and_from (are_below a.texts b.texts) (is_within pair_cmp a.tracks b.tracks && is_within nat_cmp a.lacks b.lacks) t
+    (and_from (is_within pair_cmp a.tracks b.tracks) (is_within nat_cmp a.lacks b.lacks)
     (within_by pair_cmp_total a.tracks b.tracks (λ z. h.track z.0 z.1))
     (within_by nat_cmp_total a.lacks b.lacks (λ z. h.lack z)))))
 
@@ -81,17 +83,30 @@ labels_more a b c d la lb lc ld p q =
     (L.below_trans a c (both_labels c d) (la, lc) (lc, lj) p (L.join_left c d (lc, ld)))
     (L.below_trans b d (both_labels c d) (lb, ld) (ld, lj) q (L.join_right c d (lc, ld)))
 
+pub below_by_members : BelowByMembers
+below_by_members literals a b s h =
+    let p = split a b h in
+    let r = grows a b h in record {
+      roots = r.root;
+      edges = r.edge;
+      labels = λ n g t. below_by_strings literals (found pair_cmp (Of []) a.texts (n, g)) (found pair_cmp (Of []) b.texts (n, g)) t
+          (below_at pair_cmp_total strings_lattice (Of []) (tt, tt) (λ v w. none_least v) none_left none_right a.texts b.texts (n, g)
+          s.1.1.0.0 s.1.1.0.1 p.2);
+      tracks = r.track;
+      lacks = r.lack;
+    }
+
 -- a plug grows with its base and with what is plugged
-pub plug_grows : (b c : Summary) (g : ℕ) (a d : Summary) → AreAlike b c → AreAlike a d → is_below b c ≡ true → is_below a d ≡ true → is_below (plugged b g a) (plugged c g d) ≡ true
+pub plug_grows : PlugGrows
 plug_grows b c g a d s t p q =
-    let l = plugs b g a ((s.0.0, t.0.0), ((s.1.0.0, t.1.0.0), ((s.1.1.0.0, t.1.1.0.0), ((s.1.1.1.0.0, t.1.1.1.0.0), (s.1.1.1.1.0, t.1.1.1.1.0))))) in
-    let r = plugs c g d ((s.0.1, t.0.1), ((s.1.0.1, t.1.0.1), ((s.1.1.0.1, t.1.1.0.1), ((s.1.1.1.0.1, t.1.1.1.0.1), (s.1.1.1.1.1, t.1.1.1.1.1))))) in
+    let l = plugs [] b g a ((s.0.0, t.0.0), ((s.1.0.0, t.1.0.0), ((s.1.1.0.0, t.1.1.0.0), ((s.1.1.1.0.0, t.1.1.1.0.0), (s.1.1.1.1.0, t.1.1.1.1.0))))) in
+    let r = plugs [] c g d ((s.0.1, t.0.1), ((s.1.0.1, t.1.0.1), ((s.1.1.0.1, t.1.1.0.1), ((s.1.1.1.0.1, t.1.1.1.0.1), (s.1.1.1.1.1, t.1.1.1.1.1))))) in
     let u = grows b c p in
     let v = grows a d q in
-    let B = graph b in
-    let C = graph c in
-    let A = graph a in
-    let D = graph d in
+    let B = graph [] b in
+    let C = graph [] c in
+    let A = graph [] a in
+    let D = graph [] d in
     whole (plugged b g a) (plugged c g d) (record {
       root = λ n h. u.root n h;
       edge = λ n k m h. r.edge n k m ∙ or_more (B.edge n k m || A.edge n k m) ((k == g) && (B.track g n && A.root m)) (C.edge n k m || D.edge n k m) ((k == g) && (C.track g n && D.root m))
@@ -135,13 +150,13 @@ new_more ts us g s r i j f e h p =
     (new_below ts us g k.0 k.1 s r (h k.0) p)))
 
 -- a plug of strings grows with its base and with the strings
-pub text_grows : (b c : Summary) (g : ℕ) (s r : StrSet) → AreAlike b c → strings.AreWellFormed s r → is_below b c ≡ true → strings.is_below s r ≡ true → is_below (plugged_text b g s) (plugged_text c g r) ≡ true
+pub text_grows : PlugTextGrows
 text_grows b c g s r i f p q =
-    let l = plugs_text b g s ((i.0.0, i.0.0), ((i.1.0.0, i.1.0.0), ((i.1.1.0.0, i.1.1.0.0), ((i.1.1.1.0.0, i.1.1.1.0.0), (i.1.1.1.1.0, i.1.1.1.1.0))))) f.0 in
-    let m = plugs_text c g r ((i.0.1, i.0.1), ((i.1.0.1, i.1.0.1), ((i.1.1.0.1, i.1.1.0.1), ((i.1.1.1.0.1, i.1.1.1.0.1), (i.1.1.1.1.1, i.1.1.1.1.1))))) f.1 in
+    let l = plugs_text [] b g s ((i.0.0, i.0.0), ((i.1.0.0, i.1.0.0), ((i.1.1.0.0, i.1.1.0.0), ((i.1.1.1.0.0, i.1.1.1.0.0), (i.1.1.1.1.0, i.1.1.1.1.0))))) f.0 in
+    let m = plugs_text [] c g r ((i.0.1, i.0.1), ((i.1.0.1, i.1.0.1), ((i.1.1.0.1, i.1.1.0.1), ((i.1.1.1.0.1, i.1.1.1.0.1), (i.1.1.1.1.1, i.1.1.1.1.1))))) f.1 in
     let u = grows b c p in
-    let B = graph b in
-    let C = graph c in
+    let B = graph [] b in
+    let C = graph [] c in
     whole (plugged_text b g s) (plugged_text c g r) (record {
       root = λ n h. u.root n h;
       edge = λ n k x h. u.edge n k x h;

@@ -141,25 +141,25 @@ opens_counted g (element tag a i d) h = elim (or_cases (holes g a) (opens g i ||
 -- a gap that is counted is open
 counted_holes : (g : ℕ) (a : List Attr) → 0 < count_by (λ v. is_hole g v.value) a → holes g a ≡ true
 counted_holes g [] h = absurd (omega arith)
-counted_holes g (x ∷ a) h = by_test (is_hole g x.value) refl
+counted_holes g (x ∷ a) h = by_test (is_hole g x.value) refl (counted_holes g a)
   where
-    by_test : (b : Bool) → is_hole g x.value ≡ b → (is_hole g x.value || holes g a) ≡ true
-    by_test true e = or_left (is_hole g x.value) (holes g a) e
-    by_test false e =
+    by_test : (b : Bool) → is_hole g x.value ≡ b → (0 < count_by (λ v. is_hole g v.value) a → holes g a ≡ true) → (is_hole g x.value || holes g a) ≡ true
+    by_test true e rest = or_left (is_hole g x.value) (holes g a) e
+    by_test false e rest =
         let c = sum_by-cons (λ (v : Attr). cond (is_hole g v.value) 1 0) x a in
         let n : cond (is_hole g x.value) 1 0 ≡ 0 = ap (λ b. cond b 1 0) e in
-        or_right (is_hole g x.value) (holes g a) (counted_holes g a (omega arith))
+        or_right (is_hole g x.value) (holes g a) (rest (omega arith))
 
 counted_opens : (g : ℕ) (d : Forest) → 0 < count g d → opens g d ≡ true
 counted_opens g none h = absurd (omega arith)
 counted_opens g (text s d) h = counted_opens g d h
-counted_opens g (gap k d) h = by_test (k == g) refl
+counted_opens g (gap k d) h = by_test (k == g) refl (counted_opens g d)
   where
-    by_test : (b : Bool) → (k == g) ≡ b → ((k == g) || opens g d) ≡ true
-    by_test true e = or_left (k == g) (opens g d) e
-    by_test false e =
+    by_test : (b : Bool) → (k == g) ≡ b → (0 < count g d → opens g d ≡ true) → ((k == g) || opens g d) ≡ true
+    by_test true e rest = or_left (k == g) (opens g d) e
+    by_test false e rest =
         let n : one_if (k == g) ≡ 0 = ap one_if e in
-        or_right (k == g) (opens g d) (counted_opens g d (omega arith))
+        or_right (k == g) (opens g d) (rest (omega arith))
 counted_opens g (element tag a i d) h = elim (cases_lt 0 (count_by (λ v. is_hole g v.value) a)) [
   | inl here ↦ or_left (holes g a) (opens g i || opens g d) (counted_holes g a here)
   | inr none_here ↦ or_right (holes g a) (opens g i || opens g d) (elim (cases_lt 0 (count g i)) [
