@@ -147,8 +147,8 @@ counted_holes g (x ∷ a) h = by_test (is_hole g x.value) refl (counted_holes g 
     by_test true e rest = or_left (is_hole g x.value) (holes g a) e
     by_test false e rest =
         let c = sum_by-cons (λ (v : Attr). cond (is_hole g v.value) 1 0) x a in
-        let n : cond (is_hole g x.value) 1 0 ≡ 0 = ap (λ b. cond b 1 0) e in
-        or_right (is_hole g x.value) (holes g a) (rest (omega arith))
+        let n : cond {A = ℕ} (is_hole g x.value) 1 0 ≡ 0 = cond-false (is_hole g x.value) 1 0 e in
+        or_right (is_hole g x.value) (holes g a) (rest (omega (arith, c, h)))
 
 counted_opens : (g : ℕ) (d : Forest) → 0 < count g d → opens g d ≡ true
 counted_opens g none h = absurd (omega arith)
