@@ -1,7 +1,7 @@
 -- Sessions that do more than exit.
 use Rattle.std.proofs.Common.{◌≡◌, ◌≢◌, ℕ, List, [], ◌∷◌, length, refl, Option, None, Some}
 use Rattle.bw_lang.specs.declared.stmt.Stmt.{Stmt}
-use Rattle.bw_lang.specs.declared.stmt.Stmt.TheVariants.{Declare, Assign, If, While, Block, Show, Exit}
+use Rattle.bw_lang.specs.declared.stmt.Stmt.TheVariants.{Declare, Assign, If, While, Block, Each, Show, Exit}
 use Rattle.bw_lang.specs.Code.{Code}
 use Rattle.bw_lang.specs.CodeView.{before, code}
 use Rattle.bw_lang.specs.TermView.{term}
@@ -15,6 +15,7 @@ not_done (If t y None) rest found = refl
 not_done (If t y (Some n)) rest found = refl
 not_done (While t b) rest found = refl
 not_done (Block b) rest found = refl
+not_done (Each w e b) rest found = refl
 not_done (Show p rs) rest found = refl
 not_done (Exit p) rest found = refl
 
@@ -25,6 +26,7 @@ longer (If e y None) t rest = refl
 longer (If e y (Some n)) t rest = refl
 longer (While e b) t rest = refl
 longer (Block b) t rest = refl
+longer (Each w e b) t rest = refl
 longer (Show p rs) t rest = refl
 longer (Exit p) t rest = not_done t rest (name_of (term p))
 

@@ -1,8 +1,8 @@
 -- The bytes of a message, put together from the parts that are written.
 use Rattle.std.proofs.Common.{◌≡◌, ℕ, List, [], ◌++◌, codes, length, ap, ◌∙◌, append_assoc, append-nil, subst, Result}
 use Rattle.std.specs.Prelude.{decimal}
-use Rattle.std.specs.declared.option.Option.{Option}
-use Rattle.bw_out.specs.Writes.{Writes}
+use Rattle.bw_out.specs.Sends.{Sends}
+use Rattle.bw_out.specs.declared.outside.Channel.{Ghosts}
 use Rattle.bigwig.specs.Replies.{message, length_field}
 
 abbrev pub head_end : List ℕ
@@ -29,6 +29,6 @@ pub whole_message : (status type body : List ℕ) (n : ℕ) → n ≡ length bod
 whole_message status type body n e =
     opening-append status type (length_field n ++ (head_end ++ body)) ∙ ap (λ m. codes "HTTP/1.1 " ++ (status ++ (codes "\r\nContent-Type: " ++ (type ++ (length_field m ++ (head_end ++ body)))))) e
 
--- the same write, by another spelling of its bytes
-pub writes_as : {T E : Type 0} {a b : Option (List ℕ)} {all : List ℕ} {r : Result T E} (p : List ℕ) → Writes a b p r → p ≡ all → Writes a b all r
-writes_as {a = a} {b = b} {r = r} p w e = subst (λ x. Writes a b x r) e w
+-- what was sent, by another spelling of its bytes
+pub sends_as : {C T E : Type 0} {c : Ghosts C} {a b : C} {all : List ℕ} {r : Result T E} (p : List ℕ) → Sends c a b p r → p ≡ all → Sends c a b all r
+sends_as {c = c} {a = a} {b = b} {r = r} p s e = subst (λ x. Sends c a b x r) e s

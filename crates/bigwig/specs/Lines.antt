@@ -33,6 +33,7 @@ kind_name kinds.Int = codes "int"
 kind_name kinds.Bool = codes "bool"
 kind_name kinds.Str = codes "string"
 kind_name kinds.Html = codes "html"
+kind_name kinds.Strs = codes "strings"
 
 -- a byte of a field's name as it prints: the ends of lines as spaces
 abbrev pub shown : ℕ → ℕ

@@ -3,7 +3,6 @@ use Rattle.std.specs.Prelude.{◌≡◌, ◌≢◌, ◌⊎◌, ℕ, List, [], �
 use Rattle.std.specs.declared.option.Option.{Option}
 use Rattle.std.specs.Io.KnownBytes.{Appends}
 use Rattle.bw_lang.specs.declared.service.Service.{Service}
-use Rattle.bw_out.specs.Causes.{Rose}
 use Rattle.bw_out.specs.Told.{Disk}
 use Rattle.bigwig.specs.Commands.{command_of, replay}
 use Rattle.bigwig.specs.Loads.{IsServed, IsRefused}
@@ -73,8 +72,3 @@ Prints held now status text result =
 abbrev pub ComesBy : Option Disk → Option (List ℕ) → Option (List ℕ) → Option (List ℕ) → Option (List ℕ) → List (List ℕ) → Status → Type 0
 ComesBy told coming later held now words status =
     IfSome told (λ disk. IfSome coming (λ keys. Leaves later held now (Comes words disk keys status)))
-
--- a fact shows as a rise of a count, and without it the count stands
-pub record Shows (fact : Type 0) (before now : ℕ) : Type 0 where
-  pub only : fact → Rose before now
-  pub other : (fact → ⊥) → now ≡ before

@@ -66,6 +66,7 @@ fn kind_name(kind: Kind) -> &'static [u8]
         Kind::Bool => b"bool",
         Kind::Str => b"string",
         Kind::Html => b"html",
+        Kind::Strs => b"strings",
     }
 }
 

@@ -1,8 +1,8 @@
 //! Loading of services from files.
 ghost use Rattle.std.specs.Prelude.{◌≡◌, ℕ, List, IfOk, IfErr, IfSome, IsErrOf, take, Some};
+ghost use Rattle.bw_out.specs.Causes.{Shows};
 ghost use Rattle.bw_lang.specs.Reads.{IsReadable, Reads};
 ghost use Rattle.bigwig.specs.Loads.{IsServed};
-ghost use Rattle.bigwig.specs.Outcomes.{Shows};
 ghost use Rattle.bigwig.specs.Stops.{Stops, IsStopped};
 
 use crate::lines::{not_yet_line, syntax_line, type_line};

@@ -1,10 +1,10 @@
 //! All that the program does.
 ghost use Rattle.std.specs.Prelude.{◌≡◌, ◌≢◌, ◌⊎◌, ◌++◌, ℕ, List, None, Some, IfSome};
-ghost use Rattle.bw_out.specs.Causes.{HasCause};
-ghost use Rattle.bw_out.specs.Writes.{Writes};
+ghost use Rattle.bw_out.specs.Causes.{Shows};
+ghost use Rattle.bw_out.specs.Sends.{Sends};
 ghost use Rattle.bigwig.specs.Commands.{command_of, replay};
 ghost use Rattle.bigwig.specs.Loads.{IsServed};
-ghost use Rattle.bigwig.specs.Outcomes.{Comes, ComesBy, Leaves, Shows, Prints, line};
+ghost use Rattle.bigwig.specs.Outcomes.{Comes, ComesBy, Leaves, Prints, line};
 
 use crate::command::command_of;
 use crate::intake::Intake;
@@ -140,8 +140,7 @@ fn print_line<W: Sink>(out: &mut W, status: Status, front: &[u8], back: &[u8]) -
 
 /// Writes a line, in two parts.
 fn write_line<W: Sink>(out: &mut W, front: &[u8], back: &[u8]) -> Result<(), WriteFault>
-    ensures writes { Writes (W.held out.old) (W.held out.new) (front.now ++ line back.now) result }
-    ensures cause { HasCause (W.write_faults out.old) (W.write_faults out.new) result }
+    ensures { Sends W.Channel out.old out.new (front.now ++ line back.now) result }
 {
     write_all(out, front)?;
     write_parts(out, &[back, b"\n"])

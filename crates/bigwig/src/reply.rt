@@ -1,7 +1,6 @@
 //! Replies, and how they are sent.
 ghost use Rattle.std.specs.Prelude.{◌≡◌};
-ghost use Rattle.bw_out.specs.Causes.{HasCause};
-ghost use Rattle.bw_out.specs.Writes.{Writes};
+ghost use Rattle.bw_out.specs.Sends.{Sends};
 ghost use Rattle.bigwig.specs.Replies.{message, length_field, text_type, bytes_of};
 ghost use Rattle.bigwig.specs.Sent.{stands_for};
 
@@ -28,11 +27,7 @@ pub enum Reply {
 /// Sends a reply (RFC 9112, section 2.1): its head, with the length of its body, and its body. It takes no memory.
 /// After a fault, which comes only where the sink's count rose, a first part of the reply is written.
 pub fn write_reply<W: Sink>(reply: &Reply, sink: &mut W) -> Result<(), WriteFault>
-    ensures writes { Writes (W.held sink.old) (W.held sink.new) (bytes_of (stands_for reply.now)) result }
-    ensures cause { HasCause (W.write_faults sink.old) (W.write_faults sink.new) result }
-    ensures left { W.left sink.new ≡ W.left sink.old }
-    ensures read_faults { W.read_faults sink.new ≡ W.read_faults sink.old }
-    ensures same { W.same sink.old sink.new }
+    ensures { Sends W.Channel sink.old sink.new (bytes_of (stands_for reply.now)) result }
 {
     match reply {
         Reply::Index(names) => write_text(b"200 OK", names.as_bytes(), sink),
@@ -52,11 +47,7 @@ pub fn write_reply<W: Sink>(reply: &Reply, sink: &mut W) -> Result<(), WriteFaul
 
 /// Sends a reply in plain text.
 fn write_text<W: Sink>(status: &[u8], body: &[u8], sink: &mut W) -> Result<(), WriteFault>
-    ensures writes { Writes (W.held sink.old) (W.held sink.new) (message status.now text_type body.now) result }
-    ensures cause { HasCause (W.write_faults sink.old) (W.write_faults sink.new) result }
-    ensures left { W.left sink.new ≡ W.left sink.old }
-    ensures read_faults { W.read_faults sink.new ≡ W.read_faults sink.old }
-    ensures same { W.same sink.old sink.new }
+    ensures { Sends W.Channel sink.old sink.new (message status.now text_type body.now) result }
 {
     write_message(status, b"text/plain; charset=utf-8", body, sink)
 }
@@ -68,11 +59,7 @@ fn write_message<'a, W: Sink>(
     body: &[u8],
     sink: &mut W,
 ) -> Result<(), WriteFault>
-    ensures writes { Writes (W.held sink.old) (W.held sink.new) (message status.now kind.now body.now) result }
-    ensures cause { HasCause (W.write_faults sink.old) (W.write_faults sink.new) result }
-    ensures left { W.left sink.new ≡ W.left sink.old }
-    ensures read_faults { W.read_faults sink.new ≡ W.read_faults sink.old }
-    ensures same { W.same sink.old sink.new }
+    ensures { Sends W.Channel sink.old sink.new (message status.now kind.now body.now) result }
 {
     write_parts(sink, &[b"HTTP/1.1 ", status, b"\r\nContent-Type: ", kind])?;
     write_length(body.len(), sink)?;
@@ -87,11 +74,7 @@ fn write_message<'a, W: Sink>(
 
 /// Sends the field of a head that says how long the body is.
 fn write_length<W: Sink>(length: usize, sink: &mut W) -> Result<(), WriteFault>
-    ensures writes { Writes (W.held sink.old) (W.held sink.new) (length_field length) result }
-    ensures cause { HasCause (W.write_faults sink.old) (W.write_faults sink.new) result }
-    ensures left { W.left sink.new ≡ W.left sink.old }
-    ensures read_faults { W.read_faults sink.new ≡ W.read_faults sink.old }
-    ensures same { W.same sink.old sink.new }
+    ensures { Sends W.Channel sink.old sink.new (length_field length) result }
 {
     let mut digits = Buffer::new();
     write_parts(

@@ -1,7 +1,6 @@
 //! Streams of requests, and their answers.
 ghost use Rattle.std.specs.Prelude.{◌≡◌, ◌≢◌, ◌++◌, IfNone, IfSome, Err};
-ghost use Rattle.bw_out.specs.Causes.{HasCause};
-ghost use Rattle.bigwig.specs.Outcomes.{Shows};
+ghost use Rattle.bw_out.specs.Causes.{HasCause, Shows};
 ghost use Rattle.bigwig.specs.Requests.{AsksNothing};
 ghost use Rattle.bigwig.specs.Runs.{Ends};
 ghost use Rattle.bigwig.specs.Streams.{RepliesTo, Reaches, Appended, Turns, Serves};

@@ -10,10 +10,8 @@
 
 ghost use Rattle.std.specs.Prelude.{◌≤◌, IfOk};
 
-use crate::fault::Fault;
-use crate::tables::{Case, Line};
-use crate::verdicts::Verdict;
 use bw_out::{Failed, Reading, Sink, Source, Writing};
+use case_files::{Case, Fault, Line, Verdict};
 use std::alloc::{AllocError, Global};
 use std::io;
 use std::io::{ErrorKind, Read, Write};

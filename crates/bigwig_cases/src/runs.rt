@@ -16,13 +16,10 @@
 //! line that is printed, with code 3; where there is none, nothing is printed.
 ghost use Rattle.std.specs.Prelude.{◌≡◌, ◌<◌};
 
-use crate::fault::Fault;
-use crate::tables::{Case, Line};
-use crate::texts::{Texts, escaped};
-use crate::verdicts::Verdict;
 use bigwig::run;
 use bw_lang::{Memory, Text, Words};
 use bw_out::{Keys, MemDoor, MemFile, MemFiles, MemKeys, MemSink, Quiet, Steps};
+use case_files::{Case, Fault, Line, Texts, Verdict, escaped};
 use std::alloc::{AllocError, Global};
 use std::marker::Brand;
 use std::num::NonZeroUsize;

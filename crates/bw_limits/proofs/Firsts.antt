@@ -47,6 +47,7 @@ statement_lengths k (stmts.If t y None) rest = simp (append_assoc, append-nil)
 statement_lengths k (stmts.If t y (Some n)) rest = simp (append_assoc, append-nil)
 statement_lengths k (stmts.While t b) rest = simp (append_assoc, append-nil)
 statement_lengths k (stmts.Block b) rest = simp append-nil
+statement_lengths k (stmts.Each w e b) rest = simp (append_assoc, append-nil)
 statement_lengths k (stmts.Show p rs) rest = simp (append_assoc, append-nil)
 statement_lengths k (stmts.Exit p) rest = simp append-nil
 

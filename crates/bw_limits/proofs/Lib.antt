@@ -1,9 +1,6 @@
 pub mod BracketSteps
 pub mod Drops
-pub mod FieldSteps
 pub mod Firsts
 pub mod LocalSteps
 pub mod Options
-pub mod Sizes
 pub mod Sorts
-pub mod Statements

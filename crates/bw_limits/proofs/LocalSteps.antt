@@ -2,11 +2,10 @@
 use Rattle.std.proofs.Common.{◌≡◌, ℕ, ◌+◌, ◌<◌, ◌≤◌, List, [], ◌∷◌, ◌++◌, length, get_or, take, drop, Option, Some, None, refl, sym, ap, ◌∙◌, arith, append_assoc, append-nil, length-append}
 use Rattle.std.proofs.lemmas.List.{take_more, take-append-drop}
 use Rattle.bw_lang.specs.declared.stmt.Stmt.{Stmt}
-use Rattle.bw_lang.specs.Code.{Code, done, declare, assign, if_then, if_else, while_loop, block, show, exit, append}
+use Rattle.bw_lang.specs.Code.{Code, done, declare, assign, if_then, if_else, while_loop, block, for_each, show, exit, append}
 use Rattle.bw_lang.specs.CodeView.{code, before}
 use Rattle.bw_lang.specs.CodeNames.{local_names}
-use Rattle.bw_lang.proofs.Codes.{code-append}
-use Rattle.bw_limits.proofs.Statements.{statements_take}
+use Rattle.bw_lang.proofs.Codes.{code-append, statements_take}
 
 local_names-append : (a b : Code) → local_names (append a b) ≡ local_names a ++ local_names b
 local_names-append done b = refl
@@ -15,6 +14,7 @@ local_names-append (assign w e r) b = local_names-append r b
 local_names-append (if_then t y r) b = rw (local_names-append r b) (simp append_assoc)
 local_names-append (if_else t y n r) b = rw (local_names-append r b) (simp append_assoc)
 local_names-append (while_loop t i r) b = rw (local_names-append r b) (simp append_assoc)
+local_names-append (for_each w e i r) b = rw (local_names-append r b) (simp append_assoc)
 local_names-append (block i r) b = rw (local_names-append r b) (simp append_assoc)
 local_names-append (show p rs r) b = local_names-append r b
 local_names-append (exit p r) b = local_names-append r b

@@ -7,8 +7,9 @@ use Rattle.bw_lang.specs.declared.limits.Limit.{Limit}
 use Rattle.bw_lang.specs.declared.limits.Limit.TheVariants as limits
 use Rattle.bw_lang.specs.Brackets.{passed}
 use Rattle.bw_lang.specs.CodeNames.{local_names}
-use Rattle.bw_lang.specs.Limits.{templates_of, shared_of, sessions_of, all_lengths}
+use Rattle.bw_lang.specs.Limits.{all_lengths}
 use Rattle.bw_lang.specs.Measures.{constant_weight}
+use Rattle.bw_lang.specs.Sorted.{templates_of, shared_of, sessions_of}
 
 -- the first limit on the numbers of declarations and of gap names
 abbrev pub declared_limit : List (List ℕ) → List Declaration → Option (Limit × ℕ)

@@ -5,6 +5,7 @@ ghost use Rattle.std.specs.Option.{IfSome, is_some, option_to_list};
 ghost use Rattle.bw_lang.specs.CodeNames.{local_names};
 ghost use Rattle.bw_lang.specs.Limits as spec;
 ghost use Rattle.bw_lang.specs.Measures.{constant_weight};
+ghost use Rattle.bw_lang.specs.Sorted as sorted;
 ghost use Rattle.bw_limits.specs.Parts.{declared_limit, size_limit};
 
 use crate::fields::different_fields;
@@ -42,25 +43,25 @@ const MAX_STRING: u64 = 16_384;
 const MAX_TEMPLATE_WEIGHT: u64 = 262_144;
 
 fn is_template(declaration: &Declaration) -> bool
-    ensures { result ≡ is_some (spec.as_template declaration.now) }
+    ensures { result ≡ is_some (sorted.as_template declaration.now) }
 {
     matches!(declaration, Declaration::Template(_))
 }
 
 fn is_session(declaration: &Declaration) -> bool
-    ensures { result ≡ is_some (spec.as_session declaration.now) }
+    ensures { result ≡ is_some (sorted.as_session declaration.now) }
 {
     matches!(declaration, Declaration::Session(_))
 }
 
 fn is_shared(declaration: &Declaration) -> bool
-    ensures { result ≡ is_some (spec.as_shared declaration.now) }
+    ensures { result ≡ is_some (sorted.as_shared declaration.now) }
 {
     matches!(declaration, Declaration::Shared(_))
 }
 
 fn templates(declarations: &[Declaration]) -> u64
-    ensures { result ≡ length (spec.templates_of declarations.now) }
+    ensures { result ≡ length (sorted.templates_of declarations.now) }
 {
     declarations
         .iter()
@@ -69,7 +70,7 @@ fn templates(declarations: &[Declaration]) -> u64
 }
 
 fn sessions(declarations: &[Declaration]) -> u64
-    ensures { result ≡ length (spec.sessions_of declarations.now) }
+    ensures { result ≡ length (sorted.sessions_of declarations.now) }
 {
     declarations
         .iter()
@@ -78,7 +79,7 @@ fn sessions(declarations: &[Declaration]) -> u64
 }
 
 fn shared(declarations: &[Declaration]) -> u64
-    ensures { result ≡ length (spec.shared_of declarations.now) }
+    ensures { result ≡ length (sorted.shared_of declarations.now) }
 {
     declarations
         .iter()
@@ -88,8 +89,8 @@ fn shared(declarations: &[Declaration]) -> u64
 
 /// The number of locals of a session, where it has too many.
 fn locals_over(declaration: &Declaration) -> Option<u64>
-    requires { IfSome (spec.as_session declaration.now) (λ s. length (local_names s.body) < 2 ^ 64) }
-    ensures { result ≡ find (nat_lt 64) (map (λ s. length (local_names s.body)) (option_to_list (spec.as_session declaration.now))) }
+    requires { IfSome (sorted.as_session declaration.now) (λ s. length (local_names s.body) < 2 ^ 64) }
+    ensures { result ≡ find (nat_lt 64) (map (λ s. length (local_names s.body)) (option_to_list (sorted.as_session declaration.now))) }
 {
     match declaration {
         Declaration::Session(session) => over(MAX_LOCALS, locals::in_block(&session.body)),
@@ -99,8 +100,8 @@ fn locals_over(declaration: &Declaration) -> Option<u64>
 
 /// The number of locals of the first session that has too many.
 fn too_many_locals(declarations: &[Declaration]) -> Option<u64>
-    requires { All (λ s. length (local_names s.body) < 2 ^ 64) (spec.sessions_of declarations.now) }
-    ensures { result ≡ find (nat_lt 64) (map (λ s. length (local_names s.body)) (spec.sessions_of declarations.now)) }
+    requires { All (λ s. length (local_names s.body) < 2 ^ 64) (sorted.sessions_of declarations.now) }
+    ensures { result ≡ find (nat_lt 64) (map (λ s. length (local_names s.body)) (sorted.sessions_of declarations.now)) }
 {
     for declaration in declarations {
         if let Some(count) = locals_over(declaration) {
@@ -112,8 +113,8 @@ fn too_many_locals(declarations: &[Declaration]) -> Option<u64>
 
 /// The weight of a template, where it is too heavy.
 fn weight_over(declaration: &Declaration) -> Option<u64>
-    requires { IfSome (spec.as_template declaration.now) (λ t. constant_weight t.items < 2 ^ 64) }
-    ensures { result ≡ find (nat_lt 262144) (map (λ t. constant_weight t.items) (option_to_list (spec.as_template declaration.now))) }
+    requires { IfSome (sorted.as_template declaration.now) (λ t. constant_weight t.items < 2 ^ 64) }
+    ensures { result ≡ find (nat_lt 262144) (map (λ t. constant_weight t.items) (option_to_list (sorted.as_template declaration.now))) }
 {
     match declaration {
         Declaration::Template(template) => over(MAX_TEMPLATE_WEIGHT, template.items.weight()),
@@ -123,8 +124,8 @@ fn weight_over(declaration: &Declaration) -> Option<u64>
 
 /// The weight of the first template that is too heavy.
 fn too_heavy(declarations: &[Declaration]) -> Option<u64>
-    requires { All (λ t. constant_weight t.items < 2 ^ 64) (spec.templates_of declarations.now) }
-    ensures { result ≡ find (nat_lt 262144) (map (λ t. constant_weight t.items) (spec.templates_of declarations.now)) }
+    requires { All (λ t. constant_weight t.items < 2 ^ 64) (sorted.templates_of declarations.now) }
+    ensures { result ≡ find (nat_lt 262144) (map (λ t. constant_weight t.items) (sorted.templates_of declarations.now)) }
 {
     for declaration in declarations {
         if let Some(weight) = weight_over(declaration) {
@@ -150,8 +151,8 @@ fn too_many_declared(gaps: &GapNames, declarations: &[Declaration]) -> Option<(L
 
 /// The first of the limits on locals, lengths and weights that is passed.
 fn too_large(name: &Name, gaps: &GapNames, declarations: &[Declaration]) -> Option<(Limit, u64)>
-    requires locals { All (λ s. length (local_names s.body) < 2 ^ 64) (spec.sessions_of declarations.now) }
-    requires weights { All (λ t. constant_weight t.items < 2 ^ 64) (spec.templates_of declarations.now) }
+    requires locals { All (λ s. length (local_names s.body) < 2 ^ 64) (sorted.sessions_of declarations.now) }
+    requires weights { All (λ t. constant_weight t.items < 2 ^ 64) (sorted.templates_of declarations.now) }
     ensures { result ≡ size_limit name.now gaps.now declarations.now }
 {
     let names = Search {
@@ -183,8 +184,8 @@ pub fn too_many(
     gaps: &GapNames,
     declarations: &[Declaration],
 ) -> Result<Option<(Limit, u64)>, Memory>
-    requires locals { All (λ s. length (local_names s.body) < 2 ^ 64) (spec.sessions_of declarations.now) }
-    requires weights { All (λ t. constant_weight t.items < 2 ^ 64) (spec.templates_of declarations.now) }
+    requires locals { All (λ s. length (local_names s.body) < 2 ^ 64) (sorted.sessions_of declarations.now) }
+    requires weights { All (λ t. constant_weight t.items < 2 ^ 64) (sorted.templates_of declarations.now) }
     ensures { IfOk result (λ r. r ≡ spec.too_many name.now gaps.now declarations.now) }
 {
     let declared = too_many_declared(gaps, declarations);

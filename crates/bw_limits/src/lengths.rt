@@ -43,13 +43,13 @@ impl Search {
     }
 
     /// The first length over the greatest one in an expression.
-    #[tactic(auto, using(crate::proofs::Firsts::first_steps, crate::proofs::Sizes::size_steps))]
+    #[tactic(auto, using(crate::proofs::Firsts::first_steps, bw_lang::proofs::Sizes::size_steps))]
     #[cycle(expression)]
     fn expression(self, expr: &Expr) -> Option<u64>
         ensures { result ≡ find (nat_lt self.most) (spec.term_lengths self.leaf (term expr.now)) }
     {
         match expr {
-            Expr::Int(_) | Expr::Bool(_) => None,
+            Expr::Int(_) | Expr::Bool(_) | Expr::Nothing => None,
             Expr::Str(text) => self.text(text),
             Expr::Name(name) => self.name(name),
             Expr::Paren(part) | Expr::Not(part) | Expr::Neg(part) => self.expression(part.expr()),
@@ -65,7 +65,7 @@ impl Search {
         }
     }
 
-    #[tactic(auto, using(crate::proofs::Firsts::first_steps, crate::proofs::Sizes::size_steps))]
+    #[tactic(auto, using(crate::proofs::Firsts::first_steps, bw_lang::proofs::Sizes::size_steps))]
     #[cycle(expression)]
     fn pairs(self, pairs: &Pairs) -> Option<u64>
         ensures { result ≡ find (nat_lt self.most) (spec.pair_lengths self.leaf pairs.now) }
@@ -78,7 +78,7 @@ impl Search {
         None
     }
 
-    #[tactic(auto, using(crate::proofs::Firsts::first_steps, crate::proofs::Sizes::size_steps))]
+    #[tactic(auto, using(crate::proofs::Firsts::first_steps, bw_lang::proofs::Sizes::size_steps))]
     #[cycle(expression)]
     fn pair(self, pair: &Pair) -> Option<u64>
         ensures { result ≡ find (nat_lt self.most) (spec.name_length self.leaf pair.now.gap ++ spec.term_lengths self.leaf (term pair.now.value)) }
@@ -89,7 +89,7 @@ impl Search {
         }
     }
 
-    #[tactic(auto, using(crate::proofs::Firsts::first_steps, crate::proofs::Sizes::size_steps))]
+    #[tactic(auto, using(crate::proofs::Firsts::first_steps, bw_lang::proofs::Sizes::size_steps))]
     fn receives(self, receives: &Receives) -> Option<u64>
         ensures { result ≡ find (nat_lt self.most) (spec.receive_lengths self.leaf receives.now) }
     {
@@ -101,7 +101,7 @@ impl Search {
         None
     }
 
-    #[tactic(auto, using(crate::proofs::Firsts::first_steps, crate::proofs::Sizes::size_steps))]
+    #[tactic(auto, using(crate::proofs::Firsts::first_steps, bw_lang::proofs::Sizes::size_steps))]
     fn receive(self, receive: &Receive) -> Option<u64>
         ensures { result ≡ find (nat_lt self.most) (spec.name_length self.leaf receive.now.target ++ spec.name_length self.leaf receive.now.field) }
     {
@@ -112,7 +112,7 @@ impl Search {
     }
 
     /// The first length over the greatest one in the statements of a block.
-    #[tactic(auto, using(crate::proofs::Firsts::first_steps, crate::proofs::Sizes::size_steps))]
+    #[tactic(auto, using(crate::proofs::Firsts::first_steps, bw_lang::proofs::Sizes::size_steps))]
     #[cycle(block)]
     fn block(self, block: &Block) -> Option<u64>
         ensures { result ≡ find (nat_lt self.most) (spec.code_lengths self.leaf block.now) }
@@ -125,29 +125,24 @@ impl Search {
         None
     }
 
-    #[tactic(auto, using(crate::proofs::Firsts::first_steps, crate::proofs::Sizes::size_steps))]
+    #[tactic(auto, using(crate::proofs::Firsts::first_steps, bw_lang::proofs::Sizes::size_steps))]
     #[cycle(block)]
     fn statement(self, stmt: &Stmt) -> Option<u64>
         ensures { result ≡ find (nat_lt self.most) (spec.code_lengths self.leaf (code.before stmt.now done)) }
     {
         match stmt {
             Stmt::Declare { name, value, .. } | Stmt::Assign { name, value } => {
-                match self.name(name) {
-                    None => self.expression(value),
-                    found => found,
-                }
+                self.valued(name, value)
             }
             Stmt::If {
                 test,
                 yes: body,
                 no: None,
             }
-            | Stmt::While { test, body } => {
-                match self.expression(test) {
-                    None => self.block(body),
-                    found => found,
-                }
-            }
+            | Stmt::While { test, body } => match self.expression(test) {
+                None => self.block(body),
+                found => found,
+            },
             Stmt::If {
                 test,
                 yes,
@@ -159,12 +154,27 @@ impl Search {
                 },
                 found => found,
             },
+            Stmt::Each { name, value, body } => match self.valued(name, value) {
+                None => self.block(body),
+                found => found,
+            },
             Stmt::Block(body) => self.block(body),
             Stmt::Show { page, receives } => match self.expression(page) {
                 None => self.receives(receives),
                 found => found,
             },
             Stmt::Exit { page } => self.expression(page),
+        }
+    }
+
+    /// The first length over the greatest one in a name and then in what it stands for.
+    #[tactic(auto, using(crate::proofs::Firsts::first_steps, bw_lang::proofs::Sizes::size_steps))]
+    fn valued(self, name: &Name, value: &Expr) -> Option<u64>
+        ensures { result ≡ find (nat_lt self.most) (spec.name_length self.leaf name.now ++ spec.term_lengths self.leaf (term value.now)) }
+    {
+        match self.name(name) {
+            None => self.expression(value),
+            found => found,
         }
     }
 
@@ -179,7 +189,7 @@ impl Search {
     }
 
     /// The first length over the greatest one of the names of gaps and controls.
-    #[tactic(auto, using(crate::proofs::Firsts::first_steps, crate::proofs::Sizes::size_steps))]
+    #[tactic(auto, using(crate::proofs::Firsts::first_steps, bw_lang::proofs::Sizes::size_steps))]
     #[cycle(items)]
     fn items(self, gaps: &GapNames, items: &Items) -> Option<u64>
         ensures { result ≡ find (nat_lt self.most) (spec.item_lengths gaps.now items.now) }
@@ -192,7 +202,7 @@ impl Search {
         None
     }
 
-    #[tactic(auto, using(crate::proofs::Firsts::first_steps, crate::proofs::Sizes::size_steps))]
+    #[tactic(auto, using(crate::proofs::Firsts::first_steps, bw_lang::proofs::Sizes::size_steps))]
     #[cycle(items)]
     fn item(self, gaps: &GapNames, item: &Item) -> Option<u64>
         ensures { result ≡ find (nat_lt self.most) (spec.item_lengths gaps.now (view.before item.now none)) }
@@ -207,7 +217,7 @@ impl Search {
         }
     }
 
-    #[tactic(auto, using(crate::proofs::Firsts::first_steps, crate::proofs::Sizes::size_steps))]
+    #[tactic(auto, using(crate::proofs::Firsts::first_steps, bw_lang::proofs::Sizes::size_steps))]
     fn attributes(self, gaps: &GapNames, element: &Element) -> Option<u64>
         ensures { result ≡ find (nat_lt self.most) (spec.attr_lengths gaps.now element.now.tag element.now.attrs) }
     {
@@ -235,7 +245,7 @@ impl Search {
     }
 
     /// The first length over the greatest one in a declaration.
-    #[tactic(auto, using(crate::proofs::Firsts::first_steps, crate::proofs::Sizes::size_steps))]
+    #[tactic(auto, using(crate::proofs::Firsts::first_steps, bw_lang::proofs::Sizes::size_steps))]
     fn declaration(self, gaps: &GapNames, declaration: &Declaration) -> Option<u64>
         ensures { result ≡ find (nat_lt self.most) (spec.declaration_lengths self.leaf gaps.now declaration.now) }
     {
@@ -264,7 +274,7 @@ impl Search {
         }
     }
 
-    #[tactic(auto, using(crate::proofs::Firsts::first_steps, crate::proofs::Sizes::size_steps))]
+    #[tactic(auto, using(crate::proofs::Firsts::first_steps, bw_lang::proofs::Sizes::size_steps))]
     fn declarations(self, gaps: &GapNames, declarations: &[Declaration]) -> Option<u64>
         ensures { result ≡ find (nat_lt self.most) (flat_map (spec.declaration_lengths self.leaf gaps.now) declarations.now) }
     {
@@ -277,7 +287,7 @@ impl Search {
     }
 
     /// The first length over the greatest one in a service of this name with these declarations.
-    #[tactic(auto, using(crate::proofs::Firsts::first_steps, crate::proofs::Sizes::size_steps))]
+    #[tactic(auto, using(crate::proofs::Firsts::first_steps, bw_lang::proofs::Sizes::size_steps))]
     pub(crate) fn service(
         self,
         name: &Name,

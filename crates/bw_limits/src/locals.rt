@@ -7,7 +7,7 @@ ghost use Rattle.bw_lang.specs.CodeNames.{local_names};
 use bw_lang::{Block, Stmt};
 
 /// How many locals the statements of a block declare at all levels.
-#[tactic(auto, using(crate::proofs::LocalSteps::local_steps, crate::proofs::Sizes::size_steps))]
+#[tactic(auto, using(crate::proofs::LocalSteps::local_steps, bw_lang::proofs::Sizes::size_steps))]
 #[cycle(locals)]
 pub(crate) fn in_block(block: &Block) -> u64
     requires { length (local_names block.now) < 2 ^ 64 }
@@ -20,7 +20,7 @@ pub(crate) fn in_block(block: &Block) -> u64
     total
 }
 
-#[tactic(auto, using(crate::proofs::LocalSteps::local_steps, crate::proofs::Sizes::size_steps))]
+#[tactic(auto, using(crate::proofs::LocalSteps::local_steps, bw_lang::proofs::Sizes::size_steps))]
 #[cycle(locals)]
 fn in_statement(stmt: &Stmt) -> u64
     requires { length (local_names (before stmt.now done)) < 2 ^ 64 }
@@ -28,6 +28,7 @@ fn in_statement(stmt: &Stmt) -> u64
 {
     match stmt {
         Stmt::Declare { .. } => 1,
+        Stmt::Each { body, .. } => 1 + in_block(body),
         Stmt::If {
             yes,
             no: Some(no),

@@ -1,11 +1,9 @@
 //! Printing of documents.
-ghost use Rattle.std.specs.Prelude.{◌≡◌};
 ghost use Rattle.bw_lang.specs.Forest.{none};
 ghost use Rattle.bw_lang.specs.View.{before};
 ghost use Rattle.bw_lang.specs.Markup.{escaped_byte, escaped};
 ghost use Rattle.bw_lang.specs.Print as spec;
-ghost use Rattle.bw_out.specs.Causes.{HasCause};
-ghost use Rattle.bw_out.specs.Writes.{Writes};
+ghost use Rattle.bw_out.specs.Sends.{Sends};
 
 use bw_lang::{Attr, AttrValue, Attrs, Item, Items, Name, Tree, is_void};
 use bw_out::{Sink, WriteFault, write_all, write_parts};
@@ -15,11 +13,7 @@ use bw_out::{Sink, WriteFault, write_all, write_parts};
 /// attributes whose value is one, are left out. It takes no memory. After a fault, which comes only where the
 /// sink's count rose, a first part of the bytes is written.
 pub fn print<W: Sink>(tree: &Tree, sink: &mut W) -> Result<(), WriteFault>
-    ensures writes { Writes (W.held sink.old) (W.held sink.new) (spec.print tree.now.items) result }
-    ensures cause { HasCause (W.write_faults sink.old) (W.write_faults sink.new) result }
-    ensures left { W.left sink.new ≡ W.left sink.old }
-    ensures read_faults { W.read_faults sink.new ≡ W.read_faults sink.old }
-    ensures same { W.same sink.old sink.new }
+    ensures { Sends W.Channel sink.old sink.new (spec.print tree.now.items) result }
 {
     print_items(&tree.items, sink)
 }
@@ -27,11 +21,7 @@ pub fn print<W: Sink>(tree: &Tree, sink: &mut W) -> Result<(), WriteFault>
 #[tactic(auto, using(crate::proofs::Printed::print_steps))]
 #[cycle(print)]
 fn print_items<W: Sink>(items: &Items, sink: &mut W) -> Result<(), WriteFault>
-    ensures writes { Writes (W.held sink.old) (W.held sink.new) (spec.print items.now) result }
-    ensures cause { HasCause (W.write_faults sink.old) (W.write_faults sink.new) result }
-    ensures left { W.left sink.new ≡ W.left sink.old }
-    ensures read_faults { W.read_faults sink.new ≡ W.read_faults sink.old }
-    ensures same { W.same sink.old sink.new }
+    ensures { Sends W.Channel sink.old sink.new (spec.print items.now) result }
 {
     for item in items.as_slice() {
         print_item(item, sink)?;
@@ -42,11 +32,7 @@ fn print_items<W: Sink>(items: &Items, sink: &mut W) -> Result<(), WriteFault>
 #[tactic(auto, using(crate::proofs::Printed::print_steps))]
 #[cycle(print)]
 fn print_item<W: Sink>(item: &Item, sink: &mut W) -> Result<(), WriteFault>
-    ensures writes { Writes (W.held sink.old) (W.held sink.new) (spec.print (before item.now none)) result }
-    ensures cause { HasCause (W.write_faults sink.old) (W.write_faults sink.new) result }
-    ensures left { W.left sink.new ≡ W.left sink.old }
-    ensures read_faults { W.read_faults sink.new ≡ W.read_faults sink.old }
-    ensures same { W.same sink.old sink.new }
+    ensures { Sends W.Channel sink.old sink.new (spec.print (before item.now none)) result }
 {
     match item {
         Item::Text(text) => print_text(text.as_str(), sink),
@@ -64,22 +50,14 @@ fn print_item<W: Sink>(item: &Item, sink: &mut W) -> Result<(), WriteFault>
 }
 
 fn print_start<W: Sink>(tag: &Name, attrs: &Attrs, sink: &mut W) -> Result<(), WriteFault>
-    ensures writes { Writes (W.held sink.old) (W.held sink.new) (spec.printed_start tag.now attrs.now) result }
-    ensures cause { HasCause (W.write_faults sink.old) (W.write_faults sink.new) result }
-    ensures left { W.left sink.new ≡ W.left sink.old }
-    ensures read_faults { W.read_faults sink.new ≡ W.read_faults sink.old }
-    ensures same { W.same sink.old sink.new }
+    ensures { Sends W.Channel sink.old sink.new (spec.printed_start tag.now attrs.now) result }
 {
     write_parts(sink, &[b"<", tag.as_bytes()])?;
     print_attrs(attrs, sink)
 }
 
 fn print_attrs<W: Sink>(attrs: &Attrs, sink: &mut W) -> Result<(), WriteFault>
-    ensures writes { Writes (W.held sink.old) (W.held sink.new) (spec.printed_attrs attrs.now) result }
-    ensures cause { HasCause (W.write_faults sink.old) (W.write_faults sink.new) result }
-    ensures left { W.left sink.new ≡ W.left sink.old }
-    ensures read_faults { W.read_faults sink.new ≡ W.read_faults sink.old }
-    ensures same { W.same sink.old sink.new }
+    ensures { Sends W.Channel sink.old sink.new (spec.printed_attrs attrs.now) result }
 {
     for attr in attrs.as_slice() {
         print_attr(attr, sink)?;
@@ -88,11 +66,7 @@ fn print_attrs<W: Sink>(attrs: &Attrs, sink: &mut W) -> Result<(), WriteFault>
 }
 
 fn print_attr<W: Sink>(attr: &Attr, sink: &mut W) -> Result<(), WriteFault>
-    ensures writes { Writes (W.held sink.old) (W.held sink.new) (spec.printed_attr attr.now.name attr.now.value) result }
-    ensures cause { HasCause (W.write_faults sink.old) (W.write_faults sink.new) result }
-    ensures left { W.left sink.new ≡ W.left sink.old }
-    ensures read_faults { W.read_faults sink.new ≡ W.read_faults sink.old }
-    ensures same { W.same sink.old sink.new }
+    ensures { Sends W.Channel sink.old sink.new (spec.printed_attr attr.now.name attr.now.value) result }
 {
     match &attr.value {
         AttrValue::Hole(_) => Ok(()),
@@ -105,21 +79,13 @@ fn print_attr<W: Sink>(attr: &Attr, sink: &mut W) -> Result<(), WriteFault>
 }
 
 fn print_end<W: Sink>(tag: &Name, sink: &mut W) -> Result<(), WriteFault>
-    ensures writes { Writes (W.held sink.old) (W.held sink.new) (spec.printed_end tag.now) result }
-    ensures cause { HasCause (W.write_faults sink.old) (W.write_faults sink.new) result }
-    ensures left { W.left sink.new ≡ W.left sink.old }
-    ensures read_faults { W.read_faults sink.new ≡ W.read_faults sink.old }
-    ensures same { W.same sink.old sink.new }
+    ensures { Sends W.Channel sink.old sink.new (spec.printed_end tag.now) result }
 {
     write_parts(sink, &[b"</", tag.as_bytes(), b">"])
 }
 
 fn print_byte<W: Sink>(byte: u8, sink: &mut W) -> Result<(), WriteFault>
-    ensures writes { Writes (W.held sink.old) (W.held sink.new) (escaped_byte byte) result }
-    ensures cause { HasCause (W.write_faults sink.old) (W.write_faults sink.new) result }
-    ensures left { W.left sink.new ≡ W.left sink.old }
-    ensures read_faults { W.read_faults sink.new ≡ W.read_faults sink.old }
-    ensures same { W.same sink.old sink.new }
+    ensures { Sends W.Channel sink.old sink.new (escaped_byte byte) result }
 {
     match byte {
         b'&' => write_all(sink, b"&amp;"),
@@ -131,11 +97,7 @@ fn print_byte<W: Sink>(byte: u8, sink: &mut W) -> Result<(), WriteFault>
 }
 
 fn print_text<W: Sink>(text: &str, sink: &mut W) -> Result<(), WriteFault>
-    ensures writes { Writes (W.held sink.old) (W.held sink.new) (escaped text.now) result }
-    ensures cause { HasCause (W.write_faults sink.old) (W.write_faults sink.new) result }
-    ensures left { W.left sink.new ≡ W.left sink.old }
-    ensures read_faults { W.read_faults sink.new ≡ W.read_faults sink.old }
-    ensures same { W.same sink.old sink.new }
+    ensures { Sends W.Channel sink.old sink.new (escaped text.now) result }
 {
     for byte in text.as_bytes() {
         print_byte(*byte, sink)?;

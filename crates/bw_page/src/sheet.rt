@@ -1,16 +1,16 @@
-//! Pages ready to be sent.
-ghost use Rattle.std.specs.Prelude.{◌≡◌, IfOk, length};
-ghost use Rattle.std.specs.Prelude.{[], Some};
+//! Bodies ready to be sent.
+ghost use Rattle.std.specs.Prelude.{◌≡◌, [], Some, IfOk, length};
 ghost use Rattle.bw_lang.specs.Print.{print};
+ghost use Rattle.bw_out.specs.Sends.{Sends};
 
 use crate::printing::print;
-use bw_lang::{Memory, Tree};
-use bw_out::{Channel, Failed, Sink, WriteFault};
+use bw_lang::{Memory, Text, Tree};
+use bw_out::{Channel, Failed, Sink, WriteFault, write_all};
 use std::alloc::{AllocError, Global};
 use std::marker::Model;
 
-/// A page ready to be sent, which contracts see as its bytes. All the memory that sending it takes was taken as it
-/// was made.
+/// The body of a reply, a page or plain text, ready to be sent. Contracts see its bytes. All the memory that sending
+/// it takes was taken as it was made.
 #[derive(Debug, Drop)]
 pub struct Sheet {
     bytes: Vec<u8>,
@@ -42,11 +42,28 @@ impl Sheet {
         }
     }
 
+    /// This text as it stands.
+    pub fn plain(alloc: Global, text: &Text) -> Result<Sheet, Memory>
+        ensures { IfOk result (λ sheet. sheet ≡ text.now) }
+    {
+        let mut bytes = Vec::new(alloc);
+        bytes.extend_from_slice(text.as_bytes())?;
+        Ok(Sheet { bytes })
+    }
+
     /// The number of its bytes.
-    pub fn length(&self) -> usize
+    pub fn length(&self) -> u64
         ensures { result ≡ length self.now }
     {
-        self.bytes.len()
+        self.bytes.len() as u64
+    }
+
+    /// Writes its bytes. It takes no memory. After a fault, which comes only where the sink's count rose, a first part
+    /// of them is written.
+    pub fn write<W: Sink>(self, sink: &mut W) -> Result<(), WriteFault>
+        ensures { Sends W.Channel sink.old sink.new self result }
+    {
+        write_all(sink, self.bytes.as_slice())
     }
 
     pub fn as_bytes(&self) -> &[u8]

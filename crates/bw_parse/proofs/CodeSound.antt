@@ -1,6 +1,6 @@
 -- Statements that are parsed are spelled so.
 use Rattle.std.proofs.Common.{◌≡◌, ℕ, zero, suc, List, ◌∷◌, Some, refl, sym, ap, ◌∙◌, subst, inl, inr, codes}
-use Rattle.bw_lang.specs.Code.{Code, done, declare, assign, if_then, if_else, while_loop, block, show, exit, append}
+use Rattle.bw_lang.specs.Code.{Code, done, declare, assign, if_then, if_else, while_loop, block, for_each, show, exit, append}
 use Rattle.bw_lang.specs.declared.stmt.Kind.{Kind}
 use Rattle.bw_lang.specs.declared.token.Lexeme.{Lexeme}
 use Rattle.bw_lang.specs.declared.token.Lexeme.TheVariants as lex
@@ -10,7 +10,7 @@ use Rattle.bw_lang.specs.Term.{Term}
 use Rattle.bw_lang.specs.Words.{IsName, kind_word}
 use Rattle.bw_parse.specs.Expressions.{parse, parse_inside, steps}
 use Rattle.bw_parse.specs.Fronts.{◌>>=◌, behind, keyword, named, kind}
-use Rattle.bw_parse.specs.Statements.{condition, valued, parse_receives, parse_show, parse_exit, parse_declare, parse_assign, simple, code_of, one, braces}
+use Rattle.bw_parse.specs.Statements.{condition, each_head, valued, parse_receives, parse_show, parse_exit, parse_declare, parse_assign, simple, code_of, one, braces}
 use Rattle.bw_parse.proofs.FrontLaws.{bind_some, where_cases, some, some_is, behind_is, keyword_is, named_is, kind_is}
 use Rattle.bw_parse.proofs.Receives.{sound_receives}
 use Rattle.bw_parse.proofs.Sound.{sound_inside}
@@ -39,6 +39,7 @@ append_spelled (assign w e r) d k = ap (λ l. spell_code (assign w e done) l) (a
 append_spelled (if_then t y r) d k = ap (λ l. spell_code (if_then t y done) l) (append_spelled r d k)
 append_spelled (if_else t y n r) d k = ap (λ l. spell_code (if_else t y n done) l) (append_spelled r d k)
 append_spelled (while_loop t b r) d k = ap (λ l. spell_code (while_loop t b done) l) (append_spelled r d k)
+append_spelled (for_each w e b r) d k = ap (λ l. spell_code (for_each w e b done) l) (append_spelled r d k)
 append_spelled (block b r) d k = ap (λ l. spell_code (block b done) l) (append_spelled r d k)
 append_spelled (show p rs r) d k = ap (λ l. spell_code (show p rs done) l) (append_spelled r d k)
 append_spelled (exit p r) d k = ap (λ l. spell_code (exit p done) l) (append_spelled r d k)
@@ -50,6 +51,7 @@ append_good (assign w e r) d g h = (g.0, g.1, append_good r d g.2 h)
 append_good (if_then t y r) d g h = (g.0, g.1, append_good r d g.2 h)
 append_good (if_else t y n r) d g h = (g.0, g.1, g.2, append_good r d g.3 h)
 append_good (while_loop t b r) d g h = (g.0, g.1, append_good r d g.2 h)
+append_good (for_each w e b r) d g h = (g.0, g.1, g.2, append_good r d g.3 h)
 append_good (block b r) d g h = (g.0, append_good r d g.1 h)
 append_good (show p rs r) d g h = (g.0, g.1, append_good r d g.2 h)
 append_good (exit p r) d g h = (g.0, append_good r d g.1 h)
@@ -63,6 +65,27 @@ condition_is ts x e =
     let k = bind_some (behind (codes "(") ts) (λ k. parse_inside k) x e in
     let r = sound_inside (steps k.0) k.0 x k.2 in
     (behind_is (codes "(") ts k.0 k.1 ∙ ap (λ l. lex.Sign (codes "(") ∷ l) r.0, r.1)
+
+-- the lexemes are those of ( NAME in e ) and then the rest
+abbrev pub ReadsHead : List Lexeme → List ℕ × Term → List Lexeme → Type 0
+ReadsHead ts h k =
+    (ts ≡ lex.Sign (codes "(") ∷ lex.Word h.0 ∷ lex.Word (codes "in") ∷ spell h.1 (lex.Sign (codes ")") ∷ k)) × IsName h.0 × Levelled h.1
+
+pub each_is : (ts : List Lexeme) (x : (List ℕ × Term) × List Lexeme) → each_head ts ≡ Some x → ReadsHead ts x.0 x.1
+unfolding each_head parse_inside
+each_is ts x e =
+    let j = bind_some (behind (codes "(") ts) _ x e in
+    let w = bind_some (named j.0) _ x j.2 in
+    let wi = named_is j.0 w.0 w.1 in
+    let k = bind_some (keyword (codes "in") w.0.1) _ x w.2 in
+    let v = bind_some (parse_inside k.0) (λ v. Some ((w.0.0, v.0), v.1)) x k.2 in
+    let vi = sound_inside (steps k.0) k.0 v.0 v.1 in
+    subst (λ (y : (List ℕ × Term) × List Lexeme). ReadsHead ts y.0 y.1) (some_is ((w.0.0, v.0.0), v.0.1) x v.2) (
+      behind_is (codes "(") ts j.0 j.1 ∙ ap (λ l. lex.Sign (codes "(") ∷ l) (wi.0 ∙ ap (λ l. lex.Word w.0.0 ∷ l)
+          (keyword_is (codes "in") w.0.1 k.0 k.1 ∙ ap (λ l. lex.Word (codes "in") ∷ l) vi.0)),
+      wi.1,
+      vi.1,
+    )
 
 -- ---- statements without statements in them
 
@@ -190,12 +213,24 @@ mutual
               let bi = sound_braces f t.0.1 b.0 b.1 in
               got (while_loop t.0.0 b.0.0 done) b.0.1 x
               (record { spelled = k ∙ ap (λ l. lex.Word (codes "while") ∷ l) (ti.0 ∙ ap (spell_test t.0.0) bi.0); good = (ti.1, bi.1, tt); some = tt }) b.2
-          | inr g ↦ elim (where_cases (behind (codes "{") ts) (λ k. code_of f k >>= λ b. Some (block b.0 done, b.1)) (simple ts) (Some x) g.1) [
-            | inl j ↦
-                let b = bind_some (code_of f j.0) (λ b. Some (block b.0 done, b.1)) x j.2 in
-                let bi = sound_code f j.0 b.0 b.1 in
-                got (block b.0.0 done) b.0.1 x (record { spelled = behind_is (codes "{") ts j.0 j.1 ∙ ap (λ l. lex.Sign (codes "{") ∷ l) bi.spelled; good = (bi.good, tt); some = tt }) b.2
-            | inr j ↦ sound_simple ts x j.1
+          | inr g ↦ elim (where_cases (keyword (codes "foreach") ts) _ _ (Some x) g.1) [
+            | inl i ↦
+                let k = keyword_is (codes "foreach") ts i.0 i.1 in
+                let t = bind_some (each_head i.0) _ x i.2 in
+                let ti = each_is i.0 t.0 t.1 in
+                let b = bind_some (braces f t.0.1) (λ b. Some (for_each t.0.0.0 t.0.0.1 b.0 done, b.1)) x t.2 in
+                let bi = sound_braces f t.0.1 b.0 b.1 in
+                let head = λ (l : List Lexeme). lex.Sign (codes "(") ∷ lex.Word t.0.0.0 ∷ lex.Word (codes "in") ∷ spell t.0.0.1 (lex.Sign (codes ")") ∷ l) in
+                got (for_each t.0.0.0 t.0.0.1 b.0.0 done) b.0.1 x
+                (record { spelled = k ∙ ap (λ l. lex.Word (codes "foreach") ∷ l) (ti.0 ∙ ap head bi.0); good = (ti.1, ti.2, bi.1, tt); some = tt }) b.2
+            | inr i ↦ elim (where_cases (behind (codes "{") ts) (λ k. code_of f k >>= λ b. Some (block b.0 done, b.1)) (simple ts) (Some x) i.1) [
+              | inl j ↦
+                  let b = bind_some (code_of f j.0) (λ b. Some (block b.0 done, b.1)) x j.2 in
+                  let bi = sound_code f j.0 b.0 b.1 in
+                  got (block b.0.0 done) b.0.1 x
+                  (record { spelled = behind_is (codes "{") ts j.0 j.1 ∙ ap (λ l. lex.Sign (codes "{") ∷ l) bi.spelled; good = (bi.good, tt); some = tt }) b.2
+              | inr j ↦ sound_simple ts x j.1
+            ]
           ]
         ]
       ]

@@ -1,6 +1,6 @@
 -- More steps than can be needed change nothing, so the parser of statements meets its own equations.
 use Rattle.std.proofs.Common.{◌≡◌, ℕ, zero, suc, ◌+◌, ◌*◌, ◌<◌, ◌≤◌, List, [], ◌∷◌, ◌++◌, length, Some, None, refl, sym, ap, ◌∙◌, arith, codes}
-use Rattle.bw_lang.specs.Code.{Code, done, declare, assign, if_then, if_else, while_loop, block, show, exit, append}
+use Rattle.bw_lang.specs.Code.{Code, done, declare, assign, if_then, if_else, while_loop, block, for_each, show, exit, append}
 use Rattle.bw_lang.specs.CodeView.{code, before}
 use Rattle.bw_lang.specs.declared.stmt.Receive.{Receive}
 use Rattle.bw_lang.specs.declared.stmt.Stmt.{Stmt}
@@ -9,9 +9,9 @@ use Rattle.bw_lang.specs.declared.token.Lexeme.TheVariants as lex
 use Rattle.bw_lang.specs.Spelling.{spell_code, spell_receives, spell_each}
 use Rattle.bw_lang.specs.Term.{Term}
 use Rattle.bw_parse.specs.Fronts.{Read, ◌>>=◌, where_some, behind, keyword}
-use Rattle.bw_parse.specs.Statements.{condition, simple, code_of, one, braces, parse_code, parse_one, parse_braces, with_code, parse_if, parse_while}
+use Rattle.bw_parse.specs.Statements.{condition, each_head, simple, code_of, one, braces, parse_code, parse_one, parse_braces, with_code, parse_if, parse_while, parse_each}
 use Rattle.bw_lang.proofs.Codes.{append_code_assoc, append_done, code-append}
-use Rattle.bw_parse.proofs.CodeSound.{condition_is, IsStatement, sound_one, sound_braces}
+use Rattle.bw_parse.proofs.CodeSound.{condition_is, each_is, IsStatement, sound_one, sound_braces}
 use Rattle.bw_parse.proofs.FrontLaws.{keyword_is}
 use Rattle.bw_parse.proofs.Steps.{longer, bind_same, where_same, same_from, behind_shorter}
 
@@ -20,6 +20,9 @@ keyword_shorter v ts k e = omega (arith, ap length (keyword_is v ts k e))
 
 condition_shorter : (ts : List Lexeme) (x : Term × List Lexeme) → condition ts ≡ Some x → length x.1 < length ts
 condition_shorter ts x e = omega (arith, ap length (condition_is ts x e).0, longer x.0 (lex.Sign (codes ")") ∷ x.1))
+
+head_shorter : (ts : List Lexeme) (x : (List ℕ × Term) × List Lexeme) → each_head ts ≡ Some x → length x.1 < length ts
+head_shorter ts x e = omega (arith, ap length (each_is ts x e).0, longer x.0.1 (lex.Sign (codes ")") ∷ x.1))
 
 list_longer : (s : List ℕ) (rs : List Receive) (k : List Lexeme) → length k ≤ length (spell_each s rs k)
 list_longer s [] k = omega arith
@@ -40,6 +43,8 @@ code_longer (if_else t y n r) k =
     let a = lex.Sign (codes "}") ∷ lex.Word (codes "else") ∷ lex.Sign (codes "{") ∷ spell_code n b in
     omega (arith, longer t (lex.Sign (codes ")") ∷ lex.Sign (codes "{") ∷ spell_code y a), code_longer y a, code_longer n b, code_longer r k)
 code_longer (while_loop t y r) k = omega (arith, longer t (lex.Sign (codes ")") ∷ lex.Sign (codes "{") ∷ spell_code y (lex.Sign (codes "}") ∷ spell_code r k)), code_longer y (lex.Sign (codes "}") ∷ spell_code r k), code_longer r k)
+code_longer (for_each w e y r) k =
+    omega (arith, longer e (lex.Sign (codes ")") ∷ lex.Sign (codes "{") ∷ spell_code y (lex.Sign (codes "}") ∷ spell_code r k)), code_longer y (lex.Sign (codes "}") ∷ spell_code r k), code_longer r k)
 code_longer (block y r) k = omega (arith, code_longer y (lex.Sign (codes "}") ∷ spell_code r k), code_longer r k)
 code_longer (show p rs r) k = omega (arith, longer p (spell_receives rs (lex.Sign (codes ";") ∷ spell_code r k)), receives_longer rs (lex.Sign (codes ";") ∷ spell_code r k), code_longer r k)
 
@@ -54,6 +59,8 @@ statement_longer (if_else t y n r) k s =
     let a = lex.Sign (codes "}") ∷ lex.Word (codes "else") ∷ lex.Sign (codes "{") ∷ spell_code n b in
     omega (arith, longer t (lex.Sign (codes ")") ∷ lex.Sign (codes "{") ∷ spell_code y a), code_longer y a, code_longer n b, code_longer r k)
 statement_longer (while_loop t y r) k s = omega (arith, longer t (lex.Sign (codes ")") ∷ lex.Sign (codes "{") ∷ spell_code y (lex.Sign (codes "}") ∷ spell_code r k)), code_longer y (lex.Sign (codes "}") ∷ spell_code r k), code_longer r k)
+statement_longer (for_each w e y r) k s =
+    omega (arith, longer e (lex.Sign (codes ")") ∷ lex.Sign (codes "{") ∷ spell_code y (lex.Sign (codes "}") ∷ spell_code r k)), code_longer y (lex.Sign (codes "}") ∷ spell_code r k), code_longer r k)
 statement_longer (block y r) k s = omega (arith, code_longer y (lex.Sign (codes "}") ∷ spell_code r k), code_longer r k)
 statement_longer (show p rs r) k s = omega (arith, longer p (spell_receives rs (lex.Sign (codes ";") ∷ spell_code r k)), receives_longer rs (lex.Sign (codes ";") ∷ spell_code r k), code_longer r k)
 
@@ -94,9 +101,13 @@ mutual
       (λ k p. let s = keyword_shorter (codes "while") ts k p in
       bind_same (condition k) _ _ _ refl
       (λ t q. let u = condition_shorter k t q in ap (λ o. o >>= λ b. Some (while_loop t.0 b.0 done, b.1)) (stable_braces f t.1 (omega arith))))
+      (λ p. where_same (keyword (codes "foreach") ts) _ _ _ _
+      (λ k p. let s = keyword_shorter (codes "foreach") ts k p in
+      bind_same (each_head k) _ _ _ refl
+      (λ h q. let u = head_shorter k h q in ap (λ o. o >>= λ b. Some (for_each h.0.0 h.0.1 b.0 done, b.1)) (stable_braces f h.1 (omega arith))))
       (λ p. where_same (behind (codes "{") ts) _ _ _ _
       (λ k p. let s = behind_shorter (codes "{") ts k p in ap (λ o. o >>= λ b. Some (block b.0 done, b.1)) (stable_code f k (omega arith)))
-      (λ p. refl)))
+      (λ p. refl))))
 
 pub code_is : (f : ℕ) (ts : List Lexeme) → 4 * length ts + 2 ≤ f → code_of f ts ≡ parse_code ts
 unfolding parse_code
@@ -132,8 +143,9 @@ parse_braces_is ts =
 
 pub parse_one_is : (ts : List Lexeme) → parse_one ts ≡
     where_some (keyword (codes "if") ts) (λ k. parse_if k) (where_some (keyword (codes "while") ts) (λ k. parse_while k)
-    (where_some (behind (codes "{") ts) (λ k. parse_code k >>= λ b. Some (block b.0 done, b.1)) (simple ts)))
-unfolding code_of parse_if parse_while
+    (where_some (keyword (codes "foreach") ts) (λ k. parse_each k)
+    (where_some (behind (codes "{") ts) (λ k. parse_code k >>= λ b. Some (block b.0 done, b.1)) (simple ts))))
+unfolding code_of parse_if parse_while parse_each
 parse_one_is ts =
     let f = 4 * length ts + 8 in
     sym (one_is (suc f) ts (omega arith))
@@ -150,9 +162,13 @@ parse_one_is ts =
     (λ k p. let s = keyword_shorter (codes "while") ts k p in
     bind_same (condition k) _ _ _ refl
     (λ t q. let u = condition_shorter k t q in ap (λ o. o >>= λ b. Some (while_loop t.0 b.0 done, b.1)) (braces_are f t.1 (omega arith))))
+    (λ p. where_same (keyword (codes "foreach") ts) _ _ _ _
+    (λ k p. let s = keyword_shorter (codes "foreach") ts k p in
+    bind_same (each_head k) _ _ _ refl
+    (λ h q. let u = head_shorter k h q in ap (λ o. o >>= λ b. Some (for_each h.0.0 h.0.1 b.0 done, b.1)) (braces_are f h.1 (omega arith))))
     (λ p. where_same (behind (codes "{") ts) _ _ _ _
     (λ k p. let s = behind_shorter (codes "{") ts k p in ap (λ o. o >>= λ b. Some (block b.0 done, b.1)) (code_is f k (omega arith)))
-    (λ p. refl)))
+    (λ p. refl))))
 
 -- ---- a list of statements
 

@@ -12,11 +12,11 @@ use Rattle.bw_lang.specs.declared.token.Lexeme.{Lexeme}
 use Rattle.bw_lang.specs.declared.token.Lexeme.TheVariants as lex
 use Rattle.bw_lang.specs.Levels.{op_level, left_level, level, Levelled, AreLevelled}
 use Rattle.bw_lang.specs.Spelling.{spell, spell_pairs}
-use Rattle.bw_lang.specs.Term.{Term, int, truth, string, name, paren, not, neg, binary, call, plug, Fillings, no_more, filling, append_fillings}
+use Rattle.bw_lang.specs.Term.{Term, int, truth, string, name, paren, not, neg, binary, call, plug, nothing, Fillings, no_more, filling, append_fillings}
 use Rattle.bw_lang.specs.Words.{op_sign, truth_word, fun_word}
 use Rattle.bw_lang.proofs.Terms.{append_fillings_assoc}
 use Rattle.bw_parse.specs.declared.lexemes.Meaning.{Meaning}
-use Rattle.bw_parse.specs.declared.lexemes.Meaning.TheVariants.{Truth, Function, Free}
+use Rattle.bw_parse.specs.declared.lexemes.Meaning.TheVariants.{Truth, Function, Nothing, Free}
 use Rattle.bw_parse.specs.Fronts.{Read, ◌>>=◌, behind, word, op_of, if_level, operator, meaning}
 use Rattle.bw_parse.specs.Expressions.{expr, more, prefix, plugs, pairs, atom, inside, by_meaning}
 use Rattle.bw_parse.specs.Follow.{binds, op_binds}
@@ -120,6 +120,7 @@ no_prefix (int n) k l v = record { bang = refl; minus = refl }
 no_prefix (truth n) k l v = record { bang = refl; minus = refl }
 no_prefix (string n) k l v = record { bang = refl; minus = refl }
 no_prefix (name n) k l v = record { bang = refl; minus = refl }
+no_prefix nothing k l v = record { bang = refl; minus = refl }
 no_prefix (paren e) k l v = record { bang = refl; minus = refl }
 no_prefix (call f e) k l v = record { bang = refl; minus = refl }
 no_prefix (not e) k l v = absurd (omega arith)
@@ -294,6 +295,7 @@ unfolding meaning
 fun_meaning funs.Text = refl
 fun_meaning funs.Number = refl
 fun_meaning funs.IsNumber = refl
+fun_meaning funs.Count = refl
 
 bool_meaning : (b : Bool) → meaning (truth_word b) ≡ Truth b
 unfolding meaning
@@ -318,6 +320,10 @@ name_atom w v k = word_atom w Free k (name w, k) (free_meaning w v) (later (λ f
 bool_atom : (b : Bool) → Atom (truth b)
 unfolding Atom expr
 bool_atom b k = word_atom (truth_word b) (Truth b) k (truth b, k) (bool_meaning b) (later (λ f. by_meaning f (truth_word b) (Truth b) k) (truth b, k) 0 (λ f le. refl))
+
+nothing_atom : Atom nothing
+unfolding Atom expr meaning
+nothing_atom k = word_atom (codes "none") Nothing k (nothing, k) refl (later (λ f. by_meaning f (codes "none") Nothing k) (nothing, k) 0 (λ f le. refl))
 
 int_atom : (n : ℕ) → n < 2 ^ 63 → Atom (int (pos n))
 unfolding Atom expr
@@ -356,6 +362,7 @@ one_le (binary op l r) = positive op
     positive Rem = omega arith
 one_le (call f n) = omega arith
 one_le (plug b p) = omega arith
+one_le nothing = omega arith
 
 -- ---- pairs
 
@@ -393,6 +400,7 @@ mutual
   complete (truth b) v = whole_atom (truth b) refl v (bool_atom b)
   complete (string s) v = whole_atom (string s) refl v (str_atom s)
   complete (name w) v = whole_atom (name w) refl v (name_atom w v)
+  complete nothing v = whole_atom nothing refl v nothing_atom
   complete (paren e) v = let i = complete e v in whole_atom (paren e) refl v (paren_atom e (i.at 1 (one_le e) (omega arith)))
   complete (call f e) v = let i = complete e v in whole_atom (call f e) refl v (call_atom f e (i.at 1 (one_le e) (omega arith)))
   complete (not e) v = let i = complete e v.1 in whole_prefix (not e) refl (bang_seven e (i.at 7 v.0 (omega arith)))

@@ -11,14 +11,14 @@ use Rattle.bw_lang.specs.declared.token.Lexeme.TheVariants as lex
 use Rattle.bw_lang.specs.Drafts.{IsWritten, spell_literal, spell_draft, spell_drafts, spell_service, IsFormed, AreFormed}
 use Rattle.bw_lang.specs.Words.{IsName, kind_word}
 use Rattle.bw_parse.specs.declared.lexemes.Meaning.{Meaning}
-use Rattle.bw_parse.specs.declared.lexemes.Meaning.TheVariants.{Truth, Function, Other, Free}
-use Rattle.bw_parse.specs.Fronts.{Read, ◌>>=◌, where_some, behind, keyword, word, named, kind, meaning}
+use Rattle.bw_parse.specs.declared.lexemes.Meaning.TheVariants.{Truth, Function, Nothing, Other, Free}
+use Rattle.bw_parse.specs.Fronts.{Read, ◌>>=◌, where_some, behind, keyword, word, named, kind, shared_kind, meaning}
 use Rattle.bw_parse.specs.Services.{template_token, number_token, word_literal, plain_literal, literal, parse_template, parse_shared, parse_session, draft, drafts_from, parse_drafts, if_last, parse_service}
 use Rattle.bw_parse.specs.Statements.{parse_code}
 use Rattle.bw_parse.proofs.CodeComplete.{parse_code_gives}
 use Rattle.bw_parse.proofs.CodeSound.{sound_code}
 use Rattle.bw_parse.proofs.CodeSteps.{code_longer}
-use Rattle.bw_parse.proofs.FrontLaws.{bind_some, where_cases, chosen, some, some_is, behind_is, keyword_is, named_is, kind_is, truth_is, free_is, kind_self, free_meaning}
+use Rattle.bw_parse.proofs.FrontLaws.{bind_some, where_cases, chosen, some, some_is, behind_is, keyword_is, named_is, shared_kind_is, truth_is, free_is, shared_kind_self, free_meaning}
 use Rattle.bw_parse.proofs.Steps.{bind_same, where_same, same_from}
 
 -- ---- literals
@@ -49,6 +49,7 @@ number_token_is (t ∷ ts) x e = absurd cc
 word_literal_is : (w : List ℕ) (m : Meaning) (l : Written) (k : List Lexeme) → meaning w ≡ m → word_literal w m ≡ Some l → ReadsLiteral (lex.Word w ∷ k) l k
 word_literal_is w (Truth b) l k i e = subst (λ l. ReadsLiteral (lex.Word w ∷ k) l k) (some_is (written.Bool b) l e) (ap (λ v. lex.Word v ∷ k) (truth_is w b i), tt)
 word_literal_is w (Function f) l k i e = absurd cc
+word_literal_is w Nothing l k i e = absurd cc
 word_literal_is w Other l k i e = absurd cc
 word_literal_is w Free l k i e = subst (λ l. ReadsLiteral (lex.Word w ∷ k) l k) (some_is (written.Name w) l e) (refl, free_is w i)
 
@@ -112,7 +113,8 @@ template_is ts k x i e =
 shared_is : (ts k : List Lexeme) (x : Draft × List Lexeme) → ts ≡ lex.Word (codes "shared") ∷ k → parse_shared k ≡ Some x → ReadsDraft ts x.0 x.1
 unfolding parse_shared
 shared_is ts k x i e =
-    let t = bind_some (kind k) _ x e in
+    let t = bind_some (shared_kind k) _ x e in
+    let ti = shared_kind_is k t.0 t.1 in
     let w = bind_some (named t.0.1) _ x t.2 in
     let wi = named_is t.0.1 w.0 w.1 in
     let q = bind_some (behind (codes "=") w.0.1) _ x w.2 in
@@ -120,9 +122,9 @@ shared_is ts k x i e =
     let li = literal_is q.0 l.0 l.1 in
     let z = bind_some (behind (codes ";") l.0.1) (λ z. Some (drafts.Shared t.0.0 w.0.0 l.0.0, z)) x l.2 in
     draft_got ts (drafts.Shared t.0.0 w.0.0 l.0.0) z.0 x (
-      i ∙ ap (λ l. lex.Word (codes "shared") ∷ l) (kind_is k t.0 t.1 ∙ ap (λ l. lex.Word (kind_word t.0.0) ∷ l) (wi.0 ∙ ap (λ l. lex.Word w.0.0 ∷ l) (behind_is (codes "=") w.0.1 q.0 q.1
+      i ∙ ap (λ l. lex.Word (codes "shared") ∷ l) (ti.0 ∙ ap (λ l. lex.Word (kind_word t.0.0) ∷ l) (wi.0 ∙ ap (λ l. lex.Word w.0.0 ∷ l) (behind_is (codes "=") w.0.1 q.0 q.1
           ∙ ap (λ l. lex.Sign (codes "=") ∷ l) (li.0 ∙ ap (spell_literal l.0.0) (behind_is (codes ";") l.0.1 z.0 z.1))))),
-      (wi.1, li.1),
+      (ti.1, wi.1, li.1),
     ) z.2
 
 session_is : (ts k : List Lexeme) (x : Draft × List Lexeme) → ts ≡ lex.Word (codes "session") ∷ k → parse_session k ≡ Some x → ReadsDraft ts x.0 x.1
@@ -157,7 +159,8 @@ pub draft_gives : (d : Draft) (k : List Lexeme) → IsFormed d → draft (spell_
 unfolding draft parse_template parse_shared parse_session keyword named word behind template_token
 draft_gives (drafts.Template name inside) k v = rw v refl
 draft_gives (drafts.Shared t name init) k v =
-    rw (kind_self t (lex.Word name ∷ lex.Sign (codes "=") ∷ spell_literal init (lex.Sign (codes ";") ∷ k))) (rw v.0 (rw (literal_gives init (lex.Sign (codes ";") ∷ k) v.1) refl))
+    rw (shared_kind_self t (lex.Word name ∷ lex.Sign (codes "=") ∷ spell_literal init (lex.Sign (codes ";") ∷ k)) v.0)
+    (rw v.1 (rw (literal_gives init (lex.Sign (codes ";") ∷ k) v.2) refl))
 draft_gives (drafts.Session s) k v = rw v.0 (rw (parse_code_gives s.body k v.1) refl)
 
 -- ---- lists of declarations

@@ -9,14 +9,15 @@ use Rattle.bw_lang.specs.declared.expr.Op.{Op}
 use Rattle.bw_lang.specs.declared.expr.Op.TheVariants as ops
 use Rattle.bw_lang.specs.declared.stmt.Kind.{Kind}
 use Rattle.bw_lang.specs.declared.stmt.Kind.TheVariants as kinds
+use Rattle.bw_lang.specs.Drafts.{IsShareable}
 use Rattle.bw_lang.specs.Keywords.{is, is_keyword}
 use Rattle.bw_lang.specs.Levels.{op_level}
 use Rattle.bw_lang.specs.declared.token.Lexeme.{Lexeme}
 use Rattle.bw_lang.specs.declared.token.Lexeme.TheVariants as lex
 use Rattle.bw_lang.specs.Words.{op_sign, truth_word, fun_word, kind_word}
 use Rattle.bw_parse.specs.declared.lexemes.Meaning.{Meaning}
-use Rattle.bw_parse.specs.declared.lexemes.Meaning.TheVariants.{Truth, Function, Other, Free}
-use Rattle.bw_parse.specs.Fronts.{◌>>=◌, where_some, behind, keyword, word, named, op_of, if_level, operator, meaning, kind_of, kind}
+use Rattle.bw_parse.specs.declared.lexemes.Meaning.TheVariants.{Truth, Function, Nothing, Other, Free}
+use Rattle.bw_parse.specs.Fronts.{◌>>=◌, where_some, behind, keyword, word, named, op_of, if_level, operator, meaning, kind_of, kind, is_list, shared_kind}
 
 pub bind_some : {A B : Type 0} (o : Option A) (f : A → Option B) (y : B) → (o >>= f) ≡ Some y → (x : A) × (o ≡ Some x) × (f x ≡ Some y)
 bind_some (Some x) f y e = (x, refl, e)
@@ -138,6 +139,7 @@ operator_is n (t ∷ ts) x e = absurd cc
 Says : List ℕ → Meaning → Type 0
 Says w (Truth b) = w ≡ truth_word b
 Says w (Function f) = w ≡ fun_word f
+Says w Nothing = w ≡ codes "none"
 Says w Other = Unit {0}
 Says w Free = is_keyword w ≡ false
 
@@ -149,6 +151,8 @@ meaning_says w =
     step (is w (codes "text")) (Function funs.Text) _ (λ h. is_same w (codes "text") h) λ h.
     step (is w (codes "number")) (Function funs.Number) _ (λ h. is_same w (codes "number") h) λ h.
     step (is w (codes "isnumber")) (Function funs.IsNumber) _ (λ h. is_same w (codes "isnumber") h) λ h.
+    step (is w (codes "count")) (Function funs.Count) _ (λ h. is_same w (codes "count") h) λ h.
+    step (is w (codes "none")) Nothing _ (λ h. is_same w (codes "none") h) λ h.
     step (is_keyword w) Other Free (λ h. tt) (λ h. h)
   where
     step : (b : Bool) (m n : Meaning) → (b ≡ true → Says w m) → (b ≡ false → Says w n) → Says w (cond b m n)
@@ -163,6 +167,10 @@ pub function_is : (w : List ℕ) (f : Fun) → meaning w ≡ Function f → w �
 unfolding Says
 function_is w f e = subst (Says w) e (meaning_says w)
 
+pub nothing_is : (w : List ℕ) → meaning w ≡ Nothing → w ≡ codes "none"
+unfolding Says
+nothing_is w e = subst (Says w) e (meaning_says w)
+
 pub free_is : (w : List ℕ) → meaning w ≡ Free → is_keyword w ≡ false
 unfolding Says
 free_is w e = subst (Says w) e (meaning_says w)
@@ -172,7 +180,8 @@ unfolding meaning
 free_meaning w n =
     past (is w (codes "true")) _ _ (not_keyword w (codes "true") n refl) (past (is w (codes "false")) _ _ (not_keyword w (codes "false") n refl)
     (past (is w (codes "text")) _ _ (not_keyword w (codes "text") n refl) (past (is w (codes "number")) _ _ (not_keyword w (codes "number") n refl)
-    (past (is w (codes "isnumber")) _ _ (not_keyword w (codes "isnumber") n refl) (past (is_keyword w) _ _ n refl)))))
+    (past (is w (codes "isnumber")) _ _ (not_keyword w (codes "isnumber") n refl) (past (is w (codes "count")) _ _ (not_keyword w (codes "count") n refl)
+    (past (is w (codes "none")) _ _ (not_keyword w (codes "none") n refl) (past (is_keyword w) _ _ n refl)))))))
   where
     past : (b : Bool) (m n : Meaning) → b ≡ false → n ≡ Free → cond b m n ≡ Free
     past true m n f p = absurd cc
@@ -183,7 +192,8 @@ free_meaning w n =
 kind_of_is : (w : List ℕ) (t : Kind) → kind_of w ≡ Some t → w ≡ kind_word t
 kind_of_is w t e =
     test w (codes "int") kinds.Int _ t kind_word refl e λ e. test w (codes "bool") kinds.Bool _ t kind_word refl e λ e.
-    test w (codes "string") kinds.Str _ t kind_word refl e λ e. test w (codes "html") kinds.Html _ t kind_word refl e λ e. absurd cc
+    test w (codes "string") kinds.Str _ t kind_word refl e λ e. test w (codes "html") kinds.Html _ t kind_word refl e λ e.
+    test w (codes "strings") kinds.Strs _ t kind_word refl e λ e. absurd cc
 
 pub kind_is : (ts : List Lexeme) (x : Kind × List Lexeme) → kind ts ≡ Some x → ts ≡ lex.Word (kind_word x.0) ∷ x.1
 unfolding kind
@@ -199,8 +209,31 @@ kind_self kinds.Int k = refl
 kind_self kinds.Bool k = refl
 kind_self kinds.Str k = refl
 kind_self kinds.Html k = refl
+kind_self kinds.Strs k = refl
 
 -- a name is no kind
 pub no_kind : (w : List ℕ) (ts : List Lexeme) → is_keyword w ≡ false → kind (lex.Word w ∷ ts) ≡ None
 unfolding kind word
-no_kind w ts n = rw (not_keyword w (codes "int") n refl, not_keyword w (codes "bool") n refl, not_keyword w (codes "string") n refl, not_keyword w (codes "html") n refl) refl
+no_kind w ts n = rw (not_keyword w (codes "int") n refl, not_keyword w (codes "bool") n refl, not_keyword w (codes "string") n refl, not_keyword w (codes "html") n refl, not_keyword w (codes "strings") n refl) refl
+
+-- a kind that is no list
+pub shareable : (t : Kind) → is_list t ≡ false → IsShareable t
+shareable kinds.Strs l e = absurd cc
+shareable t l e = let p : true ≡ false = sym (ap is_list e) ∙ l in absurd cc
+
+pub shared_kind_is : (ts : List Lexeme) (x : Kind × List Lexeme) → shared_kind ts ≡ Some x → (ts ≡ lex.Word (kind_word x.0) ∷ x.1) × IsShareable x.0
+unfolding shared_kind
+shared_kind_is ts x e =
+    let t = bind_some (kind ts) _ x e in
+    elim (chosen (is_list t.0.0) None (Some t.0) (Some x) t.2) [
+      | inl h ↦ let q = h.1 in absurd cc
+      | inr h ↦ subst (λ (y : Kind × List Lexeme). (ts ≡ lex.Word (kind_word y.0) ∷ y.1) × IsShareable y.0) (some_is t.0 x h.1) (kind_is ts t.0 t.1, shareable t.0.0 h.0)
+    ]
+
+pub shared_kind_self : (t : Kind) (k : List Lexeme) → IsShareable t → shared_kind (lex.Word (kind_word t) ∷ k) ≡ Some (t, k)
+unfolding shared_kind kind word
+shared_kind_self kinds.Int k s = refl
+shared_kind_self kinds.Bool k s = refl
+shared_kind_self kinds.Str k s = refl
+shared_kind_self kinds.Html k s = refl
+shared_kind_self kinds.Strs k s = absurd (s refl)

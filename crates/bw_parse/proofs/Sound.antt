@@ -7,14 +7,14 @@ use Rattle.bw_lang.specs.declared.token.Lexeme.{Lexeme}
 use Rattle.bw_lang.specs.declared.token.Lexeme.TheVariants as lex
 use Rattle.bw_lang.specs.Levels.{left_level, level, Levelled, AreLevelled, IsSome}
 use Rattle.bw_lang.specs.Spelling.{spell, spell_pairs}
-use Rattle.bw_lang.specs.Term.{Term, int, truth, string, name, paren, not, neg, binary, call, plug, Fillings, no_more, filling, append_fillings}
+use Rattle.bw_lang.specs.Term.{Term, int, truth, string, name, paren, not, neg, binary, call, plug, nothing, Fillings, no_more, filling, append_fillings}
 use Rattle.bw_lang.specs.Words.{op_sign}
 use Rattle.bw_lang.proofs.Terms.{append_fillings_assoc}
 use Rattle.bw_parse.specs.declared.lexemes.Meaning.{Meaning}
-use Rattle.bw_parse.specs.declared.lexemes.Meaning.TheVariants.{Truth, Function, Other, Free}
+use Rattle.bw_parse.specs.declared.lexemes.Meaning.TheVariants.{Truth, Function, Nothing, Other, Free}
 use Rattle.bw_parse.specs.Fronts.{◌>>=◌, behind, word, operator, meaning}
 use Rattle.bw_parse.specs.Expressions.{expr, more, prefix, plugs, pairs, atom, inside, by_meaning}
-use Rattle.bw_parse.proofs.FrontLaws.{bind_some, where_cases, chosen, some, some_is, behind_is, word_is, operator_is, truth_is, function_is, free_is}
+use Rattle.bw_parse.proofs.FrontLaws.{bind_some, where_cases, chosen, some, some_is, behind_is, word_is, operator_is, truth_is, function_is, nothing_is, free_is}
 
 -- the tokens are those of the expression, of the level, and then the rest
 pub record Reads (n : ℕ) (ts : List Lexeme) (e : Term) (k : List Lexeme) : Type 0 where
@@ -191,5 +191,6 @@ mutual
       let n = function_is w g i in
       let t = p ∙ ap (λ t. lex.Sign (codes "(") ∷ t) r.0 in
       got (call g q.0.0) q.0.1 x (record { spelled = λ j. lex.Word (n j) ∷ t j; levelled = r.1; level = omega arith }) q.2
+  sound_meaning (suc f) w Nothing ts x i e = got nothing ts x (record { spelled = ap (λ v. lex.Word v ∷ ts) (nothing_is w i); levelled = tt; level = omega arith }) e
   sound_meaning (suc f) w Other ts x i e = absurd cc
   sound_meaning (suc f) w Free ts x i e = got (name w) ts x (record { spelled = refl; levelled = free_is w i; level = omega arith }) e

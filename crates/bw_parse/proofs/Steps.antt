@@ -9,10 +9,10 @@ use Rattle.bw_lang.specs.declared.token.Lexeme.{Lexeme}
 use Rattle.bw_lang.specs.declared.token.Lexeme.TheVariants as lex
 use Rattle.bw_lang.specs.Levels.{left_level, IsSome}
 use Rattle.bw_lang.specs.Spelling.{spell, spell_pairs}
-use Rattle.bw_lang.specs.Term.{Term, int, truth, string, name, paren, not, neg, binary, call, plug, Fillings, no_more, filling, append_fillings}
+use Rattle.bw_lang.specs.Term.{Term, int, truth, string, name, paren, not, neg, binary, call, plug, nothing, Fillings, no_more, filling, append_fillings}
 use Rattle.bw_lang.specs.Words.{op_sign}
 use Rattle.bw_parse.specs.declared.lexemes.Meaning.{Meaning}
-use Rattle.bw_parse.specs.declared.lexemes.Meaning.TheVariants.{Truth, Function, Other, Free}
+use Rattle.bw_parse.specs.declared.lexemes.Meaning.TheVariants.{Truth, Function, Nothing, Other, Free}
 use Rattle.bw_parse.specs.Fronts.{Read, ◌>>=◌, where_some, behind, word, operator, meaning}
 use Rattle.bw_parse.specs.Expressions.{number_at, expr, more, prefix, plugs, pairs, atom, inside, by_meaning}
 use Rattle.bw_parse.specs.Expressions.{steps, parse, parse_more, parse_prefix, parse_plugs, parse_pairs, parse_atom, parse_inside, parse_word}
@@ -32,6 +32,7 @@ mutual
   longer (neg e) k = omega (arith, longer e k)
   longer (binary op l r) k = omega (arith, longer l (lex.Sign (op_sign op) ∷ spell r k), longer r k)
   longer (call f e) k = omega (arith, longer e (lex.Sign (codes ")") ∷ k))
+  longer nothing k = omega arith
   longer (plug base ps) k = omega (arith, longer base (spell_pairs (codes "<[") ps (lex.Sign (codes "]") ∷ k)), pairs_longer (codes "<[") ps (lex.Sign (codes "]") ∷ k))
 
   pub pairs_longer : (s : List ℕ) (ps : Fillings) (k : List Lexeme) → length k ≤ length (spell_pairs s ps k)
@@ -164,6 +165,7 @@ mutual
   stable_word (suc f) w (Function g) ts le =
       bind_same (behind (codes "(") ts) _ _ _ refl
       (λ k p. let t = behind_shorter (codes "(") ts k p in ap (λ o. o >>= λ x. Some (call g x.0, x.1)) (stable_inside f k (omega arith)))
+  stable_word (suc f) w Nothing ts le = refl
   stable_word (suc f) w Other ts le = refl
   stable_word (suc f) w Free ts le = refl
 
@@ -328,6 +330,10 @@ pub parse_truth : (w : List ℕ) (b : Bool) (ts : List Lexeme) → parse_word w 
 unfolding expr
 parse_truth w b ts = sym (word_is_by (suc (20 * length ts + 30)) w (Truth b) ts (omega arith))
 
+pub parse_nothing : (w : List ℕ) (ts : List Lexeme) → parse_word w Nothing ts ≡ Some (nothing, ts)
+unfolding expr
+parse_nothing w ts = sym (word_is_by (suc (20 * length ts + 30)) w Nothing ts (omega arith))
+
 pub parse_other : (w : List ℕ) (ts : List Lexeme) → parse_word w Other ts ≡ None
 unfolding expr
 parse_other w ts = sym (word_is_by (suc (20 * length ts + 30)) w Other ts (omega arith))
@@ -364,4 +370,4 @@ parse_none = parse_atom_is []
 pub parse_template : (t : List ℕ) (ts : List Lexeme) → parse_atom (lex.Template t ∷ ts) ≡ None
 parse_template t ts = parse_atom_is (lex.Template t ∷ ts)
 
-pub ruleset equations = (parse_none, parse_template, parse_tight, parse_number, parse_str, parse_sign, parse_word_is, parse_loose, parse_seven, parse_eight, parse_more_is, parse_prefix_is, parse_plugs_is, parse_pairs_is, parse_inside_is, parse_atom_is, parse_truth, parse_other, parse_free, parse_function)
+pub ruleset equations = (parse_none, parse_template, parse_tight, parse_number, parse_str, parse_sign, parse_word_is, parse_loose, parse_seven, parse_eight, parse_more_is, parse_prefix_is, parse_plugs_is, parse_pairs_is, parse_inside_is, parse_atom_is, parse_truth, parse_nothing, parse_other, parse_free, parse_function)

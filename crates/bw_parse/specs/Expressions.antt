@@ -3,9 +3,9 @@ use Rattle.std.specs.Prelude.{ℕ, zero, suc, pos, ◌+◌, ◌*◌, nat_lt, ◌
 use Rattle.bw_lang.specs.declared.token.Lexeme.{Lexeme}
 use Rattle.bw_lang.specs.declared.token.Lexeme.TheVariants as lex
 use Rattle.bw_lang.specs.Levels.{left_level}
-use Rattle.bw_lang.specs.Term.{Term, int, truth, string, name, paren, not, neg, binary, call, plug, Fillings, no_more, filling, append_fillings}
+use Rattle.bw_lang.specs.Term.{Term, int, truth, string, name, paren, not, neg, binary, call, plug, nothing, Fillings, no_more, filling, append_fillings}
 use Rattle.bw_parse.specs.declared.lexemes.Meaning.{Meaning}
-use Rattle.bw_parse.specs.declared.lexemes.Meaning.TheVariants.{Truth, Function, Other, Free}
+use Rattle.bw_parse.specs.declared.lexemes.Meaning.TheVariants.{Truth, Function, Nothing, Other, Free}
 use Rattle.bw_parse.specs.Fronts.{Read, ◌>>=◌, where_some, behind, word, operator, meaning}
 
 -- a number that a text may have
@@ -69,6 +69,7 @@ unfoldable mutual
   by_meaning zero w m ts = None
   by_meaning (suc f) w (Truth b) ts = Some (truth b, ts)
   by_meaning (suc f) w (Function g) ts = behind (codes "(") ts >>= λ k. inside f k >>= λ x. Some (call g x.0, x.1)
+  by_meaning (suc f) w Nothing ts = Some (nothing, ts)
   by_meaning (suc f) w Other ts = None
   by_meaning (suc f) w Free ts = Some (name w, ts)
 

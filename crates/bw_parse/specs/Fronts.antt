@@ -1,5 +1,5 @@
 -- What stands at the front of lexemes.
-use Rattle.std.specs.Prelude.{ℕ, true, false, ◌==◌, if◌then◌else◌, List, [], ◌∷◌, Option, Some, None, codes}
+use Rattle.std.specs.Prelude.{ℕ, Bool, true, false, ◌==◌, if◌then◌else◌, List, [], ◌∷◌, Option, Some, None, codes}
 use Rattle.bw_lang.specs.declared.expr.Fun.TheVariants as funs
 use Rattle.bw_lang.specs.declared.expr.Op.{Op}
 use Rattle.bw_lang.specs.declared.expr.Op.TheVariants as ops
@@ -10,7 +10,7 @@ use Rattle.bw_lang.specs.Levels.{op_level}
 use Rattle.bw_lang.specs.declared.token.Lexeme.{Lexeme}
 use Rattle.bw_lang.specs.declared.token.Lexeme.TheVariants as lex
 use Rattle.bw_parse.specs.declared.lexemes.Meaning.{Meaning}
-use Rattle.bw_parse.specs.declared.lexemes.Meaning.TheVariants.{Truth, Function, Other, Free}
+use Rattle.bw_parse.specs.declared.lexemes.Meaning.TheVariants.{Truth, Function, Nothing, Other, Free}
 
 -- what was read at the front, and what follows it
 abbrev pub Read : Type 0 → Type 0
@@ -76,6 +76,8 @@ meaning w =
     else if is w (codes "text") then Function funs.Text
     else if is w (codes "number") then Function funs.Number
     else if is w (codes "isnumber") then Function funs.IsNumber
+    else if is w (codes "count") then Function funs.Count
+    else if is w (codes "none") then Nothing
     else if is_keyword w then Other
     else Free
 
@@ -86,8 +88,17 @@ kind_of w =
     else if is w (codes "bool") then Some kinds.Bool
     else if is w (codes "string") then Some kinds.Str
     else if is w (codes "html") then Some kinds.Html
+    else if is w (codes "strings") then Some kinds.Strs
     else None
 
 -- a kind
 unfoldable pub kind : List Lexeme → Read Kind
 kind ts = word ts >>= λ w. kind_of w.0 >>= λ t. Some (t, w.1)
+
+abbrev pub is_list : Kind → Bool
+is_list kinds.Strs = true
+is_list t = false
+
+-- a kind that a shared variable may have
+unfoldable pub shared_kind : List Lexeme → Read Kind
+shared_kind ts = kind ts >>= λ t. if is_list t.0 then None else Some t

@@ -7,9 +7,9 @@ use Rattle.bw_lang.specs.declared.declaration.Draft.TheVariants as drafts
 use Rattle.bw_lang.specs.declared.token.Lexeme.{Lexeme}
 use Rattle.bw_lang.specs.declared.token.Lexeme.TheVariants as lex
 use Rattle.bw_parse.specs.declared.lexemes.Meaning.{Meaning}
-use Rattle.bw_parse.specs.declared.lexemes.Meaning.TheVariants.{Truth, Function, Other, Free}
+use Rattle.bw_parse.specs.declared.lexemes.Meaning.TheVariants.{Truth, Function, Nothing, Other, Free}
 pub use Rattle.bw_parse.specs.Fronts.{meaning}
-use Rattle.bw_parse.specs.Fronts.{Read, ◌>>=◌, where_some, behind, keyword, named, kind}
+use Rattle.bw_parse.specs.Fronts.{Read, ◌>>=◌, where_some, behind, keyword, named, shared_kind}
 use Rattle.bw_parse.specs.Statements.{parse_code}
 
 -- the inside of a template
@@ -28,6 +28,7 @@ number_token (t ∷ ts) = None
 abbrev pub word_literal : List ℕ → Meaning → Option Written
 word_literal w (Truth b) = Some (written.Bool b)
 word_literal w (Function f) = None
+word_literal w Nothing = None
 word_literal w Other = None
 word_literal w Free = Some (written.Name w)
 
@@ -50,7 +51,7 @@ parse_template k =
 
 unfoldable pub parse_shared : List Lexeme → Read Draft
 parse_shared k =
-    kind k >>= λ t. named t.1 >>= λ w. behind (codes "=") w.1 >>= λ e. literal e >>= λ l. behind (codes ";") l.1 >>= λ z.
+    shared_kind k >>= λ t. named t.1 >>= λ w. behind (codes "=") w.1 >>= λ e. literal e >>= λ l. behind (codes ";") l.1 >>= λ z.
     Some (drafts.Shared t.0 w.0 l.0, z)
 
 unfoldable pub parse_session : List Lexeme → Read Draft

@@ -2,7 +2,7 @@
 use Rattle.std.specs.Prelude.{ℕ, zero, suc, ◌+◌, ◌*◌, length, List, [], ◌∷◌, ◌++◌, Some, None, codes}
 use Rattle.bw_lang.specs.declared.stmt.Kind.{Kind}
 use Rattle.bw_lang.specs.declared.stmt.Receive.{Receive}
-use Rattle.bw_lang.specs.Code.{Code, done, declare, assign, if_then, if_else, while_loop, block, show, exit, append}
+use Rattle.bw_lang.specs.Code.{Code, done, declare, assign, if_then, if_else, while_loop, block, for_each, show, exit, append}
 use Rattle.bw_lang.specs.declared.token.Lexeme.{Lexeme}
 use Rattle.bw_lang.specs.Term.{Term}
 use Rattle.bw_parse.specs.Expressions.{parse, parse_inside}
@@ -32,6 +32,10 @@ parse_receives ts =
 -- ( e )
 unfoldable pub condition : List Lexeme → Read Term
 condition ts = behind (codes "(") ts >>= λ k. parse_inside k
+
+-- ( NAME in e )
+unfoldable pub each_head : List Lexeme → Read (List ℕ × Term)
+each_head ts = behind (codes "(") ts >>= λ j. named j >>= λ w. keyword (codes "in") w.1 >>= λ k. parse_inside k >>= λ x. Some ((w.0, x.0), x.1)
 
 -- NAME = e ;
 unfoldable pub valued : List Lexeme → Read (List ℕ × Term)
@@ -75,7 +79,8 @@ unfoldable mutual
       (λ k. condition k >>= λ t. braces f t.1 >>= λ y.
       where_some (keyword (codes "else") y.1) (λ e. braces f e >>= λ n. Some (if_else t.0 y.0 n.0 done, n.1)) (Some (if_then t.0 y.0 done, y.1)))
       (where_some (keyword (codes "while") ts) (λ k. condition k >>= λ t. braces f t.1 >>= λ b. Some (while_loop t.0 b.0 done, b.1))
-      (where_some (behind (codes "{") ts) (λ k. code_of f k >>= λ b. Some (block b.0 done, b.1)) (simple ts)))
+      (where_some (keyword (codes "foreach") ts) (λ k. each_head k >>= λ h. braces f h.1 >>= λ b. Some (for_each h.0.0 h.0.1 b.0 done, b.1))
+      (where_some (behind (codes "{") ts) (λ k. code_of f k >>= λ b. Some (block b.0 done, b.1)) (simple ts))))
 
   -- the statements between two braces
   pub braces : ℕ → List Lexeme → Read Code
@@ -107,3 +112,6 @@ parse_if k =
 
 unfoldable pub parse_while : List Lexeme → Read Code
 parse_while k = condition k >>= λ t. parse_braces t.1 >>= λ b. Some (while_loop t.0 b.0 done, b.1)
+
+unfoldable pub parse_each : List Lexeme → Read Code
+parse_each k = each_head k >>= λ h. parse_braces h.1 >>= λ b. Some (for_each h.0.0 h.0.1 b.0 done, b.1)

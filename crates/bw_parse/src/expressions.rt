@@ -210,6 +210,7 @@ fn by_meaning<'a>(
 {
     match meaning {
         Meaning::Truth(truth) => Ok((Expr::Bool(truth), rest)),
+        Meaning::Nothing => Ok((Expr::Nothing, rest)),
         Meaning::Other => Err(ParseFault::Syntax(left)),
         Meaning::Free => Ok((Expr::Name(word.copy()?), rest)),
         Meaning::Function(fun) => match after(b"(", rest) {

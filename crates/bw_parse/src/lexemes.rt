@@ -13,6 +13,8 @@ use bw_lang::{Fun, Kind, Lexeme, Name, Op, is_keyword};
 pub enum Meaning {
     Truth(bool),
     Function(Fun),
+    /// The list of no strings.
+    Nothing,
     /// Another keyword.
     Other,
     /// A name.
@@ -92,6 +94,10 @@ pub(crate) fn meaning_of(word: &str) -> Meaning
         Meaning::Function(Fun::Number)
     } else if is_word(word, "isnumber") {
         Meaning::Function(Fun::IsNumber)
+    } else if is_word(word, "count") {
+        Meaning::Function(Fun::Count)
+    } else if is_word(word, "none") {
+        Meaning::Nothing
     } else if is_keyword(word) {
         Meaning::Other
     } else {
@@ -110,6 +116,8 @@ fn kind_of(word: &str) -> Option<Kind>
         Some(Kind::Str)
     } else if is_word(word, "html") {
         Some(Kind::Html)
+    } else if is_word(word, "strings") {
+        Some(Kind::Strs)
     } else {
         None
     }
@@ -196,6 +204,19 @@ pub(crate) fn kind(lexemes: &[Lexeme]) -> Option<(Kind, &[Lexeme])>
     let (word, rest) = word(lexemes)?;
     let kind = kind_of(word.as_str())?;
     Some((kind, rest))
+}
+
+/// A kind that a shared variable may have, and what follows it.
+#[tactic(auto, unfolding(crate::specs::Fronts::shared_kind))]
+pub(crate) fn shared_kind(lexemes: &[Lexeme]) -> Option<(Kind, &[Lexeme])>
+    ensures value { Finds (λ x. (x.0, x.1.now)) result (front.shared_kind lexemes.now) }
+    ensures shorter { IfSome result (λ x. length x.1.now < length lexemes.now) }
+{
+    let (kind, rest) = kind(lexemes)?;
+    match kind {
+        Kind::Strs => None,
+        Kind::Int | Kind::Bool | Kind::Str | Kind::Html => Some((kind, rest)),
+    }
 }
 
 /// An operator of this level, and what follows it.

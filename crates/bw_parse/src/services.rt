@@ -4,11 +4,11 @@ ghost use Rattle.bw_lang.specs.declared.declaration.Draft.{Draft as Draft_};
 ghost use Rattle.bw_lang.specs.Drafts.{AreFormed, spell_service};
 ghost use Rattle.bw_lang.specs.Words.{IsName};
 ghost use Rattle.bw_parse.specs.Gives.{Gives, Finds};
-ghost use Rattle.bw_parse.specs.Laws.{OneSpelling};
+ghost use Rattle.bw_parse.specs.Laws.{OneSpelling, SpelledOrNot};
 ghost use Rattle.bw_parse.specs.Services as spec;
 
 use crate::fault::ParseFault;
-use crate::lexemes::{Meaning, after, keyword, kind, meaning_of, name};
+use crate::lexemes::{Meaning, after, keyword, meaning_of, name, shared_kind};
 use crate::statements::block;
 use bw_lang::{Bytes, Draft, Lexeme, Memory, Name, Session, Written};
 use std::alloc::Global;
@@ -56,7 +56,7 @@ fn word_literal(word: &Name) -> Result<Option<Written>, Memory>
 {
     match meaning_of(word.as_str()) {
         Meaning::Truth(truth) => Ok(Some(Written::Bool(truth))),
-        Meaning::Function(_) | Meaning::Other => Ok(None),
+        Meaning::Function(_) | Meaning::Nothing | Meaning::Other => Ok(None),
         Meaning::Free => Ok(Some(Written::Name(word.copy()?))),
     }
 }
@@ -128,7 +128,7 @@ fn shared(lexemes: &[Lexeme]) -> Result<(Draft, &[Lexeme]), ParseFault>
     ensures value { Gives (λ x. (x.0, x.1.now)) result (spec.parse_shared lexemes.now) }
     ensures shorter { IfOk result (λ x. length x.1.now < length lexemes.now) }
 {
-    let Some((kind, rest)) = kind(lexemes) else {
+    let Some((kind, rest)) = shared_kind(lexemes) else {
         return Err(ParseFault::Syntax(lexemes.len()));
     };
     let Some((name, rest)) = name(rest) else {
@@ -243,4 +243,9 @@ pub fn parse_service(alloc: Global, lexemes: &[Lexeme]) -> Result<ServiceDraft, 
 /// No two services that are formed are written with the same lexemes.
 pub fn one_spelling()
     ensures { OneSpelling }
+{}
+
+/// Lexemes are those of a service, or of none.
+pub fn spelled_or_not()
+    ensures { SpelledOrNot }
 {}

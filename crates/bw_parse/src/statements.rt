@@ -56,6 +56,8 @@ fn statement(alloc: Global, lexemes: &[Lexeme]) -> Result<(Stmt, &[Lexeme]), Par
         if_statement(alloc, rest)
     } else if let Some(rest) = keyword("while", lexemes) {
         while_statement(alloc, rest)
+    } else if let Some(rest) = keyword("foreach", lexemes) {
+        each_statement(alloc, rest)
     } else if let Some(rest) = after(b"{", lexemes) {
         let (body, rest) = block(alloc, rest)?;
         Ok((Stmt::Block(body), rest))
@@ -100,6 +102,37 @@ fn while_statement(alloc: Global, lexemes: &[Lexeme]) -> Result<(Stmt, &[Lexeme]
     let (test, rest) = condition(alloc, lexemes)?;
     let (body, rest) = braces(alloc, rest)?;
     Ok((Stmt::While { test, body }, rest))
+}
+
+/// Behind `foreach`.
+#[cycle(statement)]
+#[tactic(auto, unfolding(crate::specs::Statements::parse_each))]
+fn each_statement(alloc: Global, lexemes: &[Lexeme]) -> Result<(Stmt, &[Lexeme]), ParseFault>
+    ensures value { Gives (λ x. (before x.0 done, x.1.now)) result (spec.parse_each lexemes.now) }
+    ensures shorter { IfOk result (λ x. length x.1.now < length lexemes.now) }
+{
+    let (name, value, rest) = each_head(alloc, lexemes)?;
+    let (body, rest) = braces(alloc, rest)?;
+    Ok((Stmt::Each { name, value, body }, rest))
+}
+
+/// `(NAME in LIST)`
+#[tactic(auto, unfolding(crate::specs::Statements::each_head))]
+fn each_head(alloc: Global, lexemes: &[Lexeme]) -> Result<(Name, Expr, &[Lexeme]), ParseFault>
+    ensures value { Gives (λ x. ((x.0, term x.1), x.2.now)) result (spec.each_head lexemes.now) }
+    ensures shorter { IfOk result (λ x. length x.2.now < length lexemes.now) }
+{
+    let Some(rest) = after(b"(", lexemes) else {
+        return Err(ParseFault::Syntax(lexemes.len()));
+    };
+    let Some((name, rest)) = name(rest) else {
+        return Err(ParseFault::Syntax(rest.len()));
+    };
+    let Some(rest) = keyword("in", rest) else {
+        return Err(ParseFault::Syntax(rest.len()));
+    };
+    let (list, rest) = inside(alloc, rest)?;
+    Ok((name.copy()?, list, rest))
 }
 
 /// A test in parentheses.

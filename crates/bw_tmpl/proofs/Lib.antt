@@ -13,3 +13,4 @@ pub mod Keeping
 pub mod Made
 pub mod Deciding
 pub mod Weights
+pub mod Answered

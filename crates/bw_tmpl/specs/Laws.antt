@@ -1,5 +1,5 @@
 -- Laws of reading.
-use Rattle.std.specs.Prelude.{◌≡◌, ◌≤◌, ℕ, ◌*◌, List, IsUtf8, length}
+use Rattle.std.specs.Prelude.{◌≡◌, ◌≢◌, ◌⊎◌, ◌≤◌, ℕ, ◌*◌, List, IsUtf8, length}
 use Rattle.bw_lang.specs.Forest.{Forest}
 use Rattle.bw_lang.specs.Documents.{plug, plug_text, close, count}
 use Rattle.bw_lang.specs.Print.{print, joined}
@@ -34,6 +34,12 @@ NotBoth = (names : List (List ℕ)) (most : ℕ) (bytes : List ℕ) (f : Forest)
 abbrev pub OneReason : Type 0
 OneReason = (most : ℕ) (bytes : List ℕ) (d e : TmplFault) → IsRefused most bytes d → IsRefused most bytes e → (d ≡ fault.Memory → ⊥) → (e ≡ fault.Memory → ⊥) → d ≡ e
 
+-- bytes are a template, or there is a reason beside want of memory
+abbrev pub ReadOrRefused : Type 0
+ReadOrRefused =
+    (names : List (List ℕ)) (most : ℕ) (bytes : List ℕ) →
+    ((f : Forest) × IsTemplate names most bytes f) ⊎ ((e : TmplFault) × (e ≢ fault.Memory) × IsRefused most bytes e)
+
 -- bytes are one template without gaps at most
 abbrev pub OneClosedTemplate : Type 0
 OneClosedTemplate = (most : ℕ) (bytes : List ℕ) (f g : Forest) → IsClosedTemplate most bytes f → IsClosedTemplate most bytes g → f ≡ g
@@ -45,6 +51,12 @@ NotBothClosed = (most : ℕ) (bytes : List ℕ) (f : Forest) (e : TmplFault) →
 -- there is one reason at most, beside want of memory
 abbrev pub OneClosedReason : Type 0
 OneClosedReason = (most : ℕ) (bytes : List ℕ) (d e : TmplFault) → IsClosedRefused most bytes d → IsClosedRefused most bytes e → (d ≡ fault.Memory → ⊥) → (e ≡ fault.Memory → ⊥) → d ≡ e
+
+-- bytes are a template without gaps, or there is a reason beside want of memory
+abbrev pub ClosedReadOrRefused : Type 0
+ClosedReadOrRefused =
+    (most : ℕ) (bytes : List ℕ) →
+    ((f : Forest) × IsClosedTemplate most bytes f) ⊎ ((e : TmplFault) × (e ≢ fault.Memory) × IsClosedRefused most bytes e)
 
 -- a template without gaps is a template, whatever the table
 abbrev pub ClosedIsTemplate : Type 0

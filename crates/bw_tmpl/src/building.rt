@@ -7,7 +7,6 @@ ghost use Rattle.bw_lang.specs.NumberedGaps.{numbered, numbered_value};
 ghost use Rattle.bw_tmpl.specs.Building.{nothing_built, with_items, element_begun, empty_element, element_ended, draft_after, built, Builds};
 
 use crate::fault::TmplFault;
-use crate::nesting::is_same;
 use bw_lang::pieces::{Piece, RawAttr, RawAttrs, RawValue, Tag};
 use bw_lang::{Attr, AttrValue, Attrs, Element, GapNames, Item, Items, Memory, Name, is_void};
 use std::alloc::Global;
@@ -84,7 +83,7 @@ fn value_of(value: &RawValue, gaps: &GapNames) -> Result<AttrValue, Memory>
 {
     match value {
         RawValue::Fixed(text) => Ok(AttrValue::Fixed(text.copy()?)),
-        RawValue::Hole(name) => Ok(AttrValue::Hole(gaps.number(name))),
+        RawValue::Hole(name) => Ok(AttrValue::Hole(gaps.number(name.as_str()))),
     }
 }
 
@@ -163,7 +162,7 @@ impl Draft {
             return Err(TmplFault::Mismatched);
         };
         let OpenElement { tag, attrs, front } = innermost;
-        if !is_same(&tag, name) {
+        if tag != *name {
             return Err(TmplFault::Mismatched);
         }
         let items = mem::replace(&mut self.items, front);
@@ -178,7 +177,7 @@ impl Draft {
     {
         match piece {
             Piece::Text(text) => self.add(Item::Text(text.copy()?))?,
-            Piece::Gap(name) => self.add(Item::Gap(gaps.number(name)))?,
+            Piece::Gap(name) => self.add(Item::Gap(gaps.number(name.as_str())))?,
             Piece::Whole(tag) => self.alone(tag, gaps)?,
             Piece::Start(tag) => {
                 if is_void(&tag.name) {

@@ -1,25 +1,36 @@
 //! The gaps that pieces have.
-ghost use Rattle.std.specs.Prelude.{◌≡◌, ◌≢◌, [], OnOk};
+ghost use Rattle.std.specs.Prelude.{◌≡◌, ◌≢◌, [], ◌∷◌, OnOk};
 ghost use Rattle.std.specs.Bool.{MatchBool};
 ghost use Rattle.bw_lang.specs.Names.{with_names, Extends};
 ghost use Rattle.bw_lang.specs.PieceGaps.{value_gaps, attr_gaps, piece_gaps, gap_names};
 
 use bw_lang::pieces::{Piece, RawAttr, RawValue};
-use bw_lang::{GapNames, Memory};
+use bw_lang::{GapNames, Memory, Name};
+
+/// Takes in the name of a gap.
+#[tactic(auto, using(crate::proofs::GapLaws::taking_in))]
+fn add_name(gaps: &mut GapNames, name: &Name) -> Result<(), Memory>
+    ensures ok { OnOk result (gaps.new ≡ with_names gaps.old (name.now ∷ [])) }
+    ensures extends { Extends gaps.old gaps.new }
+{
+    // A table with no number left has 4,294,967,295 names, which take more memory than any text that is read: there
+    // is none for a further name.
+    if gaps.is_full() {
+        return Err(Memory);
+    }
+    gaps.add(name.as_str())?;
+    Ok(())
+}
 
 /// Takes in the name of the gap that the value is, if it is one.
-#[tactic(auto, using(crate::proofs::GapLaws::taking_in))]
 fn add_value(gaps: &mut GapNames, value: &RawValue) -> Result<(), Memory>
     ensures ok { OnOk result (gaps.new ≡ with_names gaps.old (value_gaps value.now)) }
     ensures extends { Extends gaps.old gaps.new }
 {
     match value {
-        RawValue::Fixed(_) => {}
-        RawValue::Hole(name) => {
-            gaps.add(name)?;
-        }
+        RawValue::Fixed(_) => Ok(()),
+        RawValue::Hole(name) => add_name(gaps, name),
     }
-    Ok(())
 }
 
 /// Takes in the names of the gaps among the values of attributes.
@@ -41,13 +52,10 @@ fn add_piece(gaps: &mut GapNames, piece: &Piece) -> Result<(), Memory>
     ensures extends { Extends gaps.old gaps.new }
 {
     match piece {
-        Piece::Gap(name) => {
-            gaps.add(name)?;
-        }
-        Piece::Start(tag) | Piece::Whole(tag) => add_attrs(gaps, tag.attrs.as_slice())?,
-        Piece::Text(_) | Piece::End(_) => {}
+        Piece::Gap(name) => add_name(gaps, name),
+        Piece::Start(tag) | Piece::Whole(tag) => add_attrs(gaps, tag.attrs.as_slice()),
+        Piece::Text(_) | Piece::End(_) => Ok(()),
     }
-    Ok(())
 }
 
 /// Takes in the names of all gaps, in their order.

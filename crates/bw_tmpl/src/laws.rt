@@ -1,5 +1,5 @@
 //! Laws of reading. A law is the contract of an empty function.
-ghost use Rattle.bw_tmpl.specs.Laws.{OneSpelling, OneReading, OneTemplate, NotBoth, OneReason, OneClosedTemplate, NotBothClosed, OneClosedReason, ClosedIsTemplate, ClosedHasNoGap, ItemsBounded, ReadsMarkup, PlugsMarkup, PlugsTextMarkup, ClosesMarkup, ReadsBack};
+ghost use Rattle.bw_tmpl.specs.Laws.{OneSpelling, OneReading, OneTemplate, NotBoth, OneReason, ReadOrRefused, OneClosedTemplate, NotBothClosed, OneClosedReason, ClosedReadOrRefused, ClosedIsTemplate, ClosedHasNoGap, ItemsBounded, ReadsMarkup, PlugsMarkup, PlugsTextMarkup, ClosesMarkup, ReadsBack};
 
 /// Bytes are one list of pieces at most, and by a table of names pieces read as one list of items at most.
 pub fn unique()
@@ -7,12 +7,13 @@ pub fn unique()
     ensures items { OneReading }
 {}
 
-/// What reading a template answers is determined: by a table of names bytes are one template at most, and then
-/// there is no reason to refuse them, and otherwise one reason at most.
+/// What reading a template answers is determined: by a table of names bytes are one template, and then there is no
+/// reason to refuse them, or there is one reason, want of memory aside.
 pub fn decided()
     ensures one { OneTemplate }
     ensures not_both { NotBoth }
     ensures reason { OneReason }
+    ensures always { ReadOrRefused }
 {}
 
 /// What reading a template without gaps answers is determined.
@@ -20,6 +21,7 @@ pub fn closed_decided()
     ensures one { OneClosedTemplate }
     ensures not_both { NotBothClosed }
     ensures reason { OneClosedReason }
+    ensures always { ClosedReadOrRefused }
 {}
 
 /// A template without gaps is a template, and its items have no open gap.

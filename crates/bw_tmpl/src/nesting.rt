@@ -1,7 +1,6 @@
 //! How deep elements stand inside one another, found from the tags alone, before an item is built.
 ghost use Rattle.std.specs.Prelude.{◌≡◌, ◌≢◌, ◌<◌, ◌^◌, length, OnOk, [], ◌∷◌, MatchOption};
 ghost use Rattle.std.specs.Bool.{MatchBool};
-ghost use Rattle.bw_lang.specs.Names.{same};
 ghost use Rattle.bw_tmpl.specs.Building.{Builds};
 ghost use Rattle.bw_tmpl.specs.Nesting.{no_tags, one_deeper, tag_opened, tag_closed, tags_after, depth};
 
@@ -23,13 +22,6 @@ impl Model for NameStack {
     ghost Value = { List (List ℕ) };
 
     ghost view = { λ a. reverse a.list.items };
-}
-
-/// Whether the two names have the same bytes.
-pub fn is_same(a: &Name, b: &Name) -> bool
-    ensures { result ≡ same a.now b.now }
-{
-    a.as_str() == b.as_str()
 }
 
 impl NameStack {
@@ -111,7 +103,7 @@ impl OpenTags {
         let Some(innermost) = self.names.pop() else {
             return Err(TmplFault::Mismatched);
         };
-        if is_same(&innermost, name) {
+        if innermost == *name {
             Ok(())
         } else {
             Err(TmplFault::Mismatched)

@@ -13,7 +13,7 @@ fn is_repeated(alloc: Global, attrs: &[RawAttr]) -> Result<bool, Memory>
     let mut seen = NameTable::new(alloc);
     for attr in attrs {
         let count = seen.len();
-        if (seen.add(&attr.name)? as usize) < count {
+        if seen.add(attr.name.as_str())? < count {
             return Ok(true);
         }
     }

@@ -1,6 +1,6 @@
 use Rattle.std.proofs.Common.{◌<◌, ◌^◌}
 use Rattle.bw_limits.proofs.Firsts.{looked_at, by_sort}
-use Rattle.bw_lang.specs.Limits.{as_template}
+use Rattle.bw_lang.specs.Sorted.{as_template}
 use Rattle.bw_lang.specs.Measures.{constant_weight}
 use Rattle.bw_limits.proofs.Sorts.{sort_read}
 use Rattle.bw_limits.proofs.declarations.too_heavy.Goals as goal

@@ -1,6 +1,6 @@
 use Rattle.std.proofs.Common.{◌≡◌, drop, find, map}
 use Rattle.std.specs.Prelude.{nat_lt}
-use Rattle.bw_lang.specs.Limits.{templates_of}
+use Rattle.bw_lang.specs.Sorted.{templates_of}
 use Rattle.bw_lang.specs.Measures.{constant_weight}
 use Rattle.bw_limits.proofs.declarations.too_heavy.Given as goal
 

@@ -18,6 +18,9 @@ decreases-if_statement l = 4 * length l.lexemes.now + 4
 abbrev pub decreases-while_statement : goal.decreases-while_statement
 decreases-while_statement l = 4 * length l.lexemes.now + 4
 
+abbrev pub decreases-each_statement : goal.decreases-each_statement
+decreases-each_statement l = 4 * length l.lexemes.now + 4
+
 abbrev pub invariant-block-statements : goal.invariant-block-statements
 invariant-block-statements l = record {
   shorter : length l.rest ≤ length l.fn.lexemes;

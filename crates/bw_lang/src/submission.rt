@@ -1,0 +1,67 @@
+//! What a client submits with a form.
+ghost use Rattle.std.specs.Prelude.{◌≡◌, ◌++◌, ◌∷◌, [], OnOk, OnErr, MatchOption, None, Some, slice_get};
+ghost use Rattle.bw_lang.specs.Submissions.{values_of};
+
+use crate::text::{Memory, Text};
+use std::alloc::Global;
+use std::marker::Model;
+
+/// A form as it was submitted: pairs of the name of a control and a value, in the order in which they came (HTML 4.01,
+/// section 17.13.3). A name may come several times. Contracts see the list of the pairs.
+#[derive(Debug, Drop)]
+pub struct Submission {
+    pairs: Vec<(Text, Text)>,
+}
+
+impl Model for Submission {
+    ghost use Rattle.std.specs.Prelude.{ℕ, List};
+
+    ghost Value = { List (List ℕ × List ℕ) };
+
+    ghost view = { λ s. s.pairs.items };
+}
+
+impl Submission {
+    /// No pair yet.
+    pub fn new(alloc: Global) -> Submission
+        ensures { result ≡ [] }
+    {
+        Submission {
+            pairs: Vec::new(alloc),
+        }
+    }
+
+    /// One pair more, behind the others.
+    pub fn push(&mut self, name: Text, value: Text) -> Result<(), Memory>
+        ensures ok { OnOk result (self.new ≡ self.old ++ (name, value) ∷ []) }
+        ensures err { OnErr result (self.new ≡ self.old) }
+    {
+        self.pairs.push((name, value))?;
+        Ok(())
+    }
+
+    /// The pairs, in order.
+    pub fn as_slice(&self) -> &[(Text, Text)]
+        ensures { result.now ≡ self.now }
+    {
+        self.pairs.as_slice()
+    }
+
+    /// The value of the n-th pair of that name, counted from 0, or none where it has no more than n. It takes no
+    /// memory.
+    pub fn value(&self, field: &str, n: usize) -> Option<&str>
+        ensures { MatchOption result (slice_get (values_of field.now self.now) n ≡ None)
+            (λ value. slice_get (values_of field.now self.now) n ≡ Some value.now) }
+    {
+        let mut left = n;
+        for (name, value) in &self.pairs {
+            if field == name.as_str() {
+                if left == 0 {
+                    return Some(value.as_str());
+                }
+                left -= 1;
+            }
+        }
+        None
+    }
+}

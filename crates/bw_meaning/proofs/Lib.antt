@@ -1,0 +1,9 @@
+pub mod BehindLaw
+pub mod Blocks
+pub mod Costs
+pub mod ExecLaw
+pub mod Good
+pub mod Loops
+pub mod Maps
+pub mod OneMore
+pub mod Seen

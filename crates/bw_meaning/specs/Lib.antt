@@ -1,0 +1,16 @@
+pub mod ExpressionExamples
+pub mod Expressions
+pub mod FaultExamples
+pub mod Forms
+pub mod GoOn
+pub mod Laws
+pub mod NameLaws
+pub mod Numbers
+pub mod Operators
+pub mod Pages
+pub mod Samples
+pub mod StatementExamples
+pub mod Statements
+pub mod States
+pub mod TurnExamples
+pub mod Values
