@@ -1,5 +1,5 @@
 -- The members of the summary of a template.
-use Rattle.std.specs.Prelude.{◌≡◌, ℕ, zero, suc, ◌+◌, ◌<◌, nat_lt, Bool, true, false, ◌||◌, ◌&&◌, not, cond, ◌==◌, List, [], ◌∷◌}
+use Rattle.std.specs.Prelude.{◌≡◌, ℕ, zero, suc, ◌+◌, ◌<◌, nat_lt, Bool, true, false, ◌||◌, ◌&&◌, not, cond, ◌==◌, [], ◌∷◌}
 use Rattle.std.proofs.Common.{refl, sym, ap, ◌∙◌, arith}
 use Rattle.std.specs.Ordering.{nat_cmp, is_eq}
 use Rattle.std.proofs.lemmas.Cmp.{nat_cmp_total}
@@ -19,7 +19,8 @@ same_number : (a b : ℕ) → (a == b) ≡ true → a ≡ b
 same_number a b h = grind (arith, nat_tests)
 
 -- of the gaps below a number
-next_track : (k h : ℕ) (lt ltn o p e r : Bool) → (k == h) ≡ e → nat_lt h k ≡ lt → nat_lt h (suc k) ≡ ltn → (e ≡ true → o ≡ p) → ((lt && (o && r)) || ((e && r) && p)) ≡ (ltn && (o && r))
+next_track : (k h : ℕ) (lt ltn o p e r : Bool) → (k == h) ≡ e → nat_lt h k ≡ lt → nat_lt h (suc k) ≡ ltn → (e ≡ true → o ≡ p)
+    → ((lt && (o && r)) || ((e && r) && p)) ≡ (ltn && (o && r))
 next_track k h lt ltn o p true r a b c d =
     let same : k ≡ h = grind (arith, nat_tests) in
     let no : lt ≡ false = sym b ∙ grind (arith, nat_tests) in
@@ -44,19 +45,22 @@ tracked_has n items zero h m = sym (ap (λ x. x && (opens h items && (n == m))) 
 tracked_has n items (suc k) h m = go (tracked_has n items k h m) (opens k items) refl
   where
     go : has pair_cmp (tracked n items k) (h, m) ≡ (nat_lt h k && (opens h items && (n == m))) → (b : Bool) → opens k items ≡ b
-        → has pair_cmp (cond b (merge pair_cmp (tracked n items k) ((k, n) ∷ [])) (tracked n items k)) (h, m) ≡ (nat_lt h (suc k) && (opens h items && (n == m)))
+        → has pair_cmp (cond b (merge pair_cmp (tracked n items k) ((k, n) ∷ [])) (tracked n items k)) (h, m) ≡
+        (nat_lt h (suc k) && (opens h items && (n == m)))
     go r true e =
         merge_has pair_cmp_total (tracked n items k) ((k, n) ∷ []) (h, m)
         ∙ ap (λ x. x || (is_eq (pair_cmp (k, n) (h, m)) || false)) r
         ∙ ap (λ x. (nat_lt h k && (opens h items && (n == m))) || x) (tail (is_eq (pair_cmp (k, n) (h, m))) ∙ ap (λ x. x && true) (is_eq2 k n h m))
-        ∙ next_track k h (nat_lt h k) (nat_lt h (suc k)) (opens h items) true (k == h) (n == m) refl refl refl (λ s. sym (ap (λ j. opens j items) (same_number k h s)) ∙ e)
+        ∙ next_track k h (nat_lt h k) (nat_lt h (suc k)) (opens h items) true (k == h) (n == m) refl refl refl
+        (λ s. sym (ap (λ j. opens j items) (same_number k h s)) ∙ e)
       where
         tail : (x : Bool) → (x || false) ≡ (x && true)
         tail true = refl
         tail false = refl
     go r false e =
         r ∙ sym (none (nat_lt h k && (opens h items && (n == m))) ((k == h) && (n == m)))
-        ∙ next_track k h (nat_lt h k) (nat_lt h (suc k)) (opens h items) false (k == h) (n == m) refl refl refl (λ s. sym (ap (λ j. opens j items) (same_number k h s)) ∙ e)
+        ∙ next_track k h (nat_lt h k) (nat_lt h (suc k)) (opens h items) false (k == h) (n == m) refl refl refl
+        (λ s. sym (ap (λ j. opens j items) (same_number k h s)) ∙ e)
       where
         none : (x y : Bool) → (x || (y && false)) ≡ x
         none true y = refl
@@ -76,7 +80,8 @@ lacked_has items (suc k) h = go (lacked_has items k h) (opens k items) refl
         → has nat_cmp (cond b (lacked items k) (merge nat_cmp (lacked items k) (k ∷ []))) h ≡ (nat_lt h (suc k) && not (opens h items))
     go r true e =
         r ∙ ones (nat_lt h k) (not (opens h items)) ∙ sym (none (nat_lt h k && (not (opens h items) && true)) ((k == h) && true))
-        ∙ next_track k h (nat_lt h k) (nat_lt h (suc k)) (not (opens h items)) false (k == h) true refl refl refl (λ s. ap not (sym (ap (λ j. opens j items) (same_number k h s)) ∙ e))
+        ∙ next_track k h (nat_lt h k) (nat_lt h (suc k)) (not (opens h items)) false (k == h) true refl refl refl
+        (λ s. ap not (sym (ap (λ j. opens j items) (same_number k h s)) ∙ e))
         ∙ sym (ones (nat_lt h (suc k)) (not (opens h items)))
       where
         none : (x y : Bool) → (x || (y && false)) ≡ x
@@ -88,7 +93,8 @@ lacked_has items (suc k) h = go (lacked_has items k h) (opens k items) refl
         ∙ ap (λ x. x || (is_eq (nat_cmp k h) || false)) r
         ∙ ap (λ x. (nat_lt h k && not (opens h items)) || x) (tail (is_eq (nat_cmp k h)) ∙ ap (λ x. (x && true) && true) (is_eq_nat k h))
         ∙ ap (λ x. x || (((k == h) && true) && true)) (ones (nat_lt h k) (not (opens h items)))
-        ∙ next_track k h (nat_lt h k) (nat_lt h (suc k)) (not (opens h items)) true (k == h) true refl refl refl (λ s. ap not (sym (ap (λ j. opens j items) (same_number k h s)) ∙ e))
+        ∙ next_track k h (nat_lt h k) (nat_lt h (suc k)) (not (opens h items)) true (k == h) true refl refl refl
+        (λ s. ap not (sym (ap (λ j. opens j items) (same_number k h s)) ∙ e))
         ∙ sym (ones (nat_lt h (suc k)) (not (opens h items)))
       where
         tail : (x : Bool) → (x || false) ≡ ((x && true) && true)

@@ -1,6 +1,7 @@
 -- Plugs keep what a graph covers.
 use Rattle.std.proofs.Common.{◌≡◌, ℕ, Bool, true, false, ◌||◌, ◌&&◌, not, ◌==◌, if◌then◌else◌, List, [], ◌∷◌, map, refl, sym, ap, ◌∙◌, subst, inl, inr}
-use Rattle.std.proofs.lemmas.Bool.{false≢true, cases_Bool, or_cases, or_left, or_right, or_parts, or_from, and_from, and_cases, not-false, cond-true, cond-false, eqb-true, eqb-false, eq-eqb}
+use Rattle.std.proofs.lemmas.Bool.{false≢true, cases_Bool, or_left, or_right, or_parts, or_from, and_from, and_cases, not-false, cond-true}
+use Rattle.std.proofs.lemmas.Bool.{cond-false, eqb-true, eqb-false, eq-eqb}
 use Rattle.bw_lang.specs.declared.items.Attr.{Attr}
 use Rattle.bw_lang.specs.declared.items.AttrValue.{AttrValue}
 use Rattle.bw_lang.specs.declared.items.AttrValue.TheVariants.{Fixed, Hole}
@@ -40,13 +41,18 @@ pub below_plugged_right : (B A : Graph) (g : ℕ) → AreWithin A (plugged B g A
 below_plugged_right B A g = record {
   edges = λ n h m k. or_left (B.edge n h m || A.edge n h m) ((h == g) && (B.track g n && A.root m)) (or_right (B.edge n h m) (A.edge n h m) k);
   labels = λ n h s k. or_right (B.label n h s) (A.label n h s) k;
-  tracks = λ h n k. elim (h == g) as (λ b. (if b then A.track h n else (B.track h n || A.track h n)) ≡ true) [ true ↦ k | false ↦ or_right (B.track h n) (A.track h n) k ];
+  tracks = λ h n k. elim (h == g) as (λ b. (if b then A.track h n else (B.track h n || A.track h n)) ≡ true) [
+    | true ↦ k
+    | false ↦ or_right
+        (B.track h n) (A.track h n) k
+  ];
 }
 
 -- an attribute's value with a gap of another name
 plug_value : (B A : Graph) (g : ℕ) {n : ℕ} {u v : AttrValue} → is_hole g u ≡ false → FillsValue B n u v → FillsValue (plugged B g A) n u v
 plug_value B A g q kept = kept
-plug_value B A g q (left_open {n = n} {g = h} k) = left_open (cond-false (h == g) (A.track h n) (B.track h n || A.track h n) q ∙ or_left (B.track h n) (A.track h n) k)
+plug_value B A g q (left_open {n = n} {g = h} k) = left_open (cond-false (h == g) (A.track h n) (B.track h n || A.track h n) q
+    ∙ or_left (B.track h n) (A.track h n) k)
 plug_value B A g q (said_in {n = n} {g = h} {s = s} k) = said_in (or_left (B.label n h s) (A.label n h s) k)
 
 plug_attrs : (B A : Graph) (g : ℕ) {n : ℕ} {a b : List Attr} → holes g a ≡ false → FillsAttrs B n a b → FillsAttrs (plugged B g A) n a b
@@ -67,7 +73,8 @@ module _ (templates : ℕ → Forest) (B A : Graph) (g m : ℕ) (e : Forest) (co
   fills_plug q (said {n = n} {g = h} {s = s} k r) = said (or_left (B.label n h s) (A.label n h s) k) (fills_plug q r)
   fills_plug q (led {n = n} {g = h} {m = k} {t = t} {d = d} {e = f} l r s) =
       subst (Fills templates (plugged B g A) n (gap h t)) (sym (plug-append g e f d))
-      (led (or_left (B.edge n h k || A.edge n h k) ((h == g) && (B.track g n && A.root k)) (or_left (B.edge n h k) (A.edge n h k) l)) (fills_plug (content k) r) (fills_plug q s))
+      (led (or_left (B.edge n h k || A.edge n h k) ((h == g) && (B.track g n && A.root k)) (or_left (B.edge n h k) (A.edge n h k) l))
+      (fills_plug (content k) r) (fills_plug q s))
   fills_plug q (left {n = n} {g = h} {t = t} {d = d} k r) = elim (cases_Bool (h == g)) [
     | inl same ↦ subst (Fills templates (plugged B g A) n (gap h t)) (sym (cond-true (h == g) (append e (doc.plug g e d)) (gap h (doc.plug g e d)) same))
         (led (or_right (B.edge n h m || A.edge n h m) ((h == g) && (B.track g n && A.root m))
@@ -89,7 +96,8 @@ attrs_hole g q (more {u = u} {v = v} {a = a} {b = b} k r) =
     let l = or_parts (is_hole g u) (holes g a) q in
     or_from (is_hole g v) (holes g b) (value_hole g l.0 k) (attrs_hole g l.1 r)
 
-fills_hole : {templates : ℕ → Forest} {G : Graph} {n : ℕ} {t d : Forest} (g : ℕ) → ((n : ℕ) → has_hole g (templates n) ≡ false) → has_hole g t ≡ false → Fills templates G n t d → has_hole g d ≡ false
+fills_hole : {templates : ℕ → Forest} {G : Graph} {n : ℕ} {t d : Forest} (g : ℕ) → ((n : ℕ) → has_hole g (templates n) ≡ false) → has_hole g t ≡ false
+    → Fills templates G n t d → has_hole g d ≡ false
 fills_hole g c q end = q
 fills_hole g c q (words r) = fills_hole g c q r
 fills_hole g c q (inside {a = a} {b = b} {i = i} {j = j} {t = t} {d = d} p r s) =
@@ -120,7 +128,9 @@ covers_plug templates gaps B A g d e content b a o =
 
 module _ (templates : ℕ → Forest) (B : Graph) (g : ℕ) (s : List ℕ) (strings : List ℕ → Bool) (is_in : strings s ≡ true) where
   new_label : {n h : ℕ} → (h == g) ≡ true → B.track h n ≡ true → (plugged_text B g strings).label n h s ≡ true
-  new_label {n} {h} same k = or_right (B.label n h s) ((h == g) && (B.track g n && strings s)) (and_from (h == g) (B.track g n && strings s) same (and_from (B.track g n) (strings s) (subst (λ x. B.track x n ≡ true) (eqb-true h g same) k) is_in))
+  new_label {n} {h} same k = or_right (B.label n h s) ((h == g) && (B.track g n && strings s))
+      (and_from (h == g) (B.track g n && strings s) same (and_from (B.track g n) (strings s)
+      (subst (λ x. B.track x n ≡ true) (eqb-true h g same) k) is_in))
 
   value_text : {n : ℕ} {u v : AttrValue} → FillsValue B n u v → FillsValue (plugged_text B g strings) n u (filled_value g s v)
   value_text kept = kept
@@ -143,8 +153,11 @@ module _ (templates : ℕ → Forest) (B : Graph) (g : ℕ) (s : List ℕ) (stri
   fills_text (led {n = n} {g = h} {t = t} {d = d} {e = f} l r q) =
       subst (Fills templates (plugged_text B g strings) n (gap h t)) (sym (plug_text-append g s f d)) (led l (fills_text r) (fills_text q))
   fills_text (left {n = n} {g = h} {t = t} {d = d} k q) = elim (cases_Bool (h == g)) [
-    | inl same ↦ subst (Fills templates (plugged_text B g strings) n (gap h t)) (sym (cond-true (h == g) (text s (doc.plug_text g s d)) (gap h (doc.plug_text g s d)) same)) (said (new_label same k) (fills_text q))
-    | inr other ↦ subst (Fills templates (plugged_text B g strings) n (gap h t)) (sym (cond-false (h == g) (text s (doc.plug_text g s d)) (gap h (doc.plug_text g s d)) other)) (left (cond-false (h == g) false (B.track h n) other ∙ k) (fills_text q))
+    | inl same ↦ subst (Fills templates (plugged_text B g strings) n (gap h t))
+        (sym (cond-true (h == g) (text s (doc.plug_text g s d)) (gap h (doc.plug_text g s d)) same)) (said (new_label same k) (fills_text q))
+    | inr other ↦ subst (Fills templates (plugged_text B g strings) n (gap h t))
+        (sym (cond-false (h == g) (text s (doc.plug_text g s d)) (gap h (doc.plug_text g s d)) other))
+        (left (cond-false (h == g) false (B.track h n) other ∙ k) (fills_text q))
   ]
 
   -- plugging a string keeps covering, for a gap of either kind
@@ -169,7 +182,8 @@ module _ (templates : ℕ → Forest) (n : ℕ) (G : Graph) (tracked : (g : ℕ)
   fills_itself : (t : Forest) → ((g : ℕ) → opens g t ≡ true → opens g (templates n) ≡ true) → Fills templates G n t t
   fills_itself none h = end
   fills_itself (text s t) h = words (fills_itself t h)
-  fills_itself (gap k t) h = left (tracked k (h k (or_left (k == k) (opens k t) (eq-eqb k k refl)))) (fills_itself t (λ g o. h g (or_right (k == g) (opens g t) o)))
+  fills_itself (gap k t) h = left (tracked k (h k (or_left (k == k) (opens k t) (eq-eqb k k refl))))
+      (fills_itself t (λ g o. h g (or_right (k == g) (opens g t) o)))
   fills_itself (element tag a i t) h = inside
       (attrs_itself a (λ g o. h g (or_left (holes g a) (opens g i || opens g t) o)))
       (fills_itself i (λ g o. h g (or_right (holes g a) (opens g i || opens g t) (or_left (opens g i) (opens g t) o))))
@@ -180,7 +194,8 @@ pub covers_constant : (templates : ℕ → Forest) (gaps : ℕ → Bool) (n : �
 covers_constant templates gaps n = record {
   root = n;
   is_root = eq-eqb n n refl;
-  unfolds = fills_itself templates n (constant templates gaps n) (λ g o. and_from (n == n) (opens g (templates n)) (eq-eqb n n refl) o) (templates n) (λ g o. o);
+  unfolds = fills_itself templates n (constant templates gaps n) (λ g o. and_from (n == n) (opens g (templates n)) (eq-eqb n n refl) o) (templates n)
+      (λ g o. o);
   has_open = λ g k l. by_test (gaps g) (opens g (templates n)) k l;
 }
   where
@@ -189,7 +204,8 @@ covers_constant templates gaps n = record {
     by_test false b k l = absurd (false≢true k)
 
 -- what a graph covers is covered by each graph above it
-pub covers_more : (templates : ℕ → Forest) (gaps : ℕ → Bool) (G H : Graph) (d : Forest) → AreWithin G H → ((n : ℕ) → G.root n ≡ true → H.root n ≡ true) → ((g : ℕ) → G.lack g ≡ true → H.lack g ≡ true)
+pub covers_more : (templates : ℕ → Forest) (gaps : ℕ → Bool) (G H : Graph) (d : Forest) → AreWithin G H
+    → ((n : ℕ) → G.root n ≡ true → H.root n ≡ true) → ((g : ℕ) → G.lack g ≡ true → H.lack g ≡ true)
     → Covers templates gaps G d → Covers templates gaps H d
 covers_more templates gaps G H d b roots lacks c = record {
   root = c.root;

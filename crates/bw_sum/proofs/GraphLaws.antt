@@ -1,11 +1,10 @@
 -- The operations on summaries, by their members.
-use Rattle.std.specs.Prelude.{◌≡◌, ℕ, zero, suc, nat_lt, Bool, true, false, ◌||◌, ◌&&◌, not, cond, if◌then◌else◌, ◌==◌, List, [], ◌∷◌}
-use Rattle.std.proofs.Common.{refl, sym, ap, ◌∙◌, arith, inl, inr}
-use Rattle.std.specs.declared.cmp.Ordering.{Ordering}
+use Rattle.std.specs.Prelude.{◌≡◌, ℕ, Bool, true, false, ◌||◌, ◌&&◌, not, cond, if◌then◌else◌, ◌==◌, List, [], ◌∷◌}
+use Rattle.std.proofs.Common.{refl, sym, ap, ◌∙◌, arith}
 use Rattle.std.specs.declared.cmp.Ordering.TheVariants.{Equal}
 use Rattle.std.specs.Ordering.{nat_cmp, is_eq}
 use Rattle.std.proofs.lemmas.Cmp.{nat_cmp_total}
-use Rattle.std.proofs.lemmas.Bool.{cases_Bool, false≢true}
+use Rattle.std.proofs.lemmas.Bool.{false≢true}
 use Rattle.std.proofs.lemmas.Bool.Decides.{nat_tests}
 use Rattle.bw_solve.specs.Sets.{IsSet, has, merge, sifted}
 use Rattle.bw_solve.specs.SetLaws.{merge_has, sifted_has}
@@ -13,17 +12,14 @@ use Rattle.bw_solve.specs.Tables.{found}
 use Rattle.bw_solve.specs.TableLaws.{join_at}
 use Rattle.bw_strings.specs.declared.strings.StrSet.{StrSet}
 use Rattle.bw_strings.specs.declared.strings.StrSet.TheVariants.{Any, Of}
-use Rattle.bw_strings.specs.Strings.{IsWellFormed, both, is_none}
+use Rattle.bw_strings.specs.Strings.{IsWellFormed, is_none}
 use Rattle.bw_strings.specs.StringLaws.{strings_lattice, none_least, none_left, none_right, below_none}
-use Rattle.bw_sum.specs.Labels.{pair_cmp, AreLabels, both_labels, labels_at, IsHeld}
+use Rattle.bw_sum.specs.Labels.{pair_cmp, AreLabels, both_labels, labels_at}
 use Rattle.bw_sum.specs.LabelLaws.{pair_cmp_total}
 use Rattle.bw_sum.specs.Edges.{edge_cmp, edges_at}
-use Rattle.bw_sum.proofs.PartLaws.{edges_at_has, labels_at_found, is_eq_then, is_eq_nat, eq_back, is_eq2}
+use Rattle.bw_sum.proofs.PartLaws.{edges_at_has, labels_at_found, is_eq_then, is_eq_nat, eq_back}
 use Rattle.bw_sum.specs.SummaryLaws.{edge_cmp_total}
-use Rattle.bw_sum.specs.Summaries as summaries
 use Rattle.bw_sum.proofs.NewLabels.{labels_at_are}
-use Rattle.bw_sum.specs.Summaries.{AreAlike}
-use Rattle.bw_sum.specs.declared.summary.Summary.{Summary}
 use Rattle.bw_sum.specs.Laws.{JoinByMembers, PlugByMembers, PlugTextByMembers}
 use Rattle.bw_strings.specs.Asking.{has_string}
 use Rattle.bw_strings.proofs.Members.{joins_by_strings}
@@ -62,10 +58,12 @@ keep_same others g x y e =
     let same : x ≡ y = grind (arith, nat_tests) in
     ap (λ k. (k == g) || has nat_cmp others k) same
 
-pub other_tracks : (tracks : List (ℕ × ℕ)) (g h n : ℕ) → has pair_cmp (sifted pair_cmp (λ t. not (t.0 == g)) [] tracks) (h, n) ≡ (has pair_cmp tracks (h, n) && not (h == g))
+pub other_tracks : (tracks : List (ℕ × ℕ)) (g h n : ℕ) → has pair_cmp (sifted pair_cmp (λ t. not (t.0 == g)) [] tracks) (h, n) ≡
+    (has pair_cmp tracks (h, n) && not (h == g))
 other_tracks tracks g h n = sifted_has pair_cmp_total (λ t. not (t.0 == g)) (first_same g) [] tracks (h, n)
 
-pub lacking : (others lacks : List ℕ) (g h : ℕ) → has nat_cmp (sifted nat_cmp (λ k. (k == g) || has nat_cmp others k) [] lacks) h ≡ (has nat_cmp lacks h && ((h == g) || has nat_cmp others h))
+pub lacking : (others lacks : List ℕ) (g h : ℕ) → has nat_cmp (sifted nat_cmp (λ k. (k == g) || has nat_cmp others k) [] lacks) h ≡
+    (has nat_cmp lacks h && ((h == g) || has nat_cmp others h))
 lacking others lacks g h = sifted_has nat_cmp_total (λ k. (k == g) || has nat_cmp others k) (keep_same others g) [] lacks h
 
 tracks_if : (e b a : Bool) → ((b && not e) || a) ≡ (if e then a else (b || a))
@@ -115,14 +113,16 @@ and_assoc true q r = refl
 and_assoc false q r = refl
 
 new_label : (literals : List (List ℕ)) (tracks : List (ℕ × ℕ)) (g n h : ℕ) (t : List ℕ) (s : StrSet) (b : Bool) → is_none s ≡ b
-    → has_string literals (found pair_cmp (Of []) (if b then [] else labels_at tracks g s) (n, h)) t ≡ ((h == g) && (has pair_cmp tracks (g, n) && has_string literals s t))
+    → has_string literals (found pair_cmp (Of []) (if b then [] else labels_at tracks g s) (n, h)) t ≡
+    ((h == g) && (has pair_cmp tracks (g, n) && has_string literals s t))
 new_label literals tracks g n h t s true e =
     sym (ap (λ c. (h == g) && (has pair_cmp tracks (g, n) && c)) (no_strings literals s t e) ∙ false_and (h == g) (has pair_cmp tracks (g, n)))
 new_label literals tracks g n h t s false e =
     ap (λ v. has_string literals v t) (labels_at_found tracks g s n h) ∙ chosen_strings literals ((h == g) && has pair_cmp tracks (g, n)) s t
     ∙ and_assoc (h == g) (has pair_cmp tracks (g, n)) (has_string literals s t)
 
-pub new_are : (tracks : List (ℕ × ℕ)) (g : ℕ) (s : StrSet) (b : Bool) → is_none s ≡ b → IsSet pair_cmp tracks → IsWellFormed s → AreLabels (if b then [] else labels_at tracks g s)
+pub new_are : (tracks : List (ℕ × ℕ)) (g : ℕ) (s : StrSet) (b : Bool) → is_none s ≡ b → IsSet pair_cmp tracks → IsWellFormed s
+    → AreLabels (if b then [] else labels_at tracks g s)
 new_are tracks g s true e h f = tt
 new_are tracks g s false e h f = labels_at_are tracks g s h (f, below_none s ∙ e)
 
@@ -142,7 +142,8 @@ pub plugs_text : PlugTextByMembers
 plugs_text literals b g s h f = record {
   root = λ n. refl;
   edge = λ n k m. refl;
-  label = λ n k t. labels_both literals b.texts (if is_none s then [] else labels_at b.tracks g s) n k t h.1.1.0.0 (new_are b.tracks g s (is_none s) refl h.1.1.1.0.0 f)
+  label = λ n k t. labels_both literals b.texts (if is_none s then [] else labels_at b.tracks g s) n k t h.1.1.0.0
+      (new_are b.tracks g s (is_none s) refl h.1.1.1.0.0 f)
       ∙ ap (λ c. has_string literals (found pair_cmp (Of []) b.texts (n, k)) t || c) (new_label literals b.tracks g n k t s (is_none s) refl);
   track = λ k n. other_tracks b.tracks g k n ∙ tracks_off (k == g) (has pair_cmp b.tracks (k, n));
   lack = λ k. merge_has nat_cmp_total b.lacks (g ∷ []) k ∙ ap (λ c. has nat_cmp b.lacks k || (c || false)) (is_eq_nat g k ∙ eq_back g k)

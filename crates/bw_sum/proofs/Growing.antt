@@ -1,24 +1,23 @@
 -- What plugs make grows with their parts.
 use Rattle.std.specs.Prelude.{◌≡◌, ℕ, Bool, true, false, ◌||◌, ◌&&◌, cond, if◌then◌else◌, ◌==◌, List, [], ◌∷◌}
-use Rattle.std.proofs.Common.{refl, sym, ap, ◌∙◌, subst}
+use Rattle.std.proofs.Common.{refl, sym, ◌∙◌, subst}
 use Rattle.std.specs.Ordering.{nat_cmp}
 use Rattle.std.proofs.lemmas.Cmp.{nat_cmp_total}
 use Rattle.std.proofs.lemmas.Bool.{false≢true, and_parts, and_from}
 use Rattle.bw_solve.specs.Sets.{IsSet, has, is_within}
-use Rattle.bw_solve.specs.SetLaws.{has_within, within_by, merge_set}
-use Rattle.bw_solve.specs.Lattice.{IsLattice}
+use Rattle.bw_solve.specs.SetLaws.{has_within, within_by}
 use Rattle.bw_solve.specs.Tables.{found}
 use Rattle.bw_solve.specs.TableLaws.{below_by, below_at}
 use Rattle.bw_strings.specs.declared.strings.StrSet.{StrSet}
 use Rattle.bw_strings.specs.declared.strings.StrSet.TheVariants.{Any, Of}
 use Rattle.bw_strings.specs.Strings as strings
-use Rattle.bw_strings.specs.StringLaws.{strings_lattice, none_least, none_left, none_right, below_none}
+use Rattle.bw_strings.specs.StringLaws.{strings_lattice, none_least, none_left, none_right}
 use Rattle.bw_sum.specs.Labels.{pair_cmp, AreLabels, are_below, both_labels, labels_at}
 use Rattle.bw_sum.specs.LabelLaws.{pair_cmp_total, labels_lattice}
 use Rattle.bw_sum.specs.Edges.{edge_cmp}
 use Rattle.bw_sum.proofs.PartLaws.{labels_at_found}
 use Rattle.bw_sum.specs.SummaryLaws.{edge_cmp_total}
-use Rattle.bw_sum.specs.Summaries.{AreAlike, is_below, plugged, plugged_text}
+use Rattle.bw_sum.specs.Summaries.{is_below, plugged, plugged_text}
 use Rattle.bw_sum.specs.declared.summary.Summary.{Summary}
 use Rattle.bw_sum.specs.Graph.{Graph, graph}
 use Rattle.bw_sum.specs.Laws.{BelowByMembers, PlugGrows, PlugTextGrows}
@@ -46,12 +45,15 @@ pub record Grows (G H : Graph) : Type 0 where
   pub lack : (g : ℕ) → G.lack g ≡ true → H.lack g ≡ true
 
 abbrev parts_below : Summary → Summary → Type 0
-parts_below a b = (is_within nat_cmp a.roots b.roots ≡ true) × (is_within edge_cmp a.edges b.edges ≡ true) × (are_below a.texts b.texts ≡ true) × (is_within pair_cmp a.tracks b.tracks ≡ true) × (is_within nat_cmp a.lacks b.lacks ≡ true)
+parts_below a b = (is_within nat_cmp a.roots b.roots ≡ true) × (is_within edge_cmp a.edges b.edges ≡ true) × (are_below a.texts b.texts ≡ true)
+    × (is_within pair_cmp a.tracks b.tracks ≡ true) × (is_within nat_cmp a.lacks b.lacks ≡ true)
 
 split : (a b : Summary) → is_below a b ≡ true → parts_below a b
 split a b h =
-    let p = and_parts (is_within nat_cmp a.roots b.roots) (is_within edge_cmp a.edges b.edges && (are_below a.texts b.texts && (is_within pair_cmp a.tracks b.tracks && is_within nat_cmp a.lacks b.lacks))) h in
-    let q = and_parts (is_within edge_cmp a.edges b.edges) (are_below a.texts b.texts && (is_within pair_cmp a.tracks b.tracks && is_within nat_cmp a.lacks b.lacks)) p.1 in
+    let p = and_parts (is_within nat_cmp a.roots b.roots) (is_within edge_cmp a.edges b.edges &&
+    (are_below a.texts b.texts && (is_within pair_cmp a.tracks b.tracks && is_within nat_cmp a.lacks b.lacks))) h in
+    let q = and_parts (is_within edge_cmp a.edges b.edges) (are_below a.texts b.texts &&
+    (is_within pair_cmp a.tracks b.tracks && is_within nat_cmp a.lacks b.lacks)) p.1 in
     let r = and_parts (are_below a.texts b.texts) (is_within pair_cmp a.tracks b.tracks && is_within nat_cmp a.lacks b.lacks) q.1 in
     let t = and_parts (is_within pair_cmp a.tracks b.tracks) (is_within nat_cmp a.lacks b.lacks) r.1 in
     (p.0, q.0, r.0, t.0, t.1)
@@ -66,7 +68,8 @@ grows a b h = let p = split a b h in record {
 
 whole : (a b : Summary) → Grows (graph [] a) (graph [] b) → are_below a.texts b.texts ≡ true → is_below a b ≡ true
 whole a b h t =
-    and_from (is_within nat_cmp a.roots b.roots) (is_within edge_cmp a.edges b.edges && (are_below a.texts b.texts && (is_within pair_cmp a.tracks b.tracks && is_within nat_cmp a.lacks b.lacks)))
+    and_from (is_within nat_cmp a.roots b.roots) (is_within edge_cmp a.edges b.edges &&
+    (are_below a.texts b.texts && (is_within pair_cmp a.tracks b.tracks && is_within nat_cmp a.lacks b.lacks)))
     (within_by nat_cmp_total a.roots b.roots (λ z. h.root z))
     (and_from (is_within edge_cmp a.edges b.edges) (are_below a.texts b.texts && (is_within pair_cmp a.tracks b.tracks && is_within nat_cmp a.lacks b.lacks))
     (within_by edge_cmp_total a.edges b.edges (λ z. h.edge z.0 z.1 z.2))
@@ -75,7 +78,8 @@ whole a b h t =
     (within_by pair_cmp_total a.tracks b.tracks (λ z. h.track z.0 z.1))
     (within_by nat_cmp_total a.lacks b.lacks (λ z. h.lack z)))))
 
-labels_more : (a b c d : List ((ℕ × ℕ) × StrSet)) → AreLabels a → AreLabels b → AreLabels c → AreLabels d → are_below a c ≡ true → are_below b d ≡ true → are_below (both_labels a b) (both_labels c d) ≡ true
+labels_more : (a b c d : List ((ℕ × ℕ) × StrSet)) → AreLabels a → AreLabels b → AreLabels c → AreLabels d → are_below a c ≡ true
+    → are_below b d ≡ true → are_below (both_labels a b) (both_labels c d) ≡ true
 labels_more a b c d la lb lc ld p q =
     let L = labels_lattice in
     let lj : AreLabels (both_labels c d) = (L.join_alike c d (lc, ld)).0 in
@@ -109,9 +113,11 @@ plug_grows b c g a d s t p q =
     let D = graph [] d in
     whole (plugged b g a) (plugged c g d) (record {
       root = λ n h. u.root n h;
-      edge = λ n k m h. r.edge n k m ∙ or_more (B.edge n k m || A.edge n k m) ((k == g) && (B.track g n && A.root m)) (C.edge n k m || D.edge n k m) ((k == g) && (C.track g n && D.root m))
+      edge = λ n k m h. r.edge n k m ∙ or_more (B.edge n k m || A.edge n k m) ((k == g) && (B.track g n && A.root m)) (C.edge n k m || D.edge n k m)
+          ((k == g) && (C.track g n && D.root m))
           (or_more (B.edge n k m) (A.edge n k m) (C.edge n k m) (D.edge n k m) (u.edge n k m) (v.edge n k m))
-          (and_more (k == g) (B.track g n && A.root m) (k == g) (C.track g n && D.root m) (λ e. e) (and_more (B.track g n) (A.root m) (C.track g n) (D.root m) (u.track g n) (v.root m)))
+          (and_more (k == g) (B.track g n && A.root m) (k == g) (C.track g n && D.root m) (λ e. e)
+          (and_more (B.track g n) (A.root m) (C.track g n) (D.root m) (u.track g n) (v.root m)))
           (sym (l.edge n k m) ∙ h);
       track = λ k n h. r.track k n ∙ if_more (k == g) (A.track k n) (B.track k n || A.track k n) (D.track k n) (C.track k n || D.track k n) (v.track k n)
           (or_more (B.track k n) (A.track k n) (C.track k n) (D.track k n) (u.track k n) (v.track k n)) (sym (l.track k n) ∙ h);
@@ -130,7 +136,8 @@ new_below ts us g n k s r h p = go (k == g) (has pair_cmp ts (g, n)) (has pair_c
     go true true true i = p
     go true true false i = absurd (false≢true (i refl))
 
-at_new : (ts : List (ℕ × ℕ)) (g n k : ℕ) (s : StrSet) (b : Bool) → strings.is_none s ≡ b → found pair_cmp (Of []) (if b then [] else labels_at ts g s) (n, k) ≡ cond ((k == g) && has pair_cmp ts (g, n)) s (Of [])
+at_new : (ts : List (ℕ × ℕ)) (g n k : ℕ) (s : StrSet) (b : Bool) → strings.is_none s ≡ b
+    → found pair_cmp (Of []) (if b then [] else labels_at ts g s) (n, k) ≡ cond ((k == g) && has pair_cmp ts (g, n)) s (Of [])
 at_new ts g n k s false e = labels_at_found ts g s n k
 at_new ts g n k (Of []) true e = same ((k == g) && has pair_cmp ts (g, n))
   where
@@ -140,20 +147,29 @@ at_new ts g n k (Of []) true e = same ((k == g) && has pair_cmp ts (g, n))
 at_new ts g n k (Of (x ∷ xs)) true e = absurd (false≢true e)
 at_new ts g n k Any true e = absurd (false≢true e)
 
-new_more : (ts us : List (ℕ × ℕ)) (g : ℕ) (s r : StrSet) → IsSet pair_cmp ts → IsSet pair_cmp us → strings.IsWellFormed s → strings.IsWellFormed r → ((n : ℕ) → has pair_cmp ts (g, n) ≡ true → has pair_cmp us (g, n) ≡ true) → strings.is_below s r ≡ true
+new_more : (ts us : List (ℕ × ℕ)) (g : ℕ) (s r : StrSet) → IsSet pair_cmp ts → IsSet pair_cmp us → strings.IsWellFormed s → strings.IsWellFormed r
+    → ((n : ℕ) → has pair_cmp ts (g, n) ≡ true → has pair_cmp us (g, n) ≡ true) → strings.is_below s r ≡ true
     → are_below (if strings.is_none s then [] else labels_at ts g s) (if strings.is_none r then [] else labels_at us g r) ≡ true
 new_more ts us g s r i j f e h p =
-    below_by pair_cmp_total strings_lattice (Of []) (tt, tt) (λ v w. none_least v) none_left none_right (if strings.is_none s then [] else labels_at ts g s) (if strings.is_none r then [] else labels_at us g r)
+    below_by pair_cmp_total strings_lattice (Of []) (tt, tt) (λ v w. none_least v) none_left none_right
+    (if strings.is_none s then [] else labels_at ts g s) (if strings.is_none r then [] else labels_at us g r)
     (new_are ts g s (strings.is_none s) refl i f) (new_are us g r (strings.is_none r) refl j e)
-    (λ k. subst (λ v. strings.is_below v (found pair_cmp (Of []) (if strings.is_none r then [] else labels_at us g r) k) ≡ true) (sym (at_new ts g k.0 k.1 s (strings.is_none s) refl))
+    (λ k. subst (λ v. strings.is_below v (found pair_cmp (Of []) (if strings.is_none r then [] else labels_at us g r) k) ≡ true)
+    (sym (at_new ts g k.0 k.1 s (strings.is_none s) refl))
     (subst (λ v. strings.is_below (cond ((k.1 == g) && has pair_cmp ts (g, k.0)) s (Of [])) v ≡ true) (sym (at_new us g k.0 k.1 r (strings.is_none r) refl))
     (new_below ts us g k.0 k.1 s r (h k.0) p)))
 
 -- a plug of strings grows with its base and with the strings
 pub text_grows : PlugTextGrows
 text_grows b c g s r i f p q =
-    let l = plugs_text [] b g s ((i.0.0, i.0.0), ((i.1.0.0, i.1.0.0), ((i.1.1.0.0, i.1.1.0.0), ((i.1.1.1.0.0, i.1.1.1.0.0), (i.1.1.1.1.0, i.1.1.1.1.0))))) f.0 in
-    let m = plugs_text [] c g r ((i.0.1, i.0.1), ((i.1.0.1, i.1.0.1), ((i.1.1.0.1, i.1.1.0.1), ((i.1.1.1.0.1, i.1.1.1.0.1), (i.1.1.1.1.1, i.1.1.1.1.1))))) f.1 in
+    let l = plugs_text [] b g s (
+      (i.0.0, i.0.0),
+      ((i.1.0.0, i.1.0.0), ((i.1.1.0.0, i.1.1.0.0), ((i.1.1.1.0.0, i.1.1.1.0.0), (i.1.1.1.1.0, i.1.1.1.1.0)))),
+    ) f.0 in
+    let m = plugs_text [] c g r (
+      (i.0.1, i.0.1),
+      ((i.1.0.1, i.1.0.1), ((i.1.1.0.1, i.1.1.0.1), ((i.1.1.1.0.1, i.1.1.1.0.1), (i.1.1.1.1.1, i.1.1.1.1.1)))),
+    ) f.1 in
     let u = grows b c p in
     let B = graph [] b in
     let C = graph [] c in

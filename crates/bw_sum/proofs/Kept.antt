@@ -1,5 +1,5 @@
 -- What a summary covers stays covered.
-use Rattle.std.proofs.Common.{◌≡◌, ℕ, true, ◌∙◌}
+use Rattle.std.proofs.Common.{◌∙◌}
 use Rattle.std.specs.Prelude.{nat_lt}
 use Rattle.bw_strings.specs.Asking.{has_string}
 use Rattle.bw_sum.specs.Graph.{Graph, Same, IsBelow, graph}
@@ -31,8 +31,10 @@ plug_covers literals templates gaps b g a d e alike content is_open covers cover
 
 pub plug_text_covers : PlugTextCovers
 plug_text_covers literals templates gaps b g s d t alike well_formed has covers =
-    covers_below templates gaps (graphs.plugged_text (graph literals b) g (has_string literals s)) _ _ (same_below _ _ (plugs_text literals b g s alike well_formed))
+    covers_below templates gaps (graphs.plugged_text (graph literals b) g (has_string literals s)) _ _
+    (same_below _ _ (plugs_text literals b g s alike well_formed))
     (covers_text templates (graph literals b) g t (has_string literals s) has gaps d covers)
 
 pub below_covers : BelowCovers
-below_covers literals templates gaps a b d alike below = covers_below templates gaps (graph literals a) (graph literals b) d (below_by_members literals a b alike below)
+below_covers literals templates gaps a b d alike below = covers_below templates gaps (graph literals a) (graph literals b) d
+    (below_by_members literals a b alike below)

@@ -18,12 +18,14 @@ less_second t u g p q h =
 same : (a g : ℕ) → (a == g) ≡ true → a ≡ g
 same a g h = grind (arith, nat_tests)
 
-above : (t : ℕ × ℕ) (ts : List (ℕ × ℕ)) (g : ℕ) (s : StrSet) → t.0 ≡ g → AllByRecursion (λ u. pair_cmp t u ≡ Less) ts → AllByRecursion (λ (f : (ℕ × ℕ) × StrSet). pair_cmp (t.1, g) f.0 ≡ Less) (labels_at ts g s)
+above : (t : ℕ × ℕ) (ts : List (ℕ × ℕ)) (g : ℕ) (s : StrSet) → t.0 ≡ g → AllByRecursion (λ u. pair_cmp t u ≡ Less) ts
+    → AllByRecursion (λ (f : (ℕ × ℕ) × StrSet). pair_cmp (t.1, g) f.0 ≡ Less) (labels_at ts g s)
 above t [] g s e h = tt
 above t (u ∷ us) g s e h = go (above t us g s e h.1) (u.0 == g) refl
   where
     go : AllByRecursion (λ (f : (ℕ × ℕ) × StrSet). pair_cmp (t.1, g) f.0 ≡ Less) (labels_at us g s)
-        → (b : Bool) → (u.0 == g) ≡ b → AllByRecursion (λ (f : (ℕ × ℕ) × StrSet). pair_cmp (t.1, g) f.0 ≡ Less) (if b then ((u.1, g), s) ∷ labels_at us g s else labels_at us g s)
+        → (b : Bool) → (u.0 == g) ≡ b → AllByRecursion (λ (f : (ℕ × ℕ) × StrSet). pair_cmp (t.1, g) f.0 ≡ Less)
+        (if b then ((u.1, g), s) ∷ labels_at us g s else labels_at us g s)
     go r true k = (less_second t u g e (same u.0 g k) h.0, r)
     go r false k = r
 

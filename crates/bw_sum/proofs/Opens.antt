@@ -1,6 +1,7 @@
 -- Which gaps are open after a plug.
-use Rattle.std.proofs.Common.{◌≡◌, ◌↔◌, ◌<◌, ℕ, ◌+◌, ◌≤◌, Bool, true, false, ◌||◌, ◌==◌, if◌then◌else◌, cond, List, [], ◌∷◌, map, refl, sym, ap, ◌∙◌, subst, inl, inr, arith, count_by}
-use Rattle.std.proofs.lemmas.Bool.{false≢true, cases_Bool, cases_lt, or_cases, or_left, or_right, or_parts, or_from, cond-true, cond-false, eqb-true}
+use Rattle.std.proofs.Common.{◌≡◌, ◌<◌, ℕ, ◌+◌, ◌≤◌, Bool, true, false, ◌||◌, ◌==◌, cond, List, [], ◌∷◌, map, refl, sym, ap, ◌∙◌, subst}
+use Rattle.std.proofs.Common.{inl, inr, arith, count_by}
+use Rattle.std.proofs.lemmas.Bool.{false≢true, cases_Bool, cases_lt, or_cases, or_left, or_right, or_parts, cond-true, cond-false, eqb-true}
 use Rattle.std.proofs.lemmas.List.Sums.{sum_by-cons}
 use Rattle.bw_lang.specs.declared.items.Attr.{Attr}
 use Rattle.bw_lang.specs.declared.items.AttrValue.{AttrValue}
@@ -20,7 +21,8 @@ opens_append h none e = refl
 opens_append h (text s d) e = opens_append h d e
 opens_append h (gap g d) e = ap (λ b. (g == h) || b) (opens_append h d e) ∙ or_assoc (g == h) (opens h d) (opens h e)
 opens_append h (element tag a i d) e =
-    ap (λ b. holes h a || (opens h i || b)) (opens_append h d e) ∙ ap (λ b. holes h a || b) (or_assoc (opens h i) (opens h d) (opens h e)) ∙ or_assoc (holes h a) (opens h i || opens h d) (opens h e)
+    ap (λ b. holes h a || (opens h i || b)) (opens_append h d e) ∙ ap (λ b. holes h a || b) (or_assoc (opens h i) (opens h d) (opens h e))
+    ∙ or_assoc (holes h a) (opens h i || opens h d) (opens h e)
 
 -- another gap that was open stays open
 pub opens_kept : (h : ℕ) (d : Forest) (g : ℕ) (e : Forest) → (h ≡ g → ⊥) → opens h d ≡ true → opens h (doc.plug g e d) ≡ true
@@ -75,7 +77,8 @@ append_hole g none e = refl
 append_hole g (text s d) e = append_hole g d e
 append_hole g (gap h d) e = append_hole g d e
 append_hole g (element tag a i d) e =
-    ap (λ b. holes g a || (has_hole g i || b)) (append_hole g d e) ∙ ap (λ b. holes g a || b) (or_assoc (has_hole g i) (has_hole g d) (has_hole g e)) ∙ or_assoc (holes g a) (has_hole g i || has_hole g d) (has_hole g e)
+    ap (λ b. holes g a || (has_hole g i || b)) (append_hole g d e) ∙ ap (λ b. holes g a || b) (or_assoc (has_hole g i) (has_hole g d) (has_hole g e))
+    ∙ or_assoc (holes g a) (has_hole g i || has_hole g d) (has_hole g e)
 
 fix_value : (h : ℕ) (v : AttrValue) (g : ℕ) (s : List ℕ) (w : AttrValue) → (h ≡ g → ⊥) → is_hole h v ≡ true → (filled_value g s v ≡ w) → is_hole h w ≡ true
 fix_value h (Fixed r) g s w apart o e = absurd (false≢true o)
@@ -87,7 +90,8 @@ fix_value h (Hole k) g s w apart o e = elim (cases_Bool (k == g)) [
 fix_kept : (h : ℕ) (a : List Attr) (g : ℕ) (s : List ℕ) → (h ≡ g → ⊥) → holes h a ≡ true → holes h (map (filled_attr g s) a) ≡ true
 fix_kept h [] g s apart o = o
 fix_kept h (a ∷ cs) g s apart o = elim (or_cases (is_hole h a.value) (holes h cs) o) [
-  | inl here ↦ or_left (is_hole h (filled_value g s a.value)) (holes h (map (filled_attr g s) cs)) (fix_value h a.value g s (filled_value g s a.value) apart here refl)
+  | inl here ↦ or_left (is_hole h (filled_value g s a.value)) (holes h (map (filled_attr g s) cs))
+      (fix_value h a.value g s (filled_value g s a.value) apart here refl)
   | inr there ↦ or_right (is_hole h (filled_value g s a.value)) (holes h (map (filled_attr g s) cs)) (fix_kept h cs g s apart there)
 ]
 
@@ -96,16 +100,25 @@ text_kept h none g s apart o = o
 text_kept h (text r d) g s apart o = text_kept h d g s apart o
 text_kept h (element tag a i d) g s apart o = elim (or_cases (holes h a) (opens h i || opens h d) o) [
   | inl there ↦ or_left (holes h (map (filled_attr g s) a)) (opens h (doc.plug_text g s i) || opens h (doc.plug_text g s d)) (fix_kept h a g s apart there)
-  | inr below ↦ or_right (holes h (map (filled_attr g s) a)) (opens h (doc.plug_text g s i) || opens h (doc.plug_text g s d)) (elim (or_cases (opens h i) (opens h d) below) [
-    | inl there ↦ or_left (opens h (doc.plug_text g s i)) (opens h (doc.plug_text g s d)) (text_kept h i g s apart there)
-    | inr there ↦ or_right (opens h (doc.plug_text g s i)) (opens h (doc.plug_text g s d)) (text_kept h d g s apart there)
-  ])
+  | inr below ↦ or_right (holes h (map (filled_attr g s) a)) (opens h (doc.plug_text g s i) || opens h (doc.plug_text g s d))
+      (elim (or_cases (opens h i) (opens h d) below) [
+        | inl there ↦ or_left (opens h (doc.plug_text g s i)) (opens h (doc.plug_text g s d)) (text_kept h i g s apart there)
+        | inr there ↦ or_right (opens h (doc.plug_text g s i)) (opens h (doc.plug_text g s d)) (text_kept h d g s apart there)
+      ])
 ]
 text_kept h (gap k d) g s apart o = elim (cases_Bool (k == g)) [
   | inl same ↦ subst (λ w. opens h w ≡ true) (sym (cond-true (k == g) (text s (doc.plug_text g s d)) (gap k (doc.plug_text g s d)) same))
-      (elim (or_cases (k == h) (opens h d) o) [ inl here ↦ absurd (apart (sym (eqb-true k h here) ∙ eqb-true k g same)) | inr there ↦ text_kept h d g s apart there ])
+      (elim (or_cases (k == h) (opens h d) o) [
+        | inl here ↦ absurd (apart (sym (eqb-true k h here) ∙ eqb-true k g same))
+        | inr there ↦ text_kept h d g
+            s apart there
+      ])
   | inr other ↦ subst (λ w. opens h w ≡ true) (sym (cond-false (k == g) (text s (doc.plug_text g s d)) (gap k (doc.plug_text g s d)) other))
-      (elim (or_cases (k == h) (opens h d) o) [ inl here ↦ or_left (k == h) (opens h (doc.plug_text g s d)) here | inr there ↦ or_right (k == h) (opens h (doc.plug_text g s d)) (text_kept h d g s apart there) ])
+      (elim (or_cases (k == h) (opens h d) o) [
+        | inl here ↦ or_left (k == h) (opens h (doc.plug_text g s d)) here
+        | inr there ↦ or_right (k == h)
+            (opens h (doc.plug_text g s d)) (text_kept h d g s apart there)
+      ])
 ]
 
 counted : (b : Bool) (n : ℕ) → b ≡ true → 1 ≤ one_if b + n
@@ -136,7 +149,6 @@ opens_counted g (element tag a i d) h = elim (or_cases (holes g a) (opens g i ||
     | inr there ↦ omega (arith, opens_counted g d there)
   ]
 ]
-
 
 -- a gap that is counted is open
 counted_holes : (g : ℕ) (a : List Attr) → 0 < count_by (λ v. is_hole g v.value) a → holes g a ≡ true

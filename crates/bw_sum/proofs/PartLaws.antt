@@ -1,5 +1,5 @@
 -- The members of what a plug makes.
-use Rattle.std.specs.Prelude.{◌≡◌, ℕ, Bool, true, false, ◌||◌, ◌&&◌, not, cond, if◌then◌else◌, ◌==◌, List, [], ◌∷◌}
+use Rattle.std.specs.Prelude.{◌≡◌, ℕ, Bool, true, false, ◌||◌, ◌&&◌, cond, if◌then◌else◌, ◌==◌, List, [], ◌∷◌}
 use Rattle.std.proofs.Common.{refl, sym, ap, ◌∙◌, arith}
 use Rattle.std.specs.declared.cmp.Ordering.{Ordering}
 use Rattle.std.specs.declared.cmp.Ordering.TheVariants.{Less, Equal, Greater}
@@ -25,7 +25,8 @@ is_eq_nat a b = grind (arith, nat_tests)
 is_eq3 : (n g m a h k : ℕ) → is_eq (edge_cmp (n, g, m) (a, h, k)) ≡ (((n == a) && (g == h)) && (m == k))
 is_eq3 n g m a h k =
     is_eq_then (ordering_then (nat_cmp n a) (nat_cmp g h)) (nat_cmp m k)
-    ∙ ap (λ b. b && is_eq (nat_cmp m k)) (is_eq_then (nat_cmp n a) (nat_cmp g h) ∙ ap (λ b. b && is_eq (nat_cmp g h)) (is_eq_nat n a) ∙ ap (λ b. (n == a) && b) (is_eq_nat g h))
+    ∙ ap (λ b. b && is_eq (nat_cmp m k)) (is_eq_then (nat_cmp n a) (nat_cmp g h) ∙ ap (λ b. b && is_eq (nat_cmp g h)) (is_eq_nat n a)
+    ∙ ap (λ b. (n == a) && b) (is_eq_nat g h))
     ∙ ap (λ b. ((n == a) && (g == h)) && b) (is_eq_nat m k)
 
 or_and : (e p q r : Bool) → ((e || ((p && q) || false)) || (p && r)) ≡ (e || (p && (q || r)))
@@ -74,16 +75,20 @@ edges_at_has edges (t ∷ ts) g roots n h m =
         ≡ (has edge_cmp edges (n, h, m) || ((h == g) && ((is_eq (pair_cmp t (g, n)) || has pair_cmp ts (g, n)) && has nat_cmp roots m)))
     go true e =
         ap (λ b. b || ((h == g) && (has pair_cmp ts (g, n) && has nat_cmp roots m))) (edges_from_has edges t.1 g roots n h m)
-        ∙ ap (λ b. (has edge_cmp edges (n, h, m) || (((t.1 == n) && b) && has nat_cmp roots m)) || ((h == g) && (has pair_cmp ts (g, n) && has nat_cmp roots m))) (eq_back g h)
+        ∙ ap (λ b. (has edge_cmp edges (n, h, m) || (((t.1 == n) && b) && has nat_cmp roots m)) ||
+        ((h == g) && (has pair_cmp ts (g, n) && has nat_cmp roots m))) (eq_back g h)
         ∙ bool_led (has edge_cmp edges (n, h, m)) (t.1 == n) (h == g) (has nat_cmp roots m) (has pair_cmp ts (g, n))
-        ∙ ap (λ b. has edge_cmp edges (n, h, m) || ((h == g) && ((b || has pair_cmp ts (g, n)) && has nat_cmp roots m))) (sym (tested ∙ ap (λ b. b && (t.1 == n)) e))
-    go false e = ap (λ b. has edge_cmp edges (n, h, m) || ((h == g) && ((b || has pair_cmp ts (g, n)) && has nat_cmp roots m))) (sym (tested ∙ ap (λ b. b && (t.1 == n)) e))
+        ∙ ap (λ b. has edge_cmp edges (n, h, m) || ((h == g) && ((b || has pair_cmp ts (g, n)) && has nat_cmp roots m)))
+        (sym (tested ∙ ap (λ b. b && (t.1 == n)) e))
+    go false e = ap (λ b. has edge_cmp edges (n, h, m) || ((h == g) && ((b || has pair_cmp ts (g, n)) && has nat_cmp roots m)))
+        (sym (tested ∙ ap (λ b. b && (t.1 == n)) e))
 
 pub is_eq2 : (a b n g : ℕ) → is_eq (pair_cmp (a, b) (n, g)) ≡ ((a == n) && (b == g))
 is_eq2 a b n g = is_eq_then (nat_cmp a n) (nat_cmp b g) ∙ ap (λ c. c && is_eq (nat_cmp b g)) (is_eq_nat a n) ∙ ap (λ c. (a == n) && c) (is_eq_nat b g)
 
 -- the strings of a new label
-pub labels_at_found : (ts : List (ℕ × ℕ)) (g : ℕ) (s : StrSet) (n h : ℕ) → found pair_cmp (Of []) (labels_at ts g s) (n, h) ≡ cond ((h == g) && has pair_cmp ts (g, n)) s (Of [])
+pub labels_at_found : (ts : List (ℕ × ℕ)) (g : ℕ) (s : StrSet) (n h : ℕ)
+    → found pair_cmp (Of []) (labels_at ts g s) (n, h) ≡ cond ((h == g) && has pair_cmp ts (g, n)) s (Of [])
 labels_at_found [] g s n h = none (h == g)
   where
     none : (b : Bool) → Of [] ≡ cond (b && false) s (Of [])
@@ -101,7 +106,8 @@ labels_at_found (t ∷ ts) g s n h = go (labels_at_found ts g s n h) (t.0 == g) 
     cases false false r s = refl
 
     go : found pair_cmp (Of []) (labels_at ts g s) (n, h) ≡ cond ((h == g) && has pair_cmp ts (g, n)) s (Of []) → (b : Bool) → (t.0 == g) ≡ b
-        → found pair_cmp (Of []) (if b then ((t.1, g), s) ∷ labels_at ts g s else labels_at ts g s) (n, h) ≡ cond ((h == g) && (is_eq (pair_cmp t (g, n)) || has pair_cmp ts (g, n))) s (Of [])
+        → found pair_cmp (Of []) (if b then ((t.1, g), s) ∷ labels_at ts g s else labels_at ts g s) (n, h) ≡ cond
+        ((h == g) && (is_eq (pair_cmp t (g, n)) || has pair_cmp ts (g, n))) s (Of [])
     go r true e =
         ap (λ v. cond (is_eq (pair_cmp (t.1, g) (n, h))) s v) r
         ∙ ap (λ c. cond c s (cond ((h == g) && has pair_cmp ts (g, n)) s (Of []))) (is_eq2 t.1 g n h ∙ ap (λ c. (t.1 == n) && c) (eq_back g h))

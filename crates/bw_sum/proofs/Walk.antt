@@ -1,5 +1,6 @@
 -- Walking along the labels of two summaries.
-use Rattle.std.proofs.Common.{◌≡◌, ℕ, zero, suc, ◌+◌, ◌-◌, ◌<◌, ◌≤◌, Bool, true, false, ◌&&◌, ◌==◌, List, [], ◌∷◌, ◌++◌, length, get_or, take, drop, refl, sym, ap, ◌∙◌, subst, inl, inr, ◌⊎◌, arith, length-drop, append_assoc}
+use Rattle.std.proofs.Common.{◌≡◌, ℕ, zero, suc, ◌+◌, ◌-◌, ◌<◌, ◌≤◌, true, false, ◌&&◌, ◌==◌, List, [], ◌∷◌, ◌++◌, length, get_or, take, drop, refl, sym}
+use Rattle.std.proofs.Common.{ap, ◌∙◌, subst, inl, inr, ◌⊎◌, arith, length-drop, append_assoc}
 use Rattle.std.specs.declared.cmp.Ordering.TheVariants.{Less, Equal, Greater}
 use Rattle.std.proofs.lemmas.List.{append-nil, take_rest, at_drop_all}
 use Rattle.std.proofs.lemmas.Bool.Decides.{nat_tests}
@@ -40,7 +41,8 @@ walk_ends a b i j s h (inr k) done =
     let n : 0 < length (drop i a) = rw length-drop (omega arith) in
     e ∙ sym (none_left_over (drop i a) n (labels_drop a i s)) ∙ sym (at_drop_all (λ ys. are_below (drop i a) ys) b j k.1) ∙ done
 
-module _ (a b : List Label) (i j : ℕ) (x y : Label) (s : AreLabels a) (t : AreLabels b) (h : i < length a) (k : j < length b) (p : x ≡ get_or a i x) (q : y ≡ get_or b j y) where
+module _ (a b : List Label) (i j : ℕ) (x y : Label) (s : AreLabels a) (t : AreLabels b) (h : i < length a) (k : j < length b) (p : x ≡ get_or a i x)
+    (q : y ≡ get_or b j y) where
   sa : AreLabels (x ∷ drop (i + 1) a)
   sa = subst AreLabels (left_at a i x h p) (labels_drop a i s)
 
@@ -51,14 +53,17 @@ module _ (a b : List Label) (i j : ℕ) (x y : Label) (s : AreLabels a) (t : Are
   here = ap (λ xs. are_below xs (drop j b)) (left_at a i x h p) ∙ ap (are_below (x ∷ drop (i + 1) a)) (left_at b j y k q)
 
   pub walk_less : pair_cmp x.0 y.0 ≡ Less → false ≡ are_below (drop i a) (drop j b)
-  walk_less e = sym (here ∙ table_less pair_cmp_total strings_lattice (Of []) (tt, tt) (λ v h. none_least v) none_left none_right x y (drop (i + 1) a) (drop (j + 1) b) sa sb e)
+  walk_less e = sym (here ∙ table_less pair_cmp_total strings_lattice (Of []) (tt, tt) (λ v h. none_least v) none_left none_right x y (drop (i + 1) a)
+      (drop (j + 1) b) sa sb e)
 
   pub walk_same : pair_cmp x.0 y.0 ≡ Equal → (is_below x.1 y.1 && are_below (drop (i + 1) a) (drop (j + 1) b)) ≡ are_below (drop i a) (drop j b)
-  walk_same e = sym (here ∙ table_same pair_cmp_total strings_lattice (Of []) (tt, tt) (λ v h. none_least v) none_left none_right x y (drop (i + 1) a) (drop (j + 1) b) sa e)
+  walk_same e = sym (here ∙ table_same pair_cmp_total strings_lattice (Of []) (tt, tt) (λ v h. none_least v) none_left none_right x y (drop (i + 1) a)
+      (drop (j + 1) b) sa e)
 
   pub walk_more : pair_cmp x.0 y.0 ≡ Greater → are_below (drop i a) (drop (j + 1) b) ≡ are_below (drop i a) (drop j b)
   walk_more e = ap (λ xs. are_below xs (drop (j + 1) b)) (left_at a i x h p)
-      ∙ sym (here ∙ table_more pair_cmp_total strings_lattice (Of []) (tt, tt) (λ v h. none_least v) none_left none_right x y (drop (i + 1) a) (drop (j + 1) b) sa e)
+      ∙ sym (here ∙ table_more pair_cmp_total strings_lattice (Of []) (tt, tt) (λ v h. none_least v) none_left none_right x y (drop (i + 1) a)
+      (drop (j + 1) b) sa e)
 
 -- where one list is empty, the other follows
 ends : (xs ys : List Label) → (length xs ≡ 0) ⊎ (length ys ≡ 0) → both_labels xs ys ≡ xs ++ ys
@@ -67,7 +72,8 @@ ends (x ∷ xs) [] h = sym (append-nil (x ∷ xs))
 ends (x ∷ xs) (y ∷ ys) (inl h) = absurd (omega arith)
 ends (x ∷ xs) (y ∷ ys) (inr h) = absurd (omega arith)
 
-pub join_ends : (a b : List Label) (i j : ℕ) (all mid new : List Label) → mid ≡ all ++ take (length a - i) (drop i a) → new ≡ mid ++ take (length b - j) (drop j b)
+pub join_ends : (a b : List Label) (i j : ℕ) (all mid new : List Label) → mid ≡ all ++ take (length a - i) (drop i a)
+    → new ≡ mid ++ take (length b - j) (drop j b)
     → (length (drop i a) ≡ 0) ⊎ (length (drop j b) ≡ 0) → all ++ both_labels (drop i a) (drop j b) ≡ both_labels a b → new ≡ both_labels a b
 join_ends a b i j all mid new e f k done =
     f ∙ ap (λ l. mid ++ l) (take_rest b j) ∙ ap (λ l. l ++ drop j b) (e ∙ ap (λ l. all ++ l) (take_rest a i)) ∙ append_assoc all (drop i a) (drop j b)

@@ -1,7 +1,9 @@
 -- Laws of summaries.
-use Rattle.std.specs.Prelude.{◌≡◌, ◌↔◌, ◌+◌, ◌<◌, ℕ, Bool, true, false, nat_lt, List}
+use Rattle.std.specs.Prelude.{◌≡◌, ◌↔◌, ◌<◌, ℕ, Bool, true, false, nat_lt, List, length}
+use Rattle.bw_lang.specs.declared.service.Service.{Service}
 use Rattle.bw_lang.specs.Documents as doc
 use Rattle.bw_lang.specs.Forest.{Forest}
+use Rattle.bw_lang.specs.Reads.{IsReadable}
 use Rattle.bw_strings.specs.declared.strings.StrSet.{StrSet}
 use Rattle.bw_strings.specs.Asking.{has_string}
 use Rattle.bw_strings.specs.Strings as strings
@@ -10,21 +12,19 @@ use Rattle.bw_sum.specs.Graph as graphs
 use Rattle.bw_sum.specs.Graph.{graph, Same}
 use Rattle.bw_sum.specs.Opening.{has_hole, opens}
 use Rattle.bw_sum.specs.Summaries.{both, plugged, plugged_text, AreAlike, is_below}
+use Rattle.bw_sum.specs.Templates.{HasKnownGaps, template_items}
 use Rattle.bw_sum.specs.Unfolding.{Covers}
 use Rattle.bw_sum.specs.declared.summary.Summary.{Summary}
 
 -- ---- the operations by their members
-
--- the open gaps of a template are those of a service with so many, and those of the page wrappers
-abbrev pub HasKnownGaps : ℕ → Forest → Type 0
-HasKnownGaps gaps items = (g : ℕ) → opens g items ≡ true → g < gaps + 3
 
 abbrev pub ConstantByMembers : Type 0
 ConstantByMembers = (literals : List (List ℕ)) (templates : ℕ → Forest) (n gaps : ℕ) → HasKnownGaps gaps (templates n)
     → Same (graph literals (constant_of n (templates n) gaps)) (graphs.constant templates (λ g. nat_lt g gaps) n)
 
 abbrev pub JoinByMembers : Type 0
-JoinByMembers = (literals : List (List ℕ)) (a b : Summary) → AreAlike a b → Same (graph literals (both a b)) (graphs.joined (graph literals a) (graph literals b))
+JoinByMembers = (literals : List (List ℕ)) (a b : Summary) → AreAlike a b
+    → Same (graph literals (both a b)) (graphs.joined (graph literals a) (graph literals b))
 
 abbrev pub PlugByMembers : Type 0
 PlugByMembers = (literals : List (List ℕ)) (b : Summary) (g : ℕ) (a : Summary) → AreAlike b a
@@ -41,6 +41,10 @@ BelowByMembers = (literals : List (List ℕ)) (a b : Summary) → AreAlike a b �
 -- a gap is open where some open gap of that name is counted
 abbrev pub OpensByCount : Type 0
 OpensByCount = (g : ℕ) (d : Forest) → (opens g d ≡ true) ↔ (0 < doc.count g d)
+
+-- the templates of a service that some text reads as have known gaps
+abbrev pub ReadGapsAreKnown : Type 0
+ReadGapsAreKnown = (service : Service) → IsReadable service → (n : ℕ) → HasKnownGaps (length service.gaps) (template_items service n)
 
 -- ---- they grow
 
@@ -68,7 +72,8 @@ PlugCovers = (literals : List (List ℕ)) (templates : ℕ → Forest) (gaps : �
 
 -- and with a covered string at a gap of either kind
 abbrev pub PlugTextCovers : Type 0
-PlugTextCovers = (literals : List (List ℕ)) (templates : ℕ → Forest) (gaps : ℕ → Bool) (b : Summary) (g : ℕ) (s : StrSet) (d : Forest) (t : List ℕ) → AreAlike b b
+PlugTextCovers = (literals : List (List ℕ)) (templates : ℕ → Forest) (gaps : ℕ → Bool) (b : Summary) (g : ℕ) (s : StrSet) (d : Forest) (t : List ℕ)
+    → AreAlike b b
     → strings.IsWellFormed s → has_string literals s t ≡ true → Covers templates gaps (graph literals b) d
     → Covers templates gaps (graph literals (plugged_text b g s)) (doc.plug_text g t d)
 

@@ -4,6 +4,7 @@ pub mod Edges
 pub mod Summaries
 pub mod SummaryLaws
 pub mod Opening
+pub mod Templates
 pub mod Constants
 pub mod Graph
 pub mod Unfolding

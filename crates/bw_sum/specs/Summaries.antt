@@ -1,5 +1,5 @@
 -- Summaries of documents: their order, and what plugs make of them.
-use Rattle.std.specs.Prelude.{ℕ, ◌+◌, Bool, ◌&&◌, ◌||◌, ◌==◌, not, if◌then◌else◌, List, [], ◌∷◌, length}
+use Rattle.std.specs.Prelude.{ℕ, ◌+◌, Bool, ◌&&◌, ◌||◌, ◌==◌, not, if◌then◌else◌, [], ◌∷◌, length}
 use Rattle.std.specs.Ordering.{nat_cmp}
 use Rattle.bw_solve.specs.Sets.{IsSet, has, is_within, merge, sifted}
 use Rattle.bw_strings.specs.declared.strings.StrSet.{StrSet}
@@ -43,7 +43,8 @@ AreAlike a b = (IsSet nat_cmp a.roots × IsSet nat_cmp b.roots) × ((IsSet edge_
     × ((AreLabels a.texts × AreLabels b.texts) × ((IsSet pair_cmp a.tracks × IsSet pair_cmp b.tracks) × (IsSet nat_cmp a.lacks × IsSet nat_cmp b.lacks))))
 
 abbrev pub is_below : Summary → Summary → Bool
-is_below a b = is_within nat_cmp a.roots b.roots && (is_within edge_cmp a.edges b.edges && (are_below a.texts b.texts && (is_within pair_cmp a.tracks b.tracks && is_within nat_cmp a.lacks b.lacks)))
+is_below a b = is_within nat_cmp a.roots b.roots && (is_within edge_cmp a.edges b.edges &&
+    (are_below a.texts b.texts && (is_within pair_cmp a.tracks b.tracks && is_within nat_cmp a.lacks b.lacks)))
 
 -- the members of roots, edges, strings, tracks and lacks
 abbrev pub size_of : Summary → ℕ

@@ -1,5 +1,5 @@
 -- The laws of summaries: they are a lattice, part by part.
-use Rattle.std.specs.Prelude.{◌≡◌, ℕ, List}
+use Rattle.std.specs.Prelude.{ℕ, List}
 use Rattle.std.proofs.Common.{refl}
 use Rattle.std.specs.Cmp.{IsTotalOrder}
 use Rattle.std.proofs.lemmas.Cmp.{nat_cmp_total, then_total, on_total}
@@ -20,4 +20,5 @@ parts s = (s.roots, (s.edges, (s.texts, (s.tracks, s.lacks))))
 
 pub summary_lattice : IsLattice {V = Summary} AreAlike is_below both size_of rank_of
 summary_lattice = on_lattice parts both (λ a b. refl)
-    (pair_lattice (set_lattice nat_cmp_total) (pair_lattice (set_lattice edge_cmp_total) (pair_lattice labels_lattice (pair_lattice (set_lattice pair_cmp_total) (set_lattice nat_cmp_total)))))
+    (pair_lattice (set_lattice nat_cmp_total) (pair_lattice (set_lattice edge_cmp_total)
+    (pair_lattice labels_lattice (pair_lattice (set_lattice pair_cmp_total) (set_lattice nat_cmp_total)))))

@@ -104,11 +104,7 @@ fn copied(alloc: Global, label: &Label) -> Result<Label, Memory>
 }
 
 // Labels with equal ones of others behind them.
-fn copied_onto(
-    alloc: Global,
-    labels: Vec<Label>,
-    others: &[Label],
-) -> Result<Vec<Label>, Memory>
+fn copied_onto(alloc: Global, labels: Vec<Label>, others: &[Label]) -> Result<Vec<Label>, Memory>
     ensures { IfOk result (λ v. v.items ≡ labels.items ++ others.now) }
 {
     let mut all = labels;

@@ -1,5 +1,5 @@
 //! Laws of summaries. A law is the contract of an empty function.
-ghost use Rattle.bw_sum.specs.Laws.{ConstantByMembers, JoinByMembers, PlugByMembers, PlugTextByMembers, BelowByMembers, OpensByCount};
+ghost use Rattle.bw_sum.specs.Laws.{ConstantByMembers, JoinByMembers, PlugByMembers, PlugTextByMembers, BelowByMembers, OpensByCount, ReadGapsAreKnown};
 ghost use Rattle.bw_sum.specs.Laws.{PlugGrows, PlugTextGrows, ConstantCovers, PlugCovers, PlugTextCovers, BelowCovers};
 
 /// What the operations on summaries do to the members of each part.
@@ -11,9 +11,10 @@ pub fn operations_by_members()
     ensures below { BelowByMembers }
 {}
 
-/// A gap is open where it is counted.
-pub fn opens_by_count()
-    ensures { OpensByCount }
+/// A gap is open where it is counted, and the gaps of a service's templates have their numbers.
+pub fn gaps_are_known()
+    ensures opens { OpensByCount }
+    ensures read { ReadGapsAreKnown }
 {}
 
 /// A plug grows with its base and with what is plugged.

@@ -19,7 +19,10 @@ fn is_hole(value: &AttrValue, gap: GapId) -> bool
 fn has_hole(attrs: &Attrs, gap: GapId) -> bool
     ensures { result ≡ holes gap attrs.now }
 {
-    attrs.as_slice().iter().any(|attr| is_hole(&attr.value, gap))
+    attrs
+        .as_slice()
+        .iter()
+        .any(|attr| is_hole(&attr.value, gap))
 }
 
 /// Whether a gap is open in some items, in an attribute or between items.

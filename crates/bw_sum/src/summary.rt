@@ -1,13 +1,15 @@
 //! Summaries of documents, and what plugs make of them.
-ghost use Rattle.std.specs.Prelude.{◌≡◌, ◌<◌, ◌^◌, ◌-◌, IfOk, []};
+ghost use Rattle.std.specs.Prelude.{◌≡◌, ◌+◌, ◌<◌, ◌^◌, ◌-◌, length, IfOk, []};
 ghost use Rattle.bw_sum.specs.Constants.{constant_of};
 ghost use Rattle.bw_sum.specs.Summaries.{both, plugged, plugged_text};
+ghost use Rattle.bw_sum.specs.Templates.{template_items};
 ghost use Rattle.bw_sum.specs.declared.summary.Summary.{Summary};
 
 use crate::constants::{lacks_of, tracks_of};
 use crate::labels::Labels;
 use crate::parts::{lacking, new_edges, other_tracks, text_labels};
-use bw_lang::{GapId, Items, Memory, TemplateId};
+use bw_lang::wrappers::{exit_wrapper, show_wrapper};
+use bw_lang::{GapId, Items, Memory, Service, TemplateId};
 use bw_solve::{Lattice, Set};
 use bw_strings::StrSet;
 use std::alloc::{AllocError, Global};
@@ -41,9 +43,32 @@ impl Summary {
         }
     }
 
-    /// The summary of the document that a template is as it stands, in a service of so many gaps. The three gaps of the
-    /// page wrappers have the numbers behind these.
-    fn constant_items(
+    /// The summary of the document that a template of the service, or a page wrapper, is as it stands.
+    fn constant_in(
+        alloc: Global,
+        service: &Service,
+        template: TemplateId,
+    ) -> Result<Summary, Memory>
+        requires gaps { length service.now.gaps < 2 ^ 32 - 3 }
+        requires template { template < length service.now.templates + 2 }
+        ensures { IfOk result (λ s. s ≡ constant_of template (template_items service.now template) (length service.now.gaps)) }
+    {
+        let templates = service.templates.as_slice();
+        let number = template.number() as usize;
+        let gaps = service.gaps.len() as u32;
+        if number < templates.len() {
+            return Summary::constant_of(alloc, template, &templates[number].items, gaps);
+        }
+        let wrapper = if number == templates.len() {
+            show_wrapper(alloc, &service.gaps)?
+        } else {
+            exit_wrapper(alloc, &service.gaps)?
+        };
+        Summary::constant_of(alloc, template, &wrapper, gaps)
+    }
+
+    /// The summary of the template with these items, in a service of so many gaps.
+    fn constant_of(
         alloc: Global,
         template: TemplateId,
         items: &Items,
@@ -104,12 +129,7 @@ impl Summary {
     }
 
     /// The summary of the documents of this one with each open gap of that number filled by one of these strings.
-    pub fn plug_text(
-        &self,
-        alloc: Global,
-        gap: GapId,
-        strings: &StrSet,
-    ) -> Result<Summary, Memory>
+    pub fn plug_text(&self, alloc: Global, gap: GapId, strings: &StrSet) -> Result<Summary, Memory>
         ensures { IfOk result (λ s. s ≡ plugged_text self.now gap strings.now) }
     {
         let new = text_labels(alloc, &self.tracks, gap, strings)?;
