@@ -1,0 +1,9 @@
+pub mod Lattice
+pub mod System
+pub mod Fault
+pub mod Sets
+pub mod SetLaws
+pub mod Products
+pub mod Tables
+pub mod TableLaws
+pub mod Laws

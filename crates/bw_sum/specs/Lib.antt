@@ -1,0 +1,11 @@
+pub mod Labels
+pub mod LabelLaws
+pub mod Edges
+pub mod Summaries
+pub mod SummaryLaws
+pub mod Opening
+pub mod Templates
+pub mod Constants
+pub mod Graph
+pub mod Unfolding
+pub mod Laws

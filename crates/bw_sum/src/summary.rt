@@ -1,0 +1,185 @@
+//! Summaries of documents, and what plugs make of them.
+ghost use Rattle.std.specs.Prelude.{◌≡◌, ◌+◌, ◌<◌, ◌^◌, ◌-◌, length, IfOk, []};
+ghost use Rattle.bw_sum.specs.Constants.{constant_of};
+ghost use Rattle.bw_sum.specs.Summaries.{both, plugged, plugged_text};
+ghost use Rattle.bw_sum.specs.Templates.{template_items};
+ghost use Rattle.bw_sum.specs.declared.summary.Summary.{Summary};
+
+use crate::constants::{lacks_of, tracks_of};
+use crate::labels::Labels;
+use crate::parts::{lacking, new_edges, other_tracks, text_labels};
+use bw_lang::wrappers::{exit_wrapper, show_wrapper};
+use bw_lang::{GapId, Items, Memory, Service, TemplateId};
+use bw_solve::{Lattice, Set};
+use bw_strings::StrSet;
+use std::alloc::{AllocError, Global};
+
+/// What is known of some documents: the documents that its template constants may become by plugs.
+#[derive(Drop)]
+pub struct Summary {
+    /// The templates that a document may begin as.
+    pub roots: Set<TemplateId>,
+    /// A template, a gap in it, and a template that may be plugged there.
+    pub edges: Set<(TemplateId, GapId, TemplateId)>,
+    /// The strings that may be plugged at a gap of a template.
+    pub texts: Labels,
+    /// A gap that may be open, and the template that it comes from.
+    pub tracks: Set<(GapId, TemplateId)>,
+    /// The gaps of which a document may have none open.
+    pub lacks: Set<GapId>,
+}
+
+impl Summary {
+    /// The summary of no document: the least one.
+    pub fn none(alloc: Global) -> Summary
+        ensures { result ≡ record { roots = []; edges = []; texts = []; tracks = []; lacks = [] } }
+    {
+        Summary {
+            roots: Set::new(alloc),
+            edges: Set::new(alloc),
+            texts: Labels::new(alloc),
+            tracks: Set::new(alloc),
+            lacks: Set::new(alloc),
+        }
+    }
+
+    /// The summary of the document that a template of the service, or a page wrapper, is as it stands.
+    fn constant_in(
+        alloc: Global,
+        service: &Service,
+        template: TemplateId,
+    ) -> Result<Summary, Memory>
+        requires gaps { length service.now.gaps < 2 ^ 32 - 3 }
+        requires template { template < length service.now.templates + 2 }
+        ensures { IfOk result (λ s. s ≡ constant_of template (template_items service.now template) (length service.now.gaps)) }
+    {
+        let templates = service.templates.as_slice();
+        let number = template.number() as usize;
+        let gaps = service.gaps.len() as u32;
+        if number < templates.len() {
+            return Summary::constant_of(alloc, template, &templates[number].items, gaps);
+        }
+        let wrapper = if number == templates.len() {
+            show_wrapper(alloc, &service.gaps)?
+        } else {
+            exit_wrapper(alloc, &service.gaps)?
+        };
+        Summary::constant_of(alloc, template, &wrapper, gaps)
+    }
+
+    /// The summary of the template with these items, in a service of so many gaps.
+    fn constant_of(
+        alloc: Global,
+        template: TemplateId,
+        items: &Items,
+        gaps: u32,
+    ) -> Result<Summary, Memory>
+        requires { gaps < 2 ^ 32 - 3 }
+        ensures { IfOk result (λ s. s ≡ constant_of template items.now gaps) }
+    {
+        Ok(Summary {
+            roots: Set::of(alloc, template)?,
+            edges: Set::new(alloc),
+            texts: Labels::new(alloc),
+            tracks: tracks_of(alloc, template, items, gaps + 3)?,
+            lacks: lacks_of(alloc, items, gaps)?,
+        })
+    }
+
+    /// An equal summary with memory of its own.
+    pub fn copy(&self, alloc: Global) -> Result<Summary, Memory>
+        ensures { IfOk result (λ s. s ≡ self.now) }
+    {
+        Ok(Summary {
+            roots: self.roots.copy(alloc)?,
+            edges: self.edges.copy(alloc)?,
+            texts: self.texts.copy(alloc)?,
+            tracks: self.tracks.copy(alloc)?,
+            lacks: self.lacks.copy(alloc)?,
+        })
+    }
+
+    /// The summary of the documents of both: the union, part by part.
+    pub fn join(&self, alloc: Global, other: &Summary) -> Result<Summary, Memory>
+        ensures { IfOk result (λ s. s ≡ both self.now other.now) }
+    {
+        Ok(Summary {
+            roots: self.roots.union(alloc, &other.roots)?,
+            edges: self.edges.union(alloc, &other.edges)?,
+            texts: self.texts.with(alloc, &other.texts)?,
+            tracks: self.tracks.union(alloc, &other.tracks)?,
+            lacks: self.lacks.union(alloc, &other.lacks)?,
+        })
+    }
+
+    /// The summary of the documents of this one with each open gap of that number filled by a document of the other.
+    pub fn plug(&self, alloc: Global, gap: GapId, a: &Summary) -> Result<Summary, Memory>
+        ensures { IfOk result (λ s. s ≡ plugged self.now gap a.now) }
+    {
+        let new = new_edges(alloc, &self.tracks, gap, &a.roots)?;
+        let both = self.edges.union(alloc, &a.edges)?;
+        let others = other_tracks(alloc, &self.tracks, gap)?;
+        Ok(Summary {
+            roots: self.roots.copy(alloc)?,
+            edges: both.union(alloc, &new)?,
+            texts: self.texts.with(alloc, &a.texts)?,
+            tracks: others.union(alloc, &a.tracks)?,
+            lacks: lacking(alloc, &a.lacks, gap, &self.lacks)?,
+        })
+    }
+
+    /// The summary of the documents of this one with each open gap of that number filled by one of these strings.
+    pub fn plug_text(&self, alloc: Global, gap: GapId, strings: &StrSet) -> Result<Summary, Memory>
+        ensures { IfOk result (λ s. s ≡ plugged_text self.now gap strings.now) }
+    {
+        let new = text_labels(alloc, &self.tracks, gap, strings)?;
+        let mut lacks = self.lacks.copy(alloc)?;
+        lacks.add(gap)?;
+        Ok(Summary {
+            roots: self.roots.copy(alloc)?,
+            edges: self.edges.copy(alloc)?,
+            texts: self.texts.with(alloc, &new)?,
+            tracks: other_tracks(alloc, &self.tracks, gap)?,
+            lacks,
+        })
+    }
+}
+
+impl Lattice for Summary {
+    ghost use Rattle.bw_sum.specs.Summaries.{AreAlike, is_below, both, size_of, rank_of};
+    ghost use Rattle.bw_sum.specs.SummaryLaws.{summary_lattice};
+
+    ghost alike = { AreAlike };
+
+    ghost below = { is_below };
+
+    ghost join = { both };
+
+    ghost size = { size_of };
+
+    ghost rank = { rank_of };
+
+    ghost laws = { summary_lattice };
+
+    fn join(&self, alloc: Global, other: &Self) -> Result<Self, AllocError> {
+        Ok(self.join(alloc, other)?)
+    }
+
+    fn below(&self, other: &Self) -> bool {
+        self.roots.is_subset(&other.roots)
+            && (self.edges.is_subset(&other.edges)
+                && (self.texts.is_within(&other.texts)
+                    && (self.tracks.is_subset(&other.tracks)
+                        && self.lacks.is_subset(&other.lacks))))
+    }
+
+    fn size(&self) -> u64 {
+        self.roots.size().saturating_add(
+            self.edges.size().saturating_add(
+                self.texts
+                    .size()
+                    .saturating_add(self.tracks.size().saturating_add(self.lacks.size())),
+            ),
+        )
+    }
+}
