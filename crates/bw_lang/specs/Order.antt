@@ -1,5 +1,5 @@
 -- The order in which a service's declarations stand.
-use Rattle.std.specs.Prelude.{◌≡◌, ℕ, List, [], ◌∷◌, map}
+use Rattle.std.specs.Prelude.{◌≡◌, List, [], ◌∷◌, map}
 use Rattle.bw_lang.specs.declared.declaration.Declaration.{Declaration}
 use Rattle.bw_lang.specs.declared.declaration.Declaration.TheVariants as declarations
 use Rattle.bw_lang.specs.declared.declaration.Declared.{Declared}
