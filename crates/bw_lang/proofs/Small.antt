@@ -1,5 +1,5 @@
 -- A service that some bytes read as is woven from its declarations, and is small.
-use Rattle.std.proofs.Common.{◌≡◌, ℕ, ◌<◌, ◌≤◌, Bool, true, false, cond, List, [], ◌∷◌, length, map, Option, Some, None, refl, ap, sym, subst, ◌∙◌, arith}
+use Rattle.std.proofs.Common.{◌≡◌, ℕ, ◌≤◌, Bool, true, false, cond, List, [], ◌∷◌, length, map, Option, Some, None, refl, ap, sym, subst, ◌∙◌, arith}
 use Rattle.std.specs.Prelude.{nat_lt, option_map, find, flat_map}
 use Rattle.std.specs.Coded.{le_prop, coded_list}
 use base.Stored.{Coded-set}
@@ -23,7 +23,7 @@ use Rattle.bw_lang.specs.Limits.{all_lengths, declared_fields, different, too_ma
 use Rattle.bw_lang.specs.Measures.{constant_weight}
 use Rattle.bw_lang.specs.Order.{declarations_of, IsWoven}
 use Rattle.bw_lang.specs.Readable.{IsSmall, ReadableIsWoven, ReadableIsSmall}
-use Rattle.bw_lang.specs.Reads.{Reads, IsReadable}
+use Rattle.bw_lang.specs.Reads.{Reads}
 use Rattle.bw_lang.specs.Sorted.{templates_of, shared_of, sessions_of}
 use Rattle.bw_lang.proofs.Declarations.{weaves_back}
 

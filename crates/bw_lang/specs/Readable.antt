@@ -1,5 +1,5 @@
 -- What every service is that some bytes read as.
-use Rattle.std.specs.Prelude.{◌≤◌, ℕ, List, length, flat_map}
+use Rattle.std.specs.Prelude.{◌≤◌, length, flat_map}
 use Rattle.std.specs.List.{All}
 use Rattle.bw_lang.specs.declared.service.Service.{Service}
 use Rattle.bw_lang.specs.CodeNames.{local_names}

@@ -1,19 +1,17 @@
 -- An expression that has a kind fails no test, and typed statements fail none.
-use Rattle.std.proofs.Common.{◌≡◌, ◌⊎◌, ℕ, Bool, true, false, inl, inr, List, [], ◌∷◌, ◌++◌, suc, Option, Some, refl, ap, sym, ◌∙◌, arith}
+use Rattle.std.proofs.Common.{◌≡◌, ◌⊎◌, ℕ, inl, inr, List, [], ◌∷◌, ◌++◌, Option, Some, refl, ap, sym, ◌∙◌}
 use Rattle.std.specs.Prelude.{◌||◌, flat_map}
-use Rattle.std.specs.List.{All, Contains}
+use Rattle.std.specs.List.{All}
 use Rattle.std.proofs.lemmas.List.Elements.{All-head, All-tail}
 use Rattle.bw_lang.specs.declared.service.Service.{Service}
 use Rattle.bw_lang.specs.declared.stmt.Kind.{Kind}
 use Rattle.bw_lang.specs.declared.stmt.Kind.TheVariants.{Int, Bool as Truth, Str, Html, Strs}
 use Rattle.bw_lang.specs.declared.stmt.Receive.{Receive}
 use Rattle.bw_lang.specs.Code.{Code, done, declare, assign, if_then, if_else, while_loop, block, for_each, show, exit}
-use Rattle.bw_lang.specs.Names.{same}
 use Rattle.bw_lang.specs.Term as t
 use Rattle.bw_lang.specs.Term.{Term, Fillings, no_more, filling}
 use Rattle.bw_types.specs.declared.fault.GapKind.{GapKind}
 use Rattle.bw_types.specs.declared.fault.GapKind.TheVariants.{Content, Attribute}
-use Rattle.bw_types.specs.declared.fault.TypeFault.{TypeFault}
 use Rattle.bw_types.specs.declared.fault.TypeFault.TheVariants as faults
 use Rattle.bw_types.specs.ExpressionFaults.{OpSort, joins_truths, tests_equality, compares, adds, computes, op_sort, op_kind, fun_takes, kind_of, demand, demand_same, demand_sum, left_demand, right_demand, gap_demand, gap_unknown, name_unknown, faults_in, faults_in_pairs, wanted}
 use Rattle.bw_types.specs.Faults.{code_faults, receive_fault, demand_received, local_repeated, local_faults}
@@ -23,7 +21,6 @@ use Rattle.bw_types.proofs.Elements.{passing}
 use Rattle.bw_types.proofs.Differing.{among_none}
 use Rattle.bw_types.proofs.Parts.{none_of_both}
 use Rattle.bw_types.specs.Typing.{Takes, Fits, HasKind, AreTyped, IsNew, IsReceived, IsTypedCode}
-use Rattle.bw_types.proofs.Seek.{same_is}
 
 pub demanded : (kind : Kind) → demand kind (Some kind) ≡ []
 demanded Int = refl

@@ -1,5 +1,5 @@
 -- Templates in which no test fails.
-use Rattle.std.proofs.Common.{◌≡◌, ℕ, Bool, true, false, List, [], ◌∷◌, ◌++◌, flat_map, refl, ap}
+use Rattle.std.proofs.Common.{◌≡◌, ℕ, Bool, true, false, List, [], ◌++◌, flat_map, refl}
 use Rattle.std.specs.List.{All}
 use Rattle.std.proofs.lemmas.List.Elements.{All-cons, All-nil, All-head, All-tail, All-append}
 use Rattle.bw_lang.specs.declared.controls.FieldKind.{FieldKind}
@@ -27,10 +27,10 @@ pub passing : (b : Bool) (fault : TypeFault) → b ≡ false → fault_if b faul
 passing b fault h = rw h
 
 module _ (s : Service) where
-  abbrev Uses : ℕ × GapKind → Type 0
+  abbrev pub Uses : ℕ × GapKind → Type 0
   Uses x = GapFits (template_uses s.templates) x
 
-  abbrev Controls : List ℕ × FieldKind → Type 0
+  abbrev pub Controls : List ℕ × FieldKind → Type 0
   Controls x = FieldFits (template_fields s.templates) x
 
   -- each gap and each field has the kind of its first place, and no element is one of the page's, a file or a bad control

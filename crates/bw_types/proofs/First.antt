@@ -1,7 +1,8 @@
 -- The first of several faults.
-use Rattle.std.proofs.Common.{◌≡◌, ℕ, suc, ◌+◌, ◌<◌, ◌≤◌, List, [], ◌∷◌, ◌++◌, length, get_or, drop, Some, Result, Ok, Err, ap, sym, ◌∙◌, inl, inr, add-one, drop-cons}
+use Rattle.std.proofs.Common.{◌≡◌, ◌⊎◌, ℕ, suc, ◌+◌, ◌<◌, List, [], ◌∷◌, ◌++◌, length, get_or, drop, Some, Result, Ok, Err, ap, sym, ◌∙◌, inl, inr, add-one, drop-cons}
 use Rattle.std.specs.Result.{IsErrAnd, IfErr}
 use Rattle.bw_types.specs.declared.fault.TypeFault.{TypeFault}
+use Rattle.bw_types.specs.declared.fault.TypeFault.TheVariants.{Memory}
 use Rattle.bw_types.specs.Faults.{first_member}
 use Rattle.bw_types.specs.First.{IsFirst}
 
@@ -12,6 +13,15 @@ first_in (f ∷ a) b e h = h
 -- the first of the faults here is the first of all
 first_of : (e : TypeFault) (here rest whole : List TypeFault) → IsFirst e here → whole ≡ here ++ rest → IsFirst e whole
 first_of e here rest whole h w = record { why = elim h.why [ inl m ↦ inl m | inr f ↦ inr (ap first_member w ∙ first_in here rest e f) ] }
+
+-- the fault that is answered
+pub told : {X : Type 0} (r : Result X TypeFault) (e : TypeFault) (all : List TypeFault) → IsErrAnd r (λ y. y ≡ e) → IsFirst e all → IfErr r (λ y. (y ≡ Memory) ⊎ (first_member all ≡ Some y))
+told (Ok x) e all q h = tt
+told (Err y) e all q h = rw q h.why
+
+pub told_memory : {X : Type 0} (r : Result X TypeFault) (all : List TypeFault) → IsErrAnd r (λ y. y ≡ Memory) → IfErr r (λ y. (y ≡ Memory) ⊎ (first_member all ≡ Some y))
+told_memory (Ok x) all q = tt
+told_memory (Err y) all q = inl q
 
 -- an exit that passes the fault here on
 pub exits : {X : Type 0} (r : Result X TypeFault) (e : TypeFault) (here rest whole : List TypeFault)

@@ -16,3 +16,4 @@ pub mod Differing
 pub mod Services
 pub mod OwnLocals
 pub mod Sorted
+pub mod WellTyped

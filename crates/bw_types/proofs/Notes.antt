@@ -1,5 +1,5 @@
 -- Taking in the kinds of gaps and of fields, one item, attribute or template more.
-use Rattle.std.proofs.Common.{◌≡◌, ℕ, ◌+◌, ◌<◌, List, [], ◌∷◌, ◌++◌, length, get_or, take, refl, ap, ◌∙◌, append_assoc}
+use Rattle.std.proofs.Common.{◌≡◌, ℕ, ◌+◌, ◌<◌, List, ◌∷◌, ◌++◌, length, get_or, take, refl, ap, ◌∙◌, append_assoc}
 use Rattle.std.proofs.lemmas.List.Sums.{fold-append}
 use Rattle.bw_lang.specs.declared.controls.FieldKind.{FieldKind}
 use Rattle.bw_lang.specs.declared.items.Item.{Item}
@@ -10,7 +10,7 @@ use Rattle.bw_lang.specs.View.{forest, before}
 use Rattle.bw_lang.proofs.Forests.{forest_at_read}
 use Rattle.bw_types.specs.declared.fault.GapKind.{GapKind}
 use Rattle.bw_types.specs.declared.fault.GapKind.TheVariants.{Content}
-use Rattle.bw_types.specs.Gaps.{attr_uses, gap_uses}
+use Rattle.bw_types.specs.Gaps.{gap_uses}
 use Rattle.bw_types.specs.Tables.{with_kind, with_kinds, with_use, with_uses}
 
 pub with_uses-append : (t a b : List (ℕ × GapKind)) → with_uses t (a ++ b) ≡ with_uses (with_uses t a) b

@@ -1,8 +1,8 @@
 -- Services in which no test fails.
-use Rattle.std.proofs.Common.{◌≡◌, ◌≢◌, ℕ, true, false, List, [], ◌∷◌, ◌++◌, map, Option, Some, refl, ap, sym, ◌∙◌, append_assoc, append-nil}
+use Rattle.std.proofs.Common.{◌≡◌, ℕ, true, false, List, [], ◌∷◌, ◌++◌, map, Some, refl, ap, sym, ◌∙◌, append_assoc, append-nil}
 use Rattle.std.specs.Prelude.{not}
-use Rattle.std.specs.List.{All, Contains}
-use Rattle.std.proofs.lemmas.List.Elements.{All-cons, All-nil, All-head, All-tail, All-push}
+use Rattle.std.specs.List.{All}
+use Rattle.std.proofs.lemmas.List.Elements.{All-cons, All-nil, All-head, All-tail}
 use Rattle.bw_lang.specs.declared.declaration.Declaration.{Declaration}
 use Rattle.bw_lang.specs.declared.declaration.Declaration.TheVariants as declarations
 use Rattle.bw_lang.specs.declared.service.Literal.{Literal}
@@ -21,7 +21,7 @@ use Rattle.bw_types.specs.Scopes.{is_among, name_of, no_locals, template_kind}
 use Rattle.bw_types.specs.TemplateFaults.{fault_if, items_faults}
 use Rattle.bw_types.specs.Typing.{IsTypedSession}
 use Rattle.bw_types.proofs.CompleteKinds.{demand_met, known, code_passes}
-use Rattle.bw_types.proofs.Elements.{passing, ItemsFit, items_pass}
+use Rattle.bw_types.proofs.Elements.{passing}
 use Rattle.bw_types.proofs.Differing.{Differ, taken, not_repeated, next_name}
 use Rattle.bw_types.proofs.Parts.{nothing_first, nothing_behind, none_of_both}
 use Rattle.bw_types.proofs.SoundKinds.{is_known, is_demanded, code_typed}

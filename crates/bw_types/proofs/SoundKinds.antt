@@ -1,21 +1,17 @@
 -- An expression in which no test fails has a kind, and statements in which none fails are typed.
-use Rattle.std.proofs.Common.{◌≡◌, ◌≢◌, ℕ, Bool, true, false, ◌⊎◌, inl, inr, List, [], ◌∷◌, ◌++◌, Option, Some, None, refl, ap, sym, ◌∙◌}
+use Rattle.std.proofs.Common.{◌≡◌, ◌≢◌, ℕ, Bool, true, false, ◌⊎◌, inl, inr, List, [], ◌∷◌, Option, Some, None, refl, ap, sym, ◌∙◌}
 use Rattle.std.specs.Prelude.{◌||◌, flat_map}
-use Rattle.std.specs.List.{All, Contains}
+use Rattle.std.specs.List.{All}
 use Rattle.std.proofs.lemmas.List.Elements.{All-cons, All-nil}
-use Rattle.std.proofs.lemmas.List.Folds.{list_any_at}
-use Rattle.std.proofs.lemmas.Cmp.{nat_list_eq_equiv}
 use Rattle.bw_lang.specs.declared.service.Service.{Service}
 use Rattle.bw_lang.specs.declared.stmt.Kind.{Kind}
 use Rattle.bw_lang.specs.declared.stmt.Kind.TheVariants.{Int, Bool as Truth, Str, Html, Strs}
 use Rattle.bw_lang.specs.declared.stmt.Receive.{Receive}
 use Rattle.bw_lang.specs.Code.{Code, done, declare, assign, if_then, if_else, while_loop, block, for_each, show, exit}
-use Rattle.bw_lang.specs.Names.{same}
 use Rattle.bw_lang.specs.Term as t
 use Rattle.bw_lang.specs.Term.{Term, Fillings, no_more, filling}
 use Rattle.bw_types.specs.declared.fault.GapKind.{GapKind}
 use Rattle.bw_types.specs.declared.fault.GapKind.TheVariants.{Content, Attribute}
-use Rattle.bw_types.specs.declared.fault.TypeFault.{TypeFault}
 use Rattle.bw_types.specs.ExpressionFaults.{OpSort, joins_truths, tests_equality, compares, adds, computes, op_sort, op_kind, fun_takes, fun_gives, kind_of, demand, demand_same, demand_plain, demand_sum, left_demand, right_demand, gap_demand, gap_unknown, name_unknown, faults_in, faults_in_pairs, wanted}
 use Rattle.bw_types.specs.Faults.{code_faults, receive_fault, demand_received, local_repeated, local_faults}
 use Rattle.bw_types.specs.Gaps.{kind_of_gap}

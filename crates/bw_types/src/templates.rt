@@ -11,9 +11,7 @@ ghost use Rattle.bw_types.specs.TemplateFaults as spec;
 use crate::fault::{GapKind, TypeFault};
 use crate::names::Names;
 use bw_lang::controls::is_control;
-use bw_lang::{
-    Attr, AttrValue, Attrs, Element, FieldKind, GapId, Item, Items, Memory, Name, Text,
-};
+use bw_lang::{Attr, AttrValue, Attrs, Element, FieldKind, GapId, Item, Items, Memory, Name, Text};
 
 impl Names<'_> {
     /// The tests of a template's items, in source order.

@@ -39,7 +39,8 @@ pub fn resolve(alloc: Global, service: Service) -> Result<Typed, TypeFault>
 {
     let tables = Tables::of(alloc, &service)?;
     check(alloc, &service, &tables)?;
-    let fields = FieldNames::of(names_of_fields(alloc, &service)?);
+    let names = names_of_fields(alloc, &service)?;
+    let fields = FieldNames::of(names);
     Ok(Typed {
         service,
         fields,

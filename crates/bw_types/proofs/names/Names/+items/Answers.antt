@@ -1,4 +1,4 @@
-use Rattle.std.proofs.Common.{◌+◌, List, ap, sym, ◌∙◌, drop}
+use Rattle.std.proofs.Common.{List, ap, sym, ◌∙◌}
 use Rattle.bw_lang.specs.declared.items.Item.{Item}
 use Rattle.bw_lang.specs.Forest.{none}
 use Rattle.bw_lang.specs.View.{before, forest}

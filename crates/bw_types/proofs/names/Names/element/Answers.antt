@@ -1,4 +1,4 @@
-use Rattle.std.proofs.Common.{refl, sym, ◌∙◌, flat_map}
+use Rattle.std.proofs.Common.{sym, ◌∙◌, flat_map}
 use Rattle.bw_lang.specs.Controls.{field_of}
 use Rattle.bw_types.specs.TemplateFaults.{field_fault}
 use Rattle.bw_types.proofs.First.{exits}
