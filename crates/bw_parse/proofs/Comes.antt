@@ -14,9 +14,9 @@ use Rattle.bw_lang.specs.Term.{Term, int, truth, string, name, paren, not, neg, 
 use Rattle.bw_lang.specs.Words.{op_sign}
 use Rattle.bw_lang.specs.Options.{◌>>=◌}
 use Rattle.bw_parse.specs.Fronts.{Read, behind, op_of, if_level, operator}
-use Rattle.bw_parse.specs.Expressions.{more, prefix, pairs}
+use Rattle.bw_parse.specs.Expressions.{pairs}
 use Rattle.bw_parse.specs.Follow.{binds, op_binds}
-use Rattle.bw_parse.proofs.FrontLaws.{some, is_same}
+use Rattle.bw_parse.proofs.FrontLaws.{is_same}
 
 -- from some number of steps on it gives x
 pub record Comes (A : Type 0) (p : ℕ → Option A) (x : A) : Type 0 where

@@ -17,7 +17,7 @@ use Rattle.bw_lang.specs.Words.{truth_word, fun_word}
 use Rattle.bw_lang.proofs.Terms.{append_fillings_assoc}
 use Rattle.bw_parse.specs.declared.lexemes.Meaning.{Meaning}
 use Rattle.bw_parse.specs.declared.lexemes.Meaning.TheVariants.{Truth, Function, Nothing, Free}
-use Rattle.bw_parse.specs.Fronts.{behind, word, operator, meaning}
+use Rattle.bw_parse.specs.Fronts.{behind, word, meaning}
 use Rattle.bw_parse.specs.Expressions.{expr, plugs, pairs, atom, inside, by_meaning}
 use Rattle.bw_parse.specs.Follow.{binds}
 use Rattle.bw_parse.proofs.FrontLaws.{some, free_meaning}

@@ -14,7 +14,7 @@ use Rattle.bw_lang.specs.Words.{IsName, kind_word}
 use Rattle.bw_parse.specs.declared.lexemes.Meaning.{Meaning}
 use Rattle.bw_parse.specs.declared.lexemes.Meaning.TheVariants.{Truth, Function, Nothing, Other, Free}
 use Rattle.bw_lang.specs.Options.{◌>>=◌, where_some}
-use Rattle.bw_parse.specs.Fronts.{Read, behind, keyword, word, named, kind, shared_kind, meaning}
+use Rattle.bw_parse.specs.Fronts.{Read, behind, keyword, word, named, shared_kind, meaning}
 use Rattle.bw_parse.specs.Services.{template_token, number_token, word_literal, plain_literal, literal, parse_template, parse_shared, parse_session}
 use Rattle.bw_parse.specs.Services.{draft, drafts_from, parse_drafts, if_last, parse_service}
 use Rattle.bw_parse.specs.Statements.{parse_code}

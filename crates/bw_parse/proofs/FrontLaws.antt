@@ -1,5 +1,5 @@
 -- What stands at the front of lexemes, where a step finds something there.
-use Rattle.std.proofs.Common.{◌≡◌, ℕ, Bool, true, false, cond, ◌==◌, List, [], ◌∷◌, Option, Some, None, refl, sym, ap, ◌∙◌, subst, inl, inr, ◌⊎◌, codes}
+use Rattle.std.proofs.Common.{◌≡◌, ℕ, Bool, true, false, cond, ◌==◌, List, [], ◌∷◌, Option, Some, None, refl, sym, ap, ◌∙◌, subst, inl, inr, codes}
 use Rattle.std.specs.Prelude.{if◌then◌else◌}
 use Rattle.std.proofs.lemmas.Bool.{eqb-true}
 use Rattle.std.specs.Cmp.Lexicographic.{bytes_decides}
@@ -18,7 +18,6 @@ use Rattle.bw_lang.proofs.Options.{some_is, bind_some, chosen}
 use Rattle.bw_lang.specs.Words.{op_sign, truth_word, fun_word, kind_word}
 use Rattle.bw_parse.specs.declared.lexemes.Meaning.{Meaning}
 use Rattle.bw_parse.specs.declared.lexemes.Meaning.TheVariants.{Truth, Function, Nothing, Other, Free}
-use Rattle.bw_lang.specs.Options.{◌>>=◌, where_some}
 use Rattle.bw_parse.specs.Fronts.{behind, keyword, word, named, op_of, if_level, operator, meaning, kind_of, kind, is_list, shared_kind}
 
 abbrev pub some : {A : Type 0} → A → Option A

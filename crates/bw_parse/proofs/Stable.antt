@@ -6,7 +6,7 @@ use Rattle.std.proofs.lemmas.Bool.{eqb-true, eqb-false, ltb-true, ltb-false}
 use Rattle.bw_lang.specs.declared.token.Lexeme.{Lexeme}
 use Rattle.bw_lang.specs.declared.token.Lexeme.TheVariants as lex
 use Rattle.bw_lang.specs.Levels.{left_level}
-use Rattle.bw_lang.specs.Term.{Term, paren, not, neg, binary, call, plug, nothing, Fillings, no_more, filling, append_fillings}
+use Rattle.bw_lang.specs.Term.{Term, paren, not, neg, binary, call, plug, Fillings, no_more, filling, append_fillings}
 use Rattle.bw_parse.specs.declared.lexemes.Meaning.{Meaning}
 use Rattle.bw_parse.specs.declared.lexemes.Meaning.TheVariants.{Truth, Function, Nothing, Other, Free}
 use Rattle.bw_lang.specs.Options.{◌>>=◌, where_some}

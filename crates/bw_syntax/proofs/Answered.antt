@@ -1,5 +1,5 @@
 -- Bytes read as a service, or there is a reason why not.
-use Rattle.std.proofs.Common.{◌≡◌, ◌≢◌, ◌≤◌, ◌<◌, ◌⊎◌, inl, inr, ℕ, List, [], ◌∷◌, length, Option, Some, None, refl, ap, arith}
+use Rattle.std.proofs.Common.{◌≡◌, ◌≢◌, ◌≤◌, ◌⊎◌, inl, inr, ℕ, List, [], ◌∷◌, length, Option, Some, None, refl, ap, arith}
 use Rattle.std.proofs.lemmas.Bool.{cases_lt}
 use Rattle.bw_lang.specs.declared.declaration.Declaration.{Declaration}
 use Rattle.bw_lang.specs.declared.declaration.Declaration.TheVariants as declarations
@@ -20,7 +20,6 @@ use Rattle.bw_lang.specs.Reads.{IsText, IsDraft, IsInside, IsRead, AreRead, Read
 use Rattle.bw_lang.specs.Templates.{IsTemplate}
 use Rattle.bw_lex.proofs.Refusing as tokens
 use Rattle.bw_parse.proofs.Answered as parsed
-use Rattle.bw_parse.specs.Laws.{IsSpelled}
 use Rattle.bw_tmpl.proofs.Answered as templates
 use Rattle.bw_tmpl.proofs.Spelled.{spelled_once}
 use Rattle.bw_tmpl.specs.declared.fault.TmplFault.{TmplFault}

@@ -5,8 +5,6 @@ use Rattle.std.specs.List.{slice_range}
 use Rattle.std.proofs.lemmas.List.{length-drop}
 use Rattle.bw_lang.specs.declared.declaration.Draft.{Draft}
 use Rattle.bw_lang.specs.declared.declaration.Draft.TheVariants as drafts
-use Rattle.bw_lang.specs.declared.declaration.Written.{Written}
-use Rattle.bw_lang.specs.declared.declaration.Written.TheVariants as written
 use Rattle.bw_lang.specs.declared.token.Lexeme.{Lexeme}
 use Rattle.bw_lang.specs.declared.token.Lexeme.TheVariants as lex
 use Rattle.bw_lang.specs.declared.token.Token.{Token}
@@ -14,7 +12,7 @@ use Rattle.bw_lang.specs.declared.token.TokenKind.{TokenKind}
 use Rattle.bw_lang.specs.declared.token.TokenKind.TheVariants as kinds
 use Rattle.bw_lang.specs.Code.{Code, done, declare, assign, if_then, if_else, while_loop, block, for_each, show, exit}
 use Rattle.bw_lang.specs.CodeNames.{local_names}
-use Rattle.bw_lang.specs.Drafts.{spell_literal, spell_draft, spell_drafts, spell_service}
+use Rattle.bw_lang.specs.Drafts.{spell_draft, spell_drafts, spell_service}
 use Rattle.bw_lang.specs.Lexemes.{lexeme, lexeme_of}
 use Rattle.bw_lang.specs.Reads.{IsText}
 use Rattle.bw_lang.specs.Spelling.{spell_code}

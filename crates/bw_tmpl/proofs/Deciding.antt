@@ -1,5 +1,5 @@
 -- What reading answers is determined.
-use Rattle.std.proofs.Common.{◌≡◌, ℕ, true, false, List, [], Some, refl, sym, ap, subst, ◌∙◌, arith}
+use Rattle.std.proofs.Common.{◌≡◌, ℕ, true, false, List, [], refl, sym, ap, subst, ◌∙◌, arith}
 use Rattle.bw_lang.specs.Forest.{Forest}
 use Rattle.bw_lang.specs.declared.pieces.Piece.{Piece}
 use Rattle.bw_tmpl.specs.declared.fault.TmplFault.{TmplFault}

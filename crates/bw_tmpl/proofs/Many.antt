@@ -1,13 +1,12 @@
 -- As many as there are, one after the other.
-use Rattle.std.proofs.Common.{◌≡◌, ℕ, zero, suc, ◌<◌, ◌≤◌, Bool, true, false, List, [], ◌∷◌, ◌++◌, length, take, drop, Option, Some, None, refl, sym}
-use Rattle.std.proofs.Common.{ap, ◌∙◌, arith, ◌⊎◌, inl, inr, append_assoc}
-use Rattle.std.specs.Prelude.{if◌then◌else◌, nat_eq}
+use Rattle.std.proofs.Common.{◌≡◌, ℕ, zero, suc, ◌<◌, ◌≤◌, List, [], ◌∷◌, ◌++◌, length, take, drop, Option, Some, None, refl, sym}
+use Rattle.std.proofs.Common.{ap, ◌∙◌, arith, append_assoc}
+use Rattle.std.specs.Prelude.{nat_eq}
 use Rattle.std.specs.Cmp.Lexicographic.{same_text}
 use Rattle.std.proofs.lemmas.List.{take_at, drop_at, take-append-drop, append-nil}
 use lib.Pointwise.{pointwise}
-use Rattle.bw_lang.specs.Options.{◌>>=◌, where_some}
 use Rattle.bw_tmpl.specs.Reading.{stripped, many_next, many, each}
-use Rattle.bw_lang.proofs.Options.{cond_some, some_is}
+use Rattle.bw_lang.proofs.Options.{cond_some}
 use Rattle.bw_tmpl.proofs.Inverse.{same-refl}
 
 -- ---- fronts

@@ -6,7 +6,6 @@ use Rattle.std.proofs.lemmas.List.{take-append-drop, take_at, drop_at}
 use Rattle.std.proofs.lemmas.Bool.Decides.{nat_tests}
 use Rattle.bw_lang.specs.declared.pieces.NameClass.{NameClass}
 use Rattle.bw_lang.specs.declared.pieces.NameClass.TheVariants as class
-use Rattle.bw_lang.specs.declared.pieces.Tag.{Tag}
 use Rattle.bw_tmpl.specs.Reading.{leading, past_blanks, name_at}
 use Rattle.bw_lang.specs.Bytes.{is_blank}
 use Rattle.bw_lang.specs.MarkupNames.{begins, first_of, later_of}

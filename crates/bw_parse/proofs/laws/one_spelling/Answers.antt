@@ -2,7 +2,7 @@ use Rattle.std.proofs.Common.{◌∙◌, sym, ap}
 use Rattle.bw_parse.specs.Services.{parse_service}
 use Rattle.bw_parse.proofs.Drafts.{service_gives}
 use Rattle.bw_lang.proofs.Options.{some_is}
-use Rattle.bw_parse.proofs.services.one_spelling.Goals as goal
+use Rattle.bw_parse.proofs.laws.one_spelling.Goals as goal
 
 pub returns : goal.returns
 returns c name other ds es n m v w e =
