@@ -140,6 +140,14 @@ pub message_taken : (have : List ℕ) (ended : Type 0) (p : Parts) (m : IsMessag
     → rest ≡ m.rest → IsOutcome have ended (Err Memory) rest
 message_taken have ended p m rest e = (m.head, m.body, subst (λ (t : List ℕ). IsMessage have m.head m.body t) (sym e) m.is)
 
+-- the source ended before a message was whole
+pub ended_outcome : (have : List ℕ) (ended : Type 0) (e : ReadOutcome) → (have ≡ [] → e ≡ End) → (have ≢ [] → e ≡ Truncated)
+    → IsShort have → ended → IsOutcome have ended (Err e) have
+ended_outcome [] ended e end truncated short is = subst (λ (t : ReadOutcome). IsRefusal [] ended t []) (sym (end refl)) (is, refl)
+ended_outcome (b ∷ have) ended e end truncated short is =
+    let some : b ∷ have ≢ [] = λ nil. absurd (omega (arith, ap length nil)) in
+    subst (λ (t : ReadOutcome). IsRefusal (b ∷ have) ended t (b ∷ have)) (sym (truncated some)) (is, some, short)
+
 -- ---- bytes that were taken
 
 consumed : (u v w : Option (List ℕ)) (a b : List ℕ) → Consumes u v a → Consumes v w b → Consumes u w (a ++ b)

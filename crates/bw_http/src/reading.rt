@@ -192,19 +192,13 @@ fn take_message(alloc: Global, intake: &mut Intake, parts: Parts) -> Result<Requ
     made
 }
 
-/// Reads the next request of a stream: the bytes in the intake, and then those of the source. What follows it stays in
-/// the intake. In whatever pieces the bytes come, they are taken only as far as the message goes, or its piece.
-///
-/// The refusals are tested in the order of `ReadOutcome`, and each but `Memory` ends the stream. `End`, `NoHost`,
-/// `Coding`, `BadLength`, `LengthRequired`, `BodyTooLong` and `Media` come exactly where the bytes say so; `BadHead`,
-/// `HeadTooLong` and `Truncated` only there; and `ReadFault` only where the source's count rose.
-pub fn read_request<S: Source>(
+/// Reads the next request, in facts about the bytes that were taken.
+fn take_request<S: Source>(
     alloc: Global,
     intake: &mut Intake,
     source: &mut S,
 ) -> Result<Request, ReadOutcome>
     ensures taken { ComesOf (S.left source.old) (S.left source.new) intake.old result intake.new }
-    ensures stream { Tells (S.left source.old) (S.left source.new) intake.old result intake.new }
     ensures takes { Takes S.Channel source.old source.new (IsErrOf result ReadOutcome.ReadFault) }
 {
     'turns: loop {
@@ -239,4 +233,22 @@ fn at_end(intake: &Intake) -> ReadOutcome
     } else {
         ReadOutcome::Truncated
     }
+}
+
+/// Reads the next request of a stream: the bytes in the intake, and then those of the source. What follows it stays in
+/// the intake. In whatever pieces the bytes come, they are taken only as far as the message goes, or its piece.
+///
+/// The refusals are tested in the order of `ReadOutcome`, and each but `Memory` ends the stream. `End`, `NoHost`,
+/// `Coding`, `BadLength`, `LengthRequired`, `BodyTooLong` and `Media` come exactly where the bytes say so; `BadHead`,
+/// `HeadTooLong` and `Truncated` only there; and `ReadFault` only where the source's count rose.
+pub fn read_request<S: Source>(
+    alloc: Global,
+    intake: &mut Intake,
+    source: &mut S,
+) -> Result<Request, ReadOutcome>
+    ensures taken { ComesOf (S.left source.old) (S.left source.new) intake.old result intake.new }
+    ensures stream { Tells (S.left source.old) (S.left source.new) intake.old result intake.new }
+    ensures takes { Takes S.Channel source.old source.new (IsErrOf result ReadOutcome.ReadFault) }
+{
+    take_request(alloc, intake, source)
 }

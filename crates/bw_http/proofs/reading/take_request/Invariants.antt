@@ -1,7 +1,7 @@
 use Rattle.std.proofs.Common.{◌-◌, length}
 use Rattle.bw_out.specs.Sends.{Took}
 use Rattle.bw_http.specs.Taken.{IsFilled}
-use Rattle.bw_http.proofs.reading.read_request.Given as goal
+use Rattle.bw_http.proofs.reading.take_request.Given as goal
 
 abbrev pub invariant-turns : goal.invariant-turns
 invariant-turns g l = record {
