@@ -6,3 +6,4 @@ pub mod Buffers
 pub mod Filling
 pub mod Spellings
 pub mod SpeltAscii
+pub mod Written

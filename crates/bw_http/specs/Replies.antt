@@ -1,5 +1,5 @@
 -- The bytes of replies (RFC 9112, section 2.1).
-use Rattle.std.specs.Prelude.{◌≡◌, ◌≢◌, ℕ, ◌<◌, ◌==◌, List, [], ◌++◌, codes, length, map, decimal, slice_get, if◌then◌else◌, unwrap_or, ⊤}
+use Rattle.std.specs.Prelude.{◌≡◌, ◌≢◌, ℕ, ◌<◌, ◌==◌, List, [], ◌∷◌, ◌++◌, codes, length, map, decimal, slice_get, if◌then◌else◌, unwrap_or, ⊤}
 use Rattle.bw_lang.specs.declared.turn.TurnFault.{TurnFault}
 use Rattle.bw_lang.specs.declared.turn.TurnFault.TheVariants as faults
 use Rattle.bw_http.specs.declared.replies.Allow.{Allow}
@@ -36,6 +36,10 @@ allow_line methods.GetPost = codes "Allow: GET, POST\r\n"
 -- a byte of a field's name as it prints: the ends of lines as spaces
 abbrev pub shown : ℕ → ℕ
 shown b = if b == 10 then 32 else (if b == 13 then 32 else b)
+
+-- the bytes print as this line as it stands, a space, and what follows
+abbrev pub IsLineCut : List ℕ → List ℕ → List ℕ → Type 0
+IsLineCut bytes line more = (map shown bytes ≡ line ++ 32 ∷ map shown more) × (length more < length bytes)
 
 -- the name of a field as it prints
 abbrev pub shown_name : List (List ℕ) → ℕ → List ℕ

@@ -1,10 +1,11 @@
 //! Replies, and how they are written.
-ghost use Rattle.std.specs.Prelude.{◌≡◌, ◌++◌, ◌<◌, ◌+◌, ◌^◌, [], length, map, codes, decimal};
+ghost use Rattle.std.specs.Prelude.{◌≡◌, ◌++◌, ◌<◌, ◌+◌, ◌^◌, [], length, map, codes, decimal, MatchOption};
 ghost use Rattle.bw_out.specs.Sends.{Sends};
 ghost use Rattle.bw_lang.specs.declared.turn.TurnFault.TheVariants as faults;
 ghost use Rattle.bw_http.specs.Replies as spec;
-ghost use Rattle.bw_http.specs.Replies.{message, plain, text_type, bytes_of, fault_words, shown_name, IsReply};
+ghost use Rattle.bw_http.specs.Replies.{message, plain, text_type, bytes_of, fault_words, shown_name, IsLineCut, IsReply};
 
+use crate::head::is_newline;
 use bw_lang::{FieldId, FieldNames, TurnFault};
 use bw_out::{Sink, WriteFault, write_all, write_parts};
 use bw_page::Sheet;
@@ -79,7 +80,7 @@ pub fn write_reply<W: Sink>(
         Reply::FieldTooLong(field) => write_field(b"too long ", field, fields, sink),
         Reply::Method(allow) => write_allowed(allow, sink),
         Reply::Stale(turn) => {
-            write_number(b"409 Conflict", b"current turn ", u64::from(turn), sink)
+            write_number(b"409 Conflict", b"current turn ", turn as u64, sink)
         }
         Reply::Failed(fault) => write_failed(fault, sink),
         Reply::Bad => write_words(b"400 Bad Request", b"bad request", sink),
@@ -107,12 +108,22 @@ fn write_failed<W: Sink>(fault: TurnFault, sink: &mut W) -> Result<(), WriteFaul
         TurnFault::Overflow => write_words(status, b"overflow", sink),
         TurnFault::StringTooLong(n) => write_number(status, b"string too long ", n, sink),
         TurnFault::Heavy(n) => write_number(status, b"heavy ", n, sink),
-        TurnFault::Deep(n) => write_number(status, b"deep ", u64::from(n), sink),
-        TurnFault::Nested(n) => write_number(status, b"nested ", u64::from(n), sink),
+        TurnFault::Deep(n) => write_number(status, b"deep ", n as u64, sink),
+        TurnFault::Nested(n) => write_number(status, b"nested ", n as u64, sink),
         TurnFault::PageTooLong(n) => write_number(status, b"page too long ", n, sink),
         TurnFault::SessionHeavy(n) => write_number(status, b"session heavy ", n, sink),
         TurnFault::SharedHeavy(n) => write_number(status, b"shared heavy ", n, sink),
         TurnFault::Memory => write_words(status, b"out of memory", sink),
+    }
+}
+
+/// The header line with the methods that a path serves.
+fn allow_line(allow: Allow) -> &'static [u8]
+    ensures { result.now ≡ spec.allow_line allow }
+{
+    match allow {
+        Allow::Get => b"Allow: GET\r\n",
+        Allow::GetPost => b"Allow: GET, POST\r\n",
     }
 }
 
@@ -121,11 +132,13 @@ fn write_allowed<W: Sink>(allow: Allow, sink: &mut W) -> Result<(), WriteFault>
     ensures { Sends W.Channel sink.old sink.new
         (message (codes "405 Method Not Allowed") text_type (spec.allow_line allow) (codes "method not allowed\n")) result }
 {
-    let more = match allow {
-        Allow::Get => b"Allow: GET\r\n".as_slice(),
-        Allow::GetPost => b"Allow: GET, POST\r\n".as_slice(),
-    };
-    write_text(b"405 Method Not Allowed", more, b"method not allowed", b"", sink)
+    write_text(
+        b"405 Method Not Allowed",
+        allow_line(allow),
+        b"method not allowed",
+        b"",
+        sink,
+    )
 }
 
 /// Writes a page or plain text, of this type.
@@ -212,14 +225,22 @@ fn write_name<W: Sink>(words: &[u8], name: &[u8], sink: &mut W) -> Result<(), Wr
     write_all(sink, b"\n")
 }
 
+/// The bytes before the first carriage return or line feed, and those behind it.
+fn cut_line(bytes: &[u8]) -> Option<(&[u8], &[u8])>
+    ensures { MatchOption result (map spec.shown bytes.now ≡ bytes.now) (λ parts. IsLineCut bytes.now parts.0.now parts.1.now) }
+{
+    let end = bytes.iter().position(|b| is_newline(*b))?;
+    Some((&bytes[..end], &bytes[end + 1..]))
+}
+
 /// Writes a name, with spaces for the ends of lines.
 fn write_shown<W: Sink>(name: &[u8], sink: &mut W) -> Result<(), WriteFault>
     ensures { Sends W.Channel sink.old sink.new (map spec.shown name.now) result }
 {
     let mut rest = name;
-    while let Some(end) = rest.iter().position(|b| *b == b'\n' || *b == b'\r') {
-        write_parts(sink, &[&rest[..end], b" "])?;
-        rest = &rest[end + 1..];
+    while let Some((line, more)) = cut_line(rest) {
+        write_parts(sink, &[line, b" "])?;
+        rest = more;
     }
     write_all(sink, rest)
 }
