@@ -1,14 +1,14 @@
 -- Heads within the limits: their lines, and a head at the front of more bytes.
-use Rattle.std.proofs.Common.{◌≡◌, ◌≢◌, ℕ, ◌+◌, ◌-◌, ◌<◌, ◌≤◌, Bool, true, false, cond, List, [], ◌∷◌, ◌++◌, length, take, drop, map, refl, sym, ap, ◌∙◌, subst, suc, arith, inl, inr, ◌&&◌, ◌||◌, append_assoc, append-nil, codes, IsTrue}
-use Rattle.std.proofs.lemmas.List.{take-append-le, drop-append-le, take_at, drop_at, take-append-drop, length-take-le, length-take, length-map, length-append, take_all}
+use Rattle.std.proofs.Common.{◌≡◌, ◌≢◌, ℕ, ◌+◌, ◌-◌, ◌<◌, ◌≤◌, Bool, true, false, cond, List, [], ◌∷◌, ◌++◌, length, take, drop, refl, sym, ap, ◌∙◌, subst, suc, arith, inl, inr, ◌&&◌, ◌||◌, append_assoc, append-nil, codes, IsTrue}
+use Rattle.std.proofs.lemmas.List.{take-append-le, drop-append-le, take_at, drop_at, take-append-drop, length-take-le, length-take, length-map, length-append}
 use Rattle.std.proofs.lemmas.List.Elements.{All-head, All-tail}
 use Rattle.std.proofs.lemmas.List.Sums.{sum_by-append}
-use Rattle.std.proofs.lemmas.List.Folds.{prefix_len-append, list_all-append, list_any-append}
+use Rattle.std.proofs.lemmas.List.Folds.{list_all-append, list_any-append}
 use Rattle.std.proofs.Math.Seq.{take-append-add}
 use Rattle.std.proofs.lemmas.Bool.{false≢true, ne_eqb, cases_lt}
-use Rattle.std.specs.List.{count_by, sum_by, prefix_len, flat_map, list_all, list_any}
+use Rattle.std.specs.List.{count_by, prefix_len, flat_map, list_all, list_any}
 use Rattle.std.specs.Prelude.{All}
-use Rattle.httparse.specs.Grammar.{is_token_byte, is_uri_byte, is_value_byte, AllPass, LineEnd, crlf, lf, print_end, print_blank, print_version, Field, print_field, print_section, IsField, RequestHead, IsRequestHead, print_request, ReadsRequest, HasNoRequest, NeverHasRequest}
+use Rattle.httparse.specs.Grammar.{is_token_byte, is_uri_byte, is_value_byte, AllPass, LineEnd, crlf, lf, print_end, print_blank, print_version, Field, print_field, print_section, IsField, RequestHead, IsRequestHead, print_request, ReadsRequest, NeverHasRequest}
 use Rattle.httparse.specs.Pieces.{is_newline, Stops}
 use Rattle.httparse.specs.Spans.{IsRequestWithin, IsRequestOf, header_bytes, name_and_value}
 use Rattle.httparse.specs.declared.spans.HeaderSpan.{HeaderSpan}
@@ -16,7 +16,7 @@ use Rattle.httparse.specs.declared.spans.RequestSpans.{RequestSpans}
 use Rattle.bw_http.specs.Looks.{IsHeadAt}
 use Rattle.httparse.proofs.PieceLemmas.{Stops_token}
 use Rattle.httparse.proofs.GrammarLemmas.{print_request-append}
-use Rattle.bw_http.specs.Heads.{is_line_feed, skip_newlines, line_count, IsWithinLimits, BeginsWith, HasNoHead}
+use Rattle.bw_http.specs.Heads.{is_line_feed, skip_newlines, line_count, BeginsWith, HasNoHead}
 
 -- ---- lines
 

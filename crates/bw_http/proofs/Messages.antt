@@ -1,20 +1,13 @@
 -- The head that was found, and the message.
-use Rattle.std.proofs.Common.{◌≡◌, ◌≢◌, ℕ, ◌+◌, ◌-◌, ◌<◌, ◌≤◌, Bool, true, false, cond, not, List, [], ◌∷◌, ◌++◌, length, take, drop, map, refl, sym, ap, ◌∙◌, subst, arith, append_assoc, append-nil, Option, Some, None, Result, Ok, Err, MatchResult, inl, inr, slice_range, nat_lt, nat_le, codes, ◌&&◌, ◌==◌, min}
-use Rattle.std.proofs.lemmas.Bool.{false≢true}
-use Rattle.std.proofs.lemmas.Bool.Decides.{nat_tests}
-use Rattle.std.proofs.lemmas.List.{take-append-drop, length-drop, length-take-le, length-append, drop-take, drop_at, take-take, take_at, nil_from_length}
-use Rattle.httparse.specs.Grammar.{RequestHead, print_request}
-use Rattle.httparse.specs.Spans.{header_bytes, name_and_value, span_bytes}
+use Rattle.std.proofs.Common.{◌≡◌, ◌≢◌, ℕ, ◌+◌, ◌-◌, ◌<◌, ◌≤◌, List, [], ◌∷◌, ◌++◌, length, take, drop, map, refl, sym, ap, ◌∙◌, subst, arith, append_assoc, append-nil, Option, Some, None, Ok, Err, inr, slice_range}
+use Rattle.std.proofs.lemmas.List.{take-append-drop, length-take-le, length-append, drop-take, drop_at, take-take, take_at}
+use Rattle.httparse.specs.Grammar.{print_request}
+use Rattle.httparse.specs.Spans.{header_bytes, span_bytes}
 use Rattle.httparse.specs.declared.spans.HeaderSpan.{HeaderSpan}
 use Rattle.httparse.specs.declared.spans.RequestSpans.{RequestSpans}
 use Rattle.bw_http.specs.declared.request.ReadOutcome.{ReadOutcome}
-use Rattle.bw_http.specs.declared.request.ReadOutcome.TheVariants.{End, BadHead, Truncated, HeadTooLong, NoHost, Coding, BadLength, LengthRequired, BodyTooLong, Media, ReadFault, Memory}
-use Rattle.bw_http.specs.declared.decide.Decision.{Decision}
-use Rattle.bw_http.specs.declared.decide.Decision.TheVariants.{Refused, Body}
-use Rattle.bw_http.specs.declared.request.Method.{Method}
-use Rattle.bw_http.specs.declared.request.Method.TheVariants.{Get, Post, Other}
-use Rattle.bw_http.specs.declared.decide.Length.{Length}
-use Rattle.bw_http.specs.declared.decide.Length.TheVariants.{Missing, Wrong, Bytes}
+use Rattle.bw_http.specs.declared.request.ReadOutcome.TheVariants.{End, Truncated, Memory}
+use Rattle.bw_http.specs.declared.decide.Decision.TheVariants.{Body}
 use Rattle.bw_http.specs.declared.reading.Parts.{Parts}
 use Rattle.bw_http.specs.declared.request.Request.{Request}
 use Rattle.std.specs.Io.KnownBytes.{Consumes, Keeps}
@@ -23,10 +16,10 @@ use Rattle.bw_http.proofs.Tests.{decide_size}
 use Rattle.bw_http.specs.declared.reading.Verdict.TheVariants.{Short}
 use Rattle.bw_http.specs.declared.reading.Lack.TheVariants.{Bytes as Lacking}
 use Rattle.httparse.proofs.GrammarLemmas.{ReadsRequest-append}
-use Rattle.bw_http.specs.Heads.{BeginsWith, HasNoHead}
-use Rattle.bw_http.specs.Decisions.{decide, decide_on, decide_in_order, decide_body, is_post, is_one, is_none, is_form, length_of, method_of, values}
+use Rattle.bw_http.specs.Heads.{BeginsWith}
+use Rattle.bw_http.specs.Decisions.{decide, decide_on, method_of}
 use Rattle.bw_http.specs.Looks.{IsHeadAt}
-use Rattle.bw_http.specs.Messages.{IsMessage, IsMessageAt, IsDenied, LacksBody, IsShort, IsRefusal, IsOutcome, IsRequest, IsVerdict}
+use Rattle.bw_http.specs.Messages.{IsMessage, IsMessageAt, IsShort, IsRefusal, IsOutcome, IsRequest, IsVerdict}
 
 -- ---- the head that was found
 
@@ -43,7 +36,8 @@ decided bytes headers r at =
 rest_is : (bytes : List ℕ) (headers : List HeaderSpan) (r : RequestSpans) (at : IsHeadAt bytes headers r)
     → length bytes ≡ r.len + length (drop r.len bytes)
 rest_is bytes headers r at =
-    ap length at.begins.reads.1 ∙ length-append (print_request at.head) (drop r.len bytes) ∙ ap (λ (n : ℕ). n + length (drop r.len bytes)) (sym at.spans.len)
+    ap length at.begins.reads.1 ∙ length-append (print_request at.head) (drop r.len bytes)
+    ∙ ap (λ (n : ℕ). n + length (drop r.len bytes)) (sym at.spans.len)
 
 head_fits : (bytes : List ℕ) (headers : List HeaderSpan) (r : RequestSpans) (at : IsHeadAt bytes headers r) → r.len ≤ 16384
 head_fits bytes headers r at = omega (arith, at.spans.len, at.begins.limits.bytes)
@@ -90,7 +84,8 @@ message_at bytes headers r size at wants enough =
       size = sym count;
       method = refl;
       within = at.within.path;
-      target = sym (part_same 16384 r.path.start r.path.end bytes at.within.path.0 (omega (arith, head_fits bytes headers r at, at.within.path.1))) ∙ at.spans.path;
+      target = sym (part_same 16384 r.path.start r.path.end bytes at.within.path.0 (omega (arith, head_fits bytes headers r at, at.within.path.1)))
+          ∙ at.spans.path;
     }
 
 -- ---- the message

@@ -1,26 +1,19 @@
 -- The digits of numbers and keys, and where a path is cut.
-use Rattle.std.proofs.Common.{◌≡◌, ◌≢◌, ℕ, zero, suc, ◌+◌, ◌-◌, ◌*◌, ◌/◌, ◌%◌, ◌^◌, ◌<◌, ◌≤◌, Bool, true, false, List, [], ◌∷◌, ◌++◌, length, take, drop, get_or, refl, sym, ap, ◌∙◌, subst, arith, codes, decimal, ◌&&◌, slice_index, Result, Ok, Err, Option, Some, None, MatchOption, Bor, rules}
-use Rattle.std.proofs.lemmas.List.{nil_from_length, take_more, take_all, length-take-le, length-append, append_cancel_left, append-nil}
+use Rattle.std.proofs.Common.{◌≡◌, ◌≢◌, ℕ, zero, suc, ◌+◌, ◌*◌, ◌/◌, ◌%◌, ◌^◌, ◌<◌, Bool, true, false, List, [], ◌∷◌, ◌++◌, length, take, drop, get_or, refl, sym, ap, ◌∙◌, subst, arith, codes, decimal, ◌&&◌, slice_index, Result, Ok, Err, Option, Some, None, MatchOption, Bor}
+use Rattle.std.proofs.lemmas.List.{nil_from_length, take_more, take_all, length-take-le, length-append, append_cancel_left}
 use Rattle.std.proofs.lemmas.List.Folds.{list_all-append}
 use Rattle.std.proofs.lemmas.List.Sums.{AllPass-from_list_all}
 use Rattle.std.proofs.lemmas.Bool.{false≢true}
 use Rattle.std.proofs.lemmas.Bool.Decides.{nat_tests}
 use Rattle.std.proofs.lemmas.Int.Digits.{digits_value_push, digits_value-lt}
-use Rattle.std.proofs.lemmas.Str.{digit_value-digit_char, IsAscii-append, IsUtf8-from_ascii}
-use Rattle.std.proofs.lemmas.Str.Ascii.{IsAscii-nil, IsAscii-cons, IsAscii-from_all}
 use Rattle.std.proofs.lemmas.Str.Parse.{IsNumeralModel}
 use Rattle.std.proofs.lemmas.Str.Pattern.{IsSplitOnceResult, split_parts}
-use Rattle.std.proofs.lemmas.Fmt.{decimal_is_IsNumeral, decimal-digits_value, first_decimal, decimal_digit, parse-decimal, IsAscii-decimal}
-use Rattle.std.specs.List.{list_all, AllPass}
-use Rattle.std.specs.Prelude.{All, IsUtf8}
-use Rattle.std.specs.Str.{IsAscii}
-use Rattle.bw_lang.specs.Bytes.{is_letter, is_word_byte}
-use Rattle.bw_lang.specs.TokenForms.{IsWord}
+use Rattle.std.proofs.lemmas.Fmt.{decimal_is_IsNumeral, decimal-digits_value, first_decimal, decimal_digit, parse-decimal}
+use Rattle.std.specs.List.{list_all}
 use Rattle.std.specs.declared.num.ParseIntError.{ParseIntError}
 use Rattle.std.specs.Char.{digit_value, digit_char}
 use Rattle.std.specs.Str.Parse.{digits_value, AllDigits, IsNumeral, ParsesUnsigned, without_leading_plus}
-use Rattle.bw_http.specs.declared.request.Path.{Path}
-use Rattle.bw_http.specs.declared.request.Path.TheVariants.{Index, Start, Turn, Other}
+use Rattle.bw_http.specs.declared.request.Path.TheVariants.{Turn}
 use Rattle.bw_http.specs.Paths.{hex_digits, is_key_digit, IsCount, IsForm, HasNo, IsCutAt, SpellsNoTurn, spelling}
 
 -- ---- decimal numbers
@@ -61,7 +54,8 @@ count_read text n first parses =
     positive (suc n) is = omega arith
 
 -- what wasn't parsed is no number that counts
-pub count_unread : (text : List ℕ) (e : ParseIntError) (n : ℕ) → ParsesUnsigned {E = ParseIntError} 32 10 text (Err e) → IsCount n → text ≢ decimal n
+pub count_unread : (text : List ℕ) (e : ParseIntError) (n : ℕ) → ParsesUnsigned {E = ParseIntError} 32 10 text (Err e) → IsCount n
+    → text ≢ decimal n
 count_unread text e n parses count is =
     let read : ◌≡◌ {A = Result ℕ ParseIntError} (Err e) (Ok n) = parse-decimal 32 n text (Err e) count.1 (omega (arith, count.1)) is parses in
     cc
@@ -172,7 +166,7 @@ cuts mark text r is small = go r (split_parts mark text r is small)
   where
     go : (r : Option (Bor (List ℕ) × Bor (List ℕ)))
         → MatchOption r ((i : ℕ) → i < length text → get_or text i 0 ≢ mark)
-          (λ x. (text ≡ x.0.now ++ (mark ∷ x.1.now)) × ((i : ℕ) → i < length x.0.now → get_or x.0.now i 0 ≢ mark))
+        (λ x. (text ≡ x.0.now ++ (mark ∷ x.1.now)) × ((i : ℕ) → i < length x.0.now → get_or x.0.now i 0 ≢ mark))
         → MatchOption r (HasNo mark text) (λ parts. IsCutAt mark text parts.0.now parts.1.now)
     go None none = has_no mark text none
     go (Some x) parts = (parts.0, has_no mark x.0.now parts.1)

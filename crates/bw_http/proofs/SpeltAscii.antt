@@ -1,27 +1,17 @@
 -- The spelling of a path is ASCII.
-use Rattle.std.proofs.Common.{◌≡◌, ◌≢◌, ℕ, zero, suc, ◌+◌, ◌-◌, ◌*◌, ◌/◌, ◌%◌, ◌^◌, ◌<◌, ◌≤◌, Bool, true, false, List, [], ◌∷◌, ◌++◌, length, take, drop, get_or, refl, sym, ap, ◌∙◌, subst, arith, codes, decimal, ◌&&◌, slice_index, Result, Ok, Err, Option, Some, None, MatchOption, Bor, rules}
-use Rattle.std.proofs.lemmas.List.{nil_from_length, take_more, take_all, length-take-le, length-append, append_cancel_left, append-nil}
-use Rattle.std.proofs.lemmas.List.Folds.{list_all-append}
-use Rattle.std.proofs.lemmas.List.Sums.{AllPass-from_list_all}
-use Rattle.std.proofs.lemmas.Bool.{false≢true}
+use Rattle.std.proofs.Common.{◌≡◌, ◌≢◌, ℕ, ◌<◌, true, List, [], ◌∷◌, ◌++◌, sym, subst, arith, decimal, rules}
 use Rattle.std.proofs.lemmas.Bool.Decides.{nat_tests}
-use Rattle.std.proofs.lemmas.Int.Digits.{digits_value_push, digits_value-lt}
-use Rattle.std.proofs.lemmas.Str.{digit_value-digit_char, IsAscii-append, IsUtf8-from_ascii}
+use Rattle.std.proofs.lemmas.Str.{IsAscii-append, IsUtf8-from_ascii}
 use Rattle.std.proofs.lemmas.Str.Ascii.{IsAscii-nil, IsAscii-cons, IsAscii-from_all}
-use Rattle.std.proofs.lemmas.Str.Parse.{IsNumeralModel}
-use Rattle.std.proofs.lemmas.Str.Pattern.{IsSplitOnceResult, split_parts}
-use Rattle.std.proofs.lemmas.Fmt.{decimal_is_IsNumeral, decimal-digits_value, first_decimal, decimal_digit, parse-decimal, IsAscii-decimal}
+use Rattle.std.proofs.lemmas.Fmt.{IsAscii-decimal}
 use Rattle.std.specs.List.{list_all, AllPass}
 use Rattle.std.specs.Prelude.{All, IsUtf8}
 use Rattle.std.specs.Str.{IsAscii}
 use Rattle.bw_lang.specs.Bytes.{is_letter, is_word_byte}
 use Rattle.bw_lang.specs.TokenForms.{IsWord}
-use Rattle.std.specs.declared.num.ParseIntError.{ParseIntError}
-use Rattle.std.specs.Char.{digit_value, digit_char}
-use Rattle.std.specs.Str.Parse.{digits_value, AllDigits, IsNumeral, ParsesUnsigned, without_leading_plus}
 use Rattle.bw_http.specs.declared.request.Path.{Path}
 use Rattle.bw_http.specs.declared.request.Path.TheVariants.{Index, Start, Turn, Other}
-use Rattle.bw_http.specs.Paths.{hex_digits, is_key_digit, IsCount, IsForm, HasNo, IsCutAt, SpellsNoTurn, spelling}
+use Rattle.bw_http.specs.Paths.{hex_digits, is_key_digit, IsCount, IsForm, spelling}
 use Rattle.bw_http.proofs.Spellings.{hex-all, and-both}
 
 word_ascii : (word : List ℕ) → IsWord word → IsAscii word

@@ -1,11 +1,11 @@
 -- From the bytes that were taken to the whole stream, and what is free in a cut.
-use Rattle.std.proofs.Common.{◌≡◌, ◌≢◌, ℕ, ◌+◌, ◌-◌, ◌⊎◌, ◌<◌, ◌≤◌, Bool, true, false, cond, eqb, List, [], ◌∷◌, ◌++◌, length, take, drop, refl, sym, ap, ◌∙◌, subst, arith, append_assoc, append-nil, inl, inr, Option, Some, None, Result, Ok, Err, rules}
-use Rattle.std.proofs.lemmas.List.{take-append-drop, length-append, length-take-le, drop_at, take_at, take-append-le, drop-append-le, append_cancel_left, drop_all, nil_from_length}
+use Rattle.std.proofs.Common.{◌≡◌, ℕ, ◌+◌, ◌⊎◌, ◌<◌, ◌≤◌, Bool, true, false, cond, eqb, List, [], ◌∷◌, ◌++◌, length, take, drop, refl, sym, ap, ◌∙◌, subst, arith, append_assoc, append-nil, inl, inr, Option, Some, None, Result, Ok, Err, rules}
+use Rattle.std.proofs.lemmas.List.{take-append-drop, length-append, drop_at, take_at, take-append-le, drop-append-le, drop_all, nil_from_length}
 use Rattle.std.proofs.lemmas.List.Sums.{sum_by-append, prefix_len-le-length}
 use Rattle.std.proofs.lemmas.List.Folds.{prefix_len-append}
 use Rattle.std.proofs.lemmas.Bool.{eqb-true, cases_lt}
 use Rattle.std.specs.List.{count_by, prefix_len}
-use Rattle.std.specs.Io.KnownBytes.{Consumes, IsAtEnd}
+use Rattle.std.specs.Io.KnownBytes.{Consumes}
 use Rattle.httparse.specs.Grammar.{RequestHead, IsRequestHead, lf, is_token_byte, print_request, ReadsRequest, NeverHasRequest}
 use Rattle.std.proofs.lemmas.Str.{IsUtf8-from_ascii}
 use Rattle.std.proofs.lemmas.Str.Ascii.{IsAscii-nil, IsAscii-cons}
@@ -15,10 +15,10 @@ use Rattle.bw_http.specs.declared.request.ReadOutcome.{ReadOutcome}
 use Rattle.bw_http.specs.declared.request.ReadOutcome.TheVariants.{End, BadHead, Truncated, HeadTooLong, NoHost, Coding, BadLength, LengthRequired, BodyTooLong, Media, ReadFault, Memory}
 use Rattle.bw_http.specs.declared.decide.Decision.TheVariants.{Refused, Body}
 use Rattle.bw_http.specs.declared.request.Request.{Request}
-use Rattle.bw_http.specs.Heads.{is_line_feed, skip_newlines, line_count, BeginsWith, HasNoHead, IsOverLimits, IsTooLong, IsWithinLimits}
+use Rattle.bw_http.specs.Heads.{is_line_feed, skip_newlines, line_count, BeginsWith, HasNoHead, IsTooLong}
 use Rattle.bw_http.specs.Decisions.{decide}
 use Rattle.bw_http.proofs.Heads.{line_count-head, head_in_front}
-use Rattle.bw_http.specs.Messages.{IsMessage, IsDenied, IsShort, LacksBody, IsRequest, IsRefusal, IsOutcome, ComesOf}
+use Rattle.bw_http.specs.Messages.{IsMessage, IsDenied, IsShort, IsRefusal, IsOutcome, ComesOf}
 use Rattle.bw_http.specs.Cuts.{AtFront, CutsAs, Cut, Tells}
 
 -- ---- more bytes behind a head
@@ -26,7 +26,8 @@ use Rattle.bw_http.specs.Cuts.{AtFront, CutsAs, Cut, Tells}
 begins-append : (bytes more : List ℕ) (h : RequestHead) (rest : List ℕ) → BeginsWith bytes h rest → BeginsWith (bytes ++ more) h (rest ++ more)
 begins-append bytes more h rest b = record { reads = ReadsRequest-append bytes h rest more b.reads; limits = b.limits }
 
-message-append : (bytes more : List ℕ) (h : RequestHead) (body rest : List ℕ) → IsMessage bytes h body rest → IsMessage (bytes ++ more) h body (rest ++ more)
+message-append : (bytes more : List ℕ) (h : RequestHead) (body rest : List ℕ) → IsMessage bytes h body rest
+    → IsMessage (bytes ++ more) h body (rest ++ more)
 message-append bytes more h body rest m = record {
   begins = subst (λ (t : List ℕ). BeginsWith (bytes ++ more) h t) (append_assoc body rest more) (begins-append bytes more h (body ++ rest) m.begins);
   size = m.size;
@@ -53,7 +54,8 @@ refusal_cut have left Media rest r = denied-append have left Media r
 refusal_cut have left ReadFault rest r = ((have, left, refl, r.0), ap (λ (t : List ℕ). t ++ left) r.1)
 refusal_cut have left Memory rest r = (r.0, r.1, message-append have left r.0 r.1 rest r.2)
 
-outcome_cut : (have left : List ℕ) (r : Result Request ReadOutcome) (rest : List ℕ) → IsOutcome have (left ≡ []) r rest → Cut (have ++ left) r (rest ++ left)
+outcome_cut : (have left : List ℕ) (r : Result Request ReadOutcome) (rest : List ℕ) → IsOutcome have (left ≡ []) r rest
+    → Cut (have ++ left) r (rest ++ left)
 outcome_cut have left (Ok q) rest o = (o.0, o.1, message-append have left o.0 o.1 rest o.2, o.3)
 outcome_cut have left (Err e) rest o = refusal_cut have left e rest o
 
@@ -166,7 +168,8 @@ denied_exact stream e (Err Truncated) rest d c =
     elim c.1 [
       | inl none ↦ absurd (none d.head d.rest d.begins)
       | inr lacks ↦
-          let bad : Refused e ≡ Body lacks.size = sym d.test ∙ same_decision stream d.head lacks.head d.rest lacks.rest d.begins lacks.begins ∙ lacks.wants in
+          let same = same_decision stream d.head lacks.head d.rest lacks.rest d.begins lacks.begins in
+          let bad : Refused e ≡ Body lacks.size = sym d.test ∙ same ∙ lacks.wants in
           cc
     ]
 denied_exact stream e (Err HeadTooLong) rest d c = absurd (no_long stream d.head d.rest d.begins c)

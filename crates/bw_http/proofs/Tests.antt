@@ -1,30 +1,18 @@
 -- What the tests on a head can come to.
-use Rattle.std.proofs.Common.{◌≡◌, ◌≢◌, ℕ, ◌+◌, ◌-◌, ◌<◌, ◌≤◌, Bool, true, false, cond, not, List, [], ◌∷◌, ◌++◌, length, take, drop, map, refl, sym, ap, ◌∙◌, subst, arith, append_assoc, append-nil, Option, Some, None, Result, Ok, Err, MatchResult, inl, inr, slice_range, nat_lt, nat_le, codes, ◌&&◌, ◌==◌, min}
+use Rattle.std.proofs.Common.{◌≡◌, ℕ, ◌≤◌, Bool, true, false, cond, not, List, map, refl, sym, ap, ◌∙◌, arith, nat_lt, nat_le, codes, ◌&&◌, ◌==◌}
 use Rattle.std.proofs.lemmas.Bool.{false≢true}
 use Rattle.std.proofs.lemmas.Bool.Decides.{nat_tests}
-use Rattle.std.proofs.lemmas.List.{take-append-drop, length-drop, length-take-le, length-append, drop-take, drop_at, take-take, take_at, nil_from_length}
-use Rattle.httparse.specs.Grammar.{RequestHead, print_request}
-use Rattle.httparse.specs.Spans.{header_bytes, name_and_value, span_bytes}
-use Rattle.httparse.specs.declared.spans.HeaderSpan.{HeaderSpan}
-use Rattle.httparse.specs.declared.spans.RequestSpans.{RequestSpans}
+use Rattle.httparse.specs.Grammar.{RequestHead}
+use Rattle.httparse.specs.Spans.{name_and_value}
 use Rattle.bw_http.specs.declared.request.ReadOutcome.{ReadOutcome}
 use Rattle.bw_http.specs.declared.request.ReadOutcome.TheVariants.{End, BadHead, Truncated, HeadTooLong, NoHost, Coding, BadLength, LengthRequired, BodyTooLong, Media, ReadFault, Memory}
 use Rattle.bw_http.specs.declared.decide.Decision.{Decision}
 use Rattle.bw_http.specs.declared.decide.Decision.TheVariants.{Refused, Body}
 use Rattle.bw_http.specs.declared.request.Method.{Method}
-use Rattle.bw_http.specs.declared.request.Method.TheVariants.{Get, Post, Other}
 use Rattle.bw_http.specs.declared.decide.Length.{Length}
 use Rattle.bw_http.specs.declared.decide.Length.TheVariants.{Missing, Wrong, Bytes}
-use Rattle.bw_http.specs.declared.reading.Parts.{Parts}
-use Rattle.bw_http.specs.declared.request.Request.{Request}
-use Rattle.std.specs.Io.KnownBytes.{Consumes, Keeps}
-use Rattle.bw_http.specs.Taken.{IsFilled}
-use Rattle.bw_http.specs.declared.reading.Verdict.TheVariants.{Short}
-use Rattle.httparse.proofs.GrammarLemmas.{ReadsRequest-append}
-use Rattle.bw_http.specs.Heads.{BeginsWith, HasNoHead}
 use Rattle.bw_http.specs.Decisions.{decide, decide_on, decide_in_order, decide_body, is_post, is_one, is_none, is_form, length_of, method_of, values}
-use Rattle.bw_http.specs.Looks.{IsHeadAt}
-use Rattle.bw_http.specs.Messages.{IsMessage, IsMessageAt, IsDenied, LacksBody, IsShort, IsRefusal, IsOutcome, IsRequest, IsVerdict}
+use Rattle.bw_http.specs.Messages.{IsDenied, IsRefusal}
 
 -- one of the six refusals of the tests
 is_test : ReadOutcome → Bool

@@ -1,14 +1,10 @@
 -- The bytes of replies, piece by piece.
-use Rattle.std.proofs.Common.{◌≡◌, ℕ, zero, suc, ◌+◌, ◌<◌, Bool, true, false, cond, not, List, [], ◌∷◌, ◌++◌, length, map, take, drop, refl, sym, ap, ◌∙◌, arith, codes, append_assoc, Result, subst}
+use Rattle.std.proofs.Common.{◌≡◌, ℕ, zero, suc, ◌+◌, ◌<◌, Bool, true, false, cond, not, List, [], ◌∷◌, ◌++◌, length, map, take, drop, refl, sym, ap, ◌∙◌, arith, codes, append_assoc}
 use Rattle.std.proofs.lemmas.List.{length-append, length-map}
 use Rattle.std.proofs.lemmas.Bool.Decides.{nat_tests}
 use Rattle.std.specs.List.{position_or_len}
 use Rattle.httparse.specs.Pieces.{is_newline}
-use Rattle.bw_out.specs.Sends.{Sends}
-use Rattle.bw_out.specs.declared.outside.Channel.{Ghosts}
-use Rattle.bw_lang.specs.declared.turn.TurnFault.{TurnFault}
-use Rattle.bw_http.specs.declared.replies.Reply.{Reply}
-use Rattle.bw_http.specs.Replies.{head, message, plain, text_type, shown, fault_words, bytes_of, IsLineCut}
+use Rattle.bw_http.specs.Replies.{head, message, text_type, shown, IsLineCut}
 
 -- a head, and a line of two parts behind it
 pub text_bytes : (status more words ending : List ℕ) (n : ℕ) → n ≡ length words + length ending + 1
@@ -38,7 +34,8 @@ shown_end : (b : ℕ) → is_newline b ≡ true → shown b ≡ 32
 shown_end b is = grind (arith, nat_tests)
 
 -- where the first newline stands, by the first byte
-step : (b : ℕ) (bytes : List ℕ) (t : Bool) → is_newline b ≡ t → position_or_len is_newline (b ∷ bytes) ≡ cond (not t) (1 + position_or_len is_newline bytes) 0
+step : (b : ℕ) (bytes : List ℕ) (t : Bool) → is_newline b ≡ t
+    → position_or_len is_newline (b ∷ bytes) ≡ cond (not t) (1 + position_or_len is_newline bytes) 0
 step b bytes t is = ap (λ (u : Bool). cond (not u) (1 + position_or_len is_newline bytes) 0) is
 
 pub shown_all : (bytes : List ℕ) → position_or_len is_newline bytes ≡ length bytes → map shown bytes ≡ bytes

@@ -1,19 +1,17 @@
 -- What the header tests decide of a whole head.
-use Rattle.std.specs.Prelude.{◌≡◌, ℕ, ◌+◌, ◌≤◌, ◌<◌, Bool, true, false, cond, not, ◌&&◌, ◌==◌, nat_lt, nat_le, List, [], ◌∷◌, length, map, take, filter, codes, ⊤}
+use Rattle.std.specs.Prelude.{◌≡◌, ℕ, ◌≤◌, Bool, true, false, cond, not, ◌&&◌, ◌==◌, nat_lt, nat_le, List, [], ◌∷◌, length, map, take, filter, codes}
 use Rattle.std.specs.List.{list_all, position_or_len}
 use Rattle.std.specs.Str.{bytes_eq}
 use Rattle.std.specs.Char.{to_ascii_lowercase, is_ascii_digit}
 use Rattle.std.specs.Str.Parse.{digits_value}
 use Rattle.httparse.specs.Grammar.{RequestHead, trim_ows}
 use Rattle.httparse.specs.Spans.{span_bytes, name_and_value, IsWithin}
-use Rattle.httparse.specs.declared.spans.Span.{Span}
 use Rattle.bw_http.specs.declared.decide.Found.{Found}
 use Rattle.bw_http.specs.declared.decide.Found.TheVariants.{Absent, One, Several}
 use Rattle.bw_http.specs.declared.decide.Length.{Length}
 use Rattle.bw_http.specs.declared.decide.Length.TheVariants.{Missing, Wrong, Bytes}
 use Rattle.bw_http.specs.declared.request.Method.{Method}
 use Rattle.bw_http.specs.declared.request.Method.TheVariants.{Get, Post, Other}
-use Rattle.bw_http.specs.declared.request.ReadOutcome.{ReadOutcome}
 use Rattle.bw_http.specs.declared.request.ReadOutcome.TheVariants.{NoHost, Coding, BadLength, LengthRequired, BodyTooLong, Media}
 use Rattle.bw_http.specs.declared.decide.Decision.{Decision}
 use Rattle.bw_http.specs.declared.decide.Decision.TheVariants.{Refused, Body}

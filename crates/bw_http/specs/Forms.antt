@@ -1,5 +1,5 @@
 -- The form that a body sends.
-use Rattle.std.specs.Prelude.{ℕ, List, map, string_bytes, String}
+use Rattle.std.specs.Prelude.{ℕ, List, map}
 use Rattle.std.specs.Str.Lossy.{utf8_lossy}
 use Rattle.form_urlencoded.specs.Form.{raw_pairs, decode}
 

@@ -1,5 +1,5 @@
 -- Heads within the limits. What a head is, is the grammar of `httparse` (RFC 9112, sections 2 to 5).
-use Rattle.std.specs.Prelude.{◌≡◌, ℕ, ◌+◌, ◌≤◌, ◌⊎◌, Bool, List, length, drop, ◌==◌}
+use Rattle.std.specs.Prelude.{ℕ, ◌≤◌, ◌⊎◌, Bool, List, length, drop, ◌==◌}
 use Rattle.std.specs.List.{count_by, prefix_len}
 use Rattle.httparse.specs.Ascii.{line_feed}
 use Rattle.httparse.specs.Pieces.{is_newline}

@@ -1,5 +1,5 @@
 -- What a look at the front of the bytes found.
-use Rattle.std.specs.Prelude.{◌≡◌, ℕ, List, take, drop, ⊤}
+use Rattle.std.specs.Prelude.{ℕ, List, take, drop, ⊤}
 use Rattle.httparse.specs.Grammar.{RequestHead}
 use Rattle.httparse.specs.Spans.{IsRequestAt, IsRequestWithin}
 use Rattle.httparse.specs.declared.spans.HeaderSpan.{HeaderSpan}

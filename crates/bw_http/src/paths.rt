@@ -153,7 +153,8 @@ fn cut(text: &str, mark: char) -> Option<(&str, &str)>
 
 /// The text behind this front.
 fn after<'a>(front: &str, text: &'a str) -> Option<&'a str>
-    ensures { MatchOption result ((rest : List ℕ) → text.now ≢ front.now ++ rest) (λ rest. text.now ≡ front.now ++ rest.now) }
+    ensures { MatchOption result ((rest : List ℕ) → text.now ≢ front.now ++ rest)
+        (λ rest. text.now ≡ front.now ++ rest.now) }
 {
     text.strip_prefix(front)
 }

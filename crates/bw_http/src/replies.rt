@@ -79,9 +79,7 @@ pub fn write_reply<W: Sink>(
         Reply::Repeated(field) => write_field(b"repeated ", field, fields, sink),
         Reply::FieldTooLong(field) => write_field(b"too long ", field, fields, sink),
         Reply::Method(allow) => write_allowed(allow, sink),
-        Reply::Stale(turn) => {
-            write_number(b"409 Conflict", b"current turn ", turn as u64, sink)
-        }
+        Reply::Stale(turn) => { write_number(b"409 Conflict", b"current turn ", turn as u64, sink) }
         Reply::Failed(fault) => write_failed(fault, sink),
         Reply::Bad => write_words(b"400 Bad Request", b"bad request", sink),
         Reply::NoSuch => write_words(b"404 Not Found", b"no such page", sink),
@@ -89,7 +87,11 @@ pub fn write_reply<W: Sink>(
         Reply::BodyTooLong => write_words(b"413 Content Too Large", b"body too large", sink),
         Reply::Media => write_words(b"415 Unsupported Media Type", b"form data wanted", sink),
         Reply::HeadTooLong => {
-            write_words(b"431 Request Header Fields Too Large", b"head too large", sink)
+            write_words(
+                b"431 Request Header Fields Too Large",
+                b"head too large",
+                sink,
+            )
         }
         Reply::NoNumbers => write_words(b"503 Service Unavailable", b"no numbers", sink),
         Reply::NoTurns => write_words(b"503 Service Unavailable", b"no turns", sink),
@@ -129,8 +131,7 @@ fn allow_line(allow: Allow) -> &'static [u8]
 
 /// Writes the reply to a method that the path doesn't serve.
 fn write_allowed<W: Sink>(allow: Allow, sink: &mut W) -> Result<(), WriteFault>
-    ensures { Sends W.Channel sink.old sink.new
-        (message (codes "405 Method Not Allowed") text_type (spec.allow_line allow) (codes "method not allowed\n")) result }
+    ensures { Sends W.Channel sink.old sink.new (bytes_of [] (Reply.Method allow)) result }
 {
     write_text(
         b"405 Method Not Allowed",
@@ -184,7 +185,13 @@ fn write_text<'a, W: Sink>(
         (message status.now text_type more.now ((words.now ++ ending.now) ++ codes "\n")) result }
 {
     let length = words.len() + ending.len() + 1;
-    write_head(status, b"text/plain; charset=utf-8", more, length as u64, sink)?;
+    write_head(
+        status,
+        b"text/plain; charset=utf-8",
+        more,
+        length as u64,
+        sink,
+    )?;
     write_parts(sink, &[words, ending, b"\n"])
 }
 
@@ -227,7 +234,8 @@ fn write_name<W: Sink>(words: &[u8], name: &[u8], sink: &mut W) -> Result<(), Wr
 
 /// The bytes before the first carriage return or line feed, and those behind it.
 fn cut_line(bytes: &[u8]) -> Option<(&[u8], &[u8])>
-    ensures { MatchOption result (map spec.shown bytes.now ≡ bytes.now) (λ parts. IsLineCut bytes.now parts.0.now parts.1.now) }
+    ensures { MatchOption result (map spec.shown bytes.now ≡ bytes.now)
+        (λ parts. IsLineCut bytes.now parts.0.now parts.1.now) }
 {
     let end = bytes.iter().position(|b| is_newline(*b))?;
     Some((&bytes[..end], &bytes[end + 1..]))

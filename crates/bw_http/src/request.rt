@@ -41,8 +41,8 @@ pub enum ReadOutcome {
     BadHead,
     /// The source ended before the message was whole.
     Truncated,
-    /// No first part of the bytes taken is a head, and they pass a limit of heads: 16,384 bytes were taken, or they hold
-    /// 67 line feeds from the first byte that is neither CR nor LF.
+    /// No first part of the bytes taken is a head, and they pass a limit of heads: 16,384 bytes were taken, or they
+    /// hold 67 line feeds from the first byte that is neither CR nor LF.
     HeadTooLong,
     /// The version is 1.1, and there isn't exactly one header line `Host`.
     NoHost,
@@ -56,8 +56,8 @@ pub enum ReadOutcome {
     BodyTooLong,
     /// A POST with a body isn't said to send a form.
     Media,
-    /// A read failed, which the count of the source shows. No message was whole in the bytes taken, and all of them stay
-    /// in the intake.
+    /// A read failed, which the count of the source shows. No message was whole in the bytes taken, and all of them
+    /// stay in the intake.
     ReadFault,
     /// There was no memory for the request. The whole message was taken, so that the next call reads the next one.
     Memory,

@@ -1,4 +1,4 @@
-use Rattle.std.proofs.Common.{◌≡◌, ◌-◌, ◌≤◌, List, ℕ, length, drop}
+use Rattle.std.proofs.Common.{◌≡◌, ◌-◌, ◌≤◌, length, drop}
 use Rattle.bw_http.specs.Heads.{skip_newlines}
 use Rattle.bw_http.proofs.head.after_newlines.Given as goal
 

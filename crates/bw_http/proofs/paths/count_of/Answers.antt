@@ -1,4 +1,4 @@
-use Rattle.std.proofs.Common.{◌≡◌, true, ◌∙◌, sym}
+use Rattle.std.proofs.Common.{◌∙◌, sym}
 use Rattle.std.proofs.lemmas.Bool.{false≢true}
 use Rattle.bw_http.proofs.Spellings.{counts_from_one, count_read, count_unread}
 use Rattle.bw_http.proofs.paths.count_of.Goals as goal

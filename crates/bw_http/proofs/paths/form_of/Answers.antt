@@ -1,4 +1,4 @@
-use Rattle.std.proofs.Common.{◌≡◌, ◌≢◌, ℕ, List, codes, rules}
+use Rattle.std.proofs.Common.{◌≢◌, ℕ, List, codes, rules}
 use Rattle.bw_http.specs.declared.request.Path.{Path}
 use Rattle.bw_http.specs.declared.request.Path.TheVariants.{Index, Start, Turn, Other}
 use Rattle.bw_http.specs.Paths.{IsForm, SpellsNoName, SpellsNoTurn, spelling}

@@ -1,4 +1,4 @@
-use Rattle.std.proofs.Common.{◌≡◌, ℕ, List, true, length, ap, ◌∙◌, sym}
+use Rattle.std.proofs.Common.{length, ap, ◌∙◌, sym}
 use Rattle.std.proofs.lemmas.Bool.{false≢true}
 use Rattle.std.specs.List.{list_all}
 use Rattle.bw_http.specs.Paths.{is_key_digit}

@@ -1,4 +1,4 @@
-use Rattle.std.proofs.Common.{◌≡◌, ℕ, List, subst, sym, ap, ◌∙◌}
+use Rattle.std.proofs.Common.{ℕ, List, subst, sym, ap, ◌∙◌}
 use Rattle.std.specs.Prelude.{IsUtf8}
 use Rattle.bw_http.specs.Paths.{after_authority, path_part}
 use Rattle.bw_http.proofs.SpeltAscii.{no_text}

@@ -19,24 +19,25 @@ pub returns-in_err-count_of : goal.returns-in_err-count_of
 returns-in_err-count_of c =
     is_none _ _ c.from_residual-in_err-count_of.ensures
     (λ number key turn form is. c.in_err-count_of.ensures number form.0
-      (turn_number _ _ _ _ number key turn c.in_ok-turn.ensures c.in_ok-number.ensures form is).0)
+    (turn_number _ _ _ _ number key turn c.in_ok-turn.ensures c.in_ok-number.ensures form is).0)
 
 pub returns-in_err-key_of : goal.returns-in_err-key_of
 returns-in_err-key_of c =
     is_none _ _ c.from_residual-in_err-key_of.ensures
     (λ number key turn form is. c.in_err-key_of.ensures key form.1
-      (turn_key _ _ _ _ _ _ number key turn c.in_ok-turn.ensures c.in_ok-number.ensures c.in_ok-key.ensures form is).0)
+    (turn_key _ _ _ _ _ _ number key turn c.in_ok-turn.ensures c.in_ok-number.ensures c.in_ok-key.ensures form is).0)
 
 pub returns-in_err-count_of-2 : goal.returns-in_err-count_of-2
 returns-in_err-count_of-2 c =
     is_none _ _ c.from_residual-in_err-count_of-2.ensures
     (λ number key turn form is. c.in_err-count_of-2.ensures turn form.2
-      (turn_key _ _ _ _ _ _ number key turn c.in_ok-turn.ensures c.in_ok-number.ensures c.in_ok-key.ensures form is).1)
+    (turn_key _ _ _ _ _ _ number key turn c.in_ok-turn.ensures c.in_ok-number.ensures c.in_ok-key.ensures form is).1)
 
 pub returns : goal.returns
 returns c =
     let number = c.in_ok-count_of.ensures in
     let key = c.in_ok-key_of.ensures in
-    let turn = c.in_ok-count_of-2.ensures in
-    ((number.0, key.0, turn.0),
-      turn_spelt _ _ _ _ _ _ _ _ _ c.in_ok-turn.ensures c.in_ok-number.ensures c.in_ok-key.ensures number.1 key.1 turn.1)
+    let turn = c.in_ok-count_of-2.ensures in (
+      (number.0, key.0, turn.0),
+      turn_spelt _ _ _ _ _ _ _ _ _ c.in_ok-turn.ensures c.in_ok-number.ensures c.in_ok-key.ensures number.1 key.1 turn.1,
+    )

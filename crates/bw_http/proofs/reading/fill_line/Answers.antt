@@ -22,9 +22,9 @@ more-preserved g c =
       took = took_more g.S.Channel g.met.S.Source.same_trans before.took (took c.in_ok-fill.ensures.takes (λ e. absurd (false≢true e)));
       none = subst (λ (t : List ℕ). HasNoHead t) c.bytes-in-more-2.ensures.value
           (stays_none c.more.begun c.is_blank.result c.more.intake filled.0 held bytes c.bytes-held.ensures.value all
-            before.blank c.is_blank.ensures before.none worth);
+          before.blank c.is_blank.ensures before.none worth);
       blank = λ idle. subst (λ (t : List ℕ). list_all is_newline t ≡ true) c.bytes-in-more-2.ensures.value
           (stays_blank c.more.begun c.is_blank.result c.more.intake filled.0 held bytes c.bytes-held.ensures.value all
-            before.blank c.is_blank.ensures idle);
+          before.blank c.is_blank.ensures idle);
       grows = omega (arith, before.grows, ap length filled.2, length-append c.more.intake filled.0);
     }

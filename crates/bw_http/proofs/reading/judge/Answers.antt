@@ -37,8 +37,8 @@ overflow_add-result c =
     let d = decided c.args.bytes.now c.args.headers.now r c.requires in
     let used = take r.headers c.args.headers.now in
     let e = c.in-Body.ensures
-      ∙ ap (λ (t : List ℕ). decide_on t r.version (map (header_bytes c.front-part.result.now) used)) c.of-name.ensures
-      ∙ ap (λ (t : List ℕ). decide_on (slice_range t r.method.start r.method.end) r.version (map (header_bytes t) used)) c.front-part.ensures
-      ∙ d in
+    ∙ ap (λ (t : List ℕ). decide_on t r.version (map (header_bytes c.front-part.result.now) used)) c.of-name.ensures
+    ∙ ap (λ (t : List ℕ). decide_on (slice_range t r.method.start r.method.end) r.version (map (header_bytes t) used)) c.front-part.ensures
+    ∙ d in
     let lacks = body_lacks c.args.bytes.now c.args.headers.now r c.in-Body.size c.requires (sym e) c.if-bytes-spans.true in
     omega (arith, lacks.1)

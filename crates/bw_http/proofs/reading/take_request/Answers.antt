@@ -1,4 +1,4 @@
-use Rattle.std.proofs.Common.{◌≡◌, ℕ, List, refl, sym, ◌∙◌, subst}
+use Rattle.std.proofs.Common.{◌≡◌, ℕ, List, subst}
 use Rattle.std.specs.Io.KnownBytes.{IsAtEnd}
 use Rattle.bw_http.specs.declared.request.ReadOutcome.TheVariants.{ReadFault}
 use Rattle.bw_http.specs.Messages.{IsDenied}
@@ -24,10 +24,11 @@ pub returns-in-Ok-clause-taken : goal.returns-in-Ok-clause-taken
 returns-in-Ok-clause-taken g c =
     let m = same_message c.bytes.result.now c.turns.intake c.in-Whole.parts c.bytes.ensures.value c.in-Whole.ensures in
     let done = c.in-Ok.ensures m in
+    let ended = IsAtEnd (g.S.Channel.left c.turns.source) in
     record {
       have = c.turns.intake;
       filled = c.turns.invariant.filled;
-      outcome = message_read c.turns.intake (IsAtEnd (g.S.Channel.left c.turns.source)) c.in-Whole.parts m c.in-Ok.request c.take_message.new.intake done.0 done.1;
+      outcome = message_read c.turns.intake ended c.in-Whole.parts m c.in-Ok.request c.take_message.new.intake done.0 done.1;
     }
 
 pub returns-in-Err-clause-taken : goal.returns-in-Err-clause-taken

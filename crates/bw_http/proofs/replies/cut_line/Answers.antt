@@ -3,7 +3,7 @@ use Rattle.std.proofs.lemmas.List.{take_all, length-drop}
 use Rattle.std.proofs.lemmas.List.Sums.{position_or_len_is}
 use Rattle.httparse.specs.Pieces.{is_newline}
 use Rattle.bw_http.specs.Replies.{IsLineCut}
-use Rattle.bw_http.proofs.Written.{shown_all, shown_cut}
+use Rattle.bw_http.proofs.Written.{shown_cut}
 use Rattle.bw_http.proofs.replies.cut_line.Goals as goal
 
 pub returns : goal.returns

@@ -22,7 +22,7 @@ returns-in_err-write_shown g c =
     let words = c.args.words.now in let name = c.args.name.now in
     then_sends g.W.Channel g.met.W.Sink.same_trans _ (words ++ (map shown name ++ codes "\n")) (sent c.in_ok-write_head.ensures)
     (then_sends g.W.Channel g.met.W.Sink.same_trans words (map shown name ++ codes "\n") (sent c.in_ok-write_all.ensures)
-      (sends_stops (map shown name) (codes "\n") c.in_err-write_shown.ensures c.from_residual-in_err-write_shown.ensures.0 refl) refl)
+    (sends_stops (map shown name) (codes "\n") c.in_err-write_shown.ensures c.from_residual-in_err-write_shown.ensures.0 refl) refl)
     (name_bytes (codes "422 Unprocessable Content") [] words name _ refl)
 
 pub returns : goal.returns
@@ -30,5 +30,5 @@ returns g c =
     let words = c.args.words.now in let name = c.args.name.now in
     then_sends g.W.Channel g.met.W.Sink.same_trans _ (words ++ (map shown name ++ codes "\n")) (sent c.in_ok-write_head.ensures)
     (then_sends g.W.Channel g.met.W.Sink.same_trans words (map shown name ++ codes "\n") (sent c.in_ok-write_all.ensures)
-      (then_sends g.W.Channel g.met.W.Sink.same_trans (map shown name) (codes "\n") (sent c.in_ok-write_shown.ensures) c.write_all-2.ensures refl) refl)
+    (then_sends g.W.Channel g.met.W.Sink.same_trans (map shown name) (codes "\n") (sent c.in_ok-write_shown.ensures) c.write_all-2.ensures refl) refl)
     (name_bytes (codes "422 Unprocessable Content") [] words name _ refl)

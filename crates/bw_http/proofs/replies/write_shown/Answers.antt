@@ -14,7 +14,7 @@ returns-in_err-write_parts g c =
     let more = c.in-Some.more.now in
     then_sends g.W.Channel g.met.W.Sink.same_trans before.0 (map shown c.loop-line.rest.now) before.1
     (sends_stops (line ++ 32 ∷ []) (map shown more) c.in_err-write_parts.ensures c.from_residual.ensures.0
-      (line_cut c.loop-line.rest.now line more c.in-Some.ensures.0))
+    (line_cut c.loop-line.rest.now line more c.in-Some.ensures.0))
     before.2
 
 pub loop-line-preserved : goal.loop-line-preserved
@@ -25,7 +25,7 @@ loop-line-preserved g c =
       before.0 ++ (line ++ 32 ∷ []),
       sent_more g.W.Channel g.met.W.Sink.same_trans before.0 (line ++ 32 ∷ []) before.1 (sent c.in_ok-write_parts.ensures) refl,
       append_assoc before.0 (line ++ 32 ∷ []) (map shown more)
-      ∙ ap (λ (t : List ℕ). before.0 ++ t) (line_cut c.loop-line.rest.now line more c.in-Some.ensures.0) ∙ before.2,
+          ∙ ap (λ (t : List ℕ). before.0 ++ t) (line_cut c.loop-line.rest.now line more c.in-Some.ensures.0) ∙ before.2,
     )
 
 pub returns : goal.returns

@@ -1,4 +1,4 @@
-use Rattle.std.proofs.Common.{◌≡◌, ℕ, ◌++◌, List, take, ap, ◌∙◌, arith}
+use Rattle.std.proofs.Common.{ℕ, ◌++◌, List, take, ap, ◌∙◌, arith}
 use Rattle.bw_http.proofs.Buffers.{fill_view}
 use Rattle.bw_http.proofs.intake.Intake.fill.Goals as goal
 
@@ -13,7 +13,17 @@ returns-clause-taken g c =
       fill_view c.deref_mut.result.now c.read.new.buf _ _ held.result count held.new.buffer.len
           (omega (arith, s.buffer.ok.0, c.self.invariant, held.ensures.size, held.ensures.room, held.new.buffer.ok.0, room))
           c.in_ok-count.ensures.bound.0
-          (omega (arith, s.buffer.ok.0, c.self.invariant, held.ensures.size, held.ensures.room, held.new.buffer.ok.0, c.in_ok-count.ensures.bound.0, c.read.auto.buf, room))
+          (omega (
+            arith,
+            s.buffer.ok.0,
+            c.self.invariant,
+            held.ensures.size,
+            held.ensures.room,
+            held.new.buffer.ok.0,
+            c.in_ok-count.ensures.bound.0,
+            c.read.auto.buf,
+            room,
+          ))
           ∙ ap (λ (t : List ℕ). take held.result t ++ take count c.read.new.buf) c.deref_mut.ensures.value
           ∙ ap (λ (t : List ℕ). t ++ take count c.read.new.buf) (held.ensures.bytes ∙ c.self.view_is),
     )
