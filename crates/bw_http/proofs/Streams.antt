@@ -1,0 +1,256 @@
+-- From the bytes that were taken to the whole stream, and what is free in a cut.
+use Rattle.std.proofs.Common.{◌≡◌, ℕ, ◌+◌, ◌⊎◌, ◌<◌, ◌≤◌, Bool, true, false, cond, eqb, List, [], ◌∷◌, ◌++◌, length, take, drop, refl, sym, ap, ◌∙◌, subst, arith, append_assoc, append-nil, inl, inr, Option, Some, None, Result, Ok, Err, rules}
+use Rattle.std.proofs.lemmas.List.{take-append-drop, length-append, drop_at, take_at, take-append-le, drop-append-le, drop_all, nil_from_length}
+use Rattle.std.proofs.lemmas.List.Sums.{sum_by-append, prefix_len-le-length}
+use Rattle.std.proofs.lemmas.List.Folds.{prefix_len-append}
+use Rattle.std.proofs.lemmas.Bool.{eqb-true, cases_lt}
+use Rattle.std.specs.List.{count_by, prefix_len}
+use Rattle.std.specs.Io.KnownBytes.{Consumes}
+use Rattle.httparse.specs.Grammar.{RequestHead, IsRequestHead, lf, is_token_byte, print_request, ReadsRequest, NeverHasRequest}
+use Rattle.std.proofs.lemmas.Str.{IsUtf8-from_ascii}
+use Rattle.std.proofs.lemmas.Str.Ascii.{IsAscii-nil, IsAscii-cons}
+use Rattle.httparse.specs.Pieces.{is_newline}
+use Rattle.httparse.proofs.GrammarLemmas.{request_unique, ReadsRequest-append}
+use Rattle.bw_http.specs.declared.request.ReadOutcome.{ReadOutcome}
+use Rattle.bw_http.specs.declared.request.ReadOutcome.TheVariants.{End, BadHead, Truncated, HeadTooLong, NoHost, Coding, BadLength, LengthRequired, BodyTooLong, Media, ReadFault, Memory}
+use Rattle.bw_http.specs.declared.decide.Decision.TheVariants.{Refused, Body}
+use Rattle.bw_http.specs.declared.request.Request.{Request}
+use Rattle.bw_http.specs.Heads.{is_line_feed, skip_newlines, line_count, BeginsWith, HasNoHead, IsTooLong}
+use Rattle.bw_http.specs.Decisions.{decide}
+use Rattle.bw_http.proofs.Heads.{line_count-head, head_in_front}
+use Rattle.bw_http.specs.Messages.{IsMessage, IsDenied, IsShort, IsRefusal, IsOutcome, ComesOf}
+use Rattle.bw_http.specs.Cuts.{AtFront, CutsAs, Cut, Tells}
+
+-- ---- more bytes behind a head
+
+begins-append : (bytes more : List ℕ) (h : RequestHead) (rest : List ℕ) → BeginsWith bytes h rest → BeginsWith (bytes ++ more) h (rest ++ more)
+begins-append bytes more h rest b = record { reads = ReadsRequest-append bytes h rest more b.reads; limits = b.limits }
+
+message-append : (bytes more : List ℕ) (h : RequestHead) (body rest : List ℕ) → IsMessage bytes h body rest
+    → IsMessage (bytes ++ more) h body (rest ++ more)
+message-append bytes more h body rest m = record {
+  begins = subst (λ (t : List ℕ). BeginsWith (bytes ++ more) h t) (append_assoc body rest more) (begins-append bytes more h (body ++ rest) m.begins);
+  size = m.size;
+}
+
+pub denied-append : (bytes more : List ℕ) (e : ReadOutcome) → IsDenied bytes e → IsDenied (bytes ++ more) e
+denied-append bytes more e d = record { head = d.head; rest = d.rest ++ more; begins = begins-append bytes more d.head d.rest d.begins; test = d.test }
+
+-- ---- the whole stream
+
+refusal_cut : (have left : List ℕ) (e : ReadOutcome) (rest : List ℕ) → IsRefusal have (left ≡ []) e rest → CutsAs (have ++ left) e (rest ++ left)
+refusal_cut have left End rest r = ap (λ (t : List ℕ). have ++ t) r.0 ∙ append-nil have ∙ r.1
+refusal_cut have left BadHead rest r = (have, left, refl, r)
+refusal_cut have left Truncated rest r =
+    let same : have ++ left ≡ have = ap (λ (t : List ℕ). have ++ t) r.0 ∙ append-nil have in
+    (λ e. r.1 (sym same ∙ e), subst (λ (t : List ℕ). IsShort t) (sym same) r.2)
+refusal_cut have left HeadTooLong rest r = (have, left, refl, r)
+refusal_cut have left NoHost rest r = denied-append have left NoHost r
+refusal_cut have left Coding rest r = denied-append have left Coding r
+refusal_cut have left BadLength rest r = denied-append have left BadLength r
+refusal_cut have left LengthRequired rest r = denied-append have left LengthRequired r
+refusal_cut have left BodyTooLong rest r = denied-append have left BodyTooLong r
+refusal_cut have left Media rest r = denied-append have left Media r
+refusal_cut have left ReadFault rest r = ((have, left, refl, r.0), ap (λ (t : List ℕ). t ++ left) r.1)
+refusal_cut have left Memory rest r = (r.0, r.1, message-append have left r.0 r.1 rest r.2)
+
+outcome_cut : (have left : List ℕ) (r : Result Request ReadOutcome) (rest : List ℕ) → IsOutcome have (left ≡ []) r rest
+    → Cut (have ++ left) r (rest ++ left)
+outcome_cut have left (Ok q) rest o = (o.0, o.1, message-append have left o.0 o.1 rest o.2, o.3)
+outcome_cut have left (Err e) rest o = refusal_cut have left e rest o
+
+pub cut_tells : (before after : Option (List ℕ)) (held : List ℕ) (r : Result Request ReadOutcome) (rest : List ℕ)
+    → ComesOf before after held r rest → Tells before after held r rest
+cut_tells before None held r rest c bytes e =
+    absurd (subst (λ (t : Option (List ℕ)). Consumes t None c.filled.0) e c.filled.1)
+cut_tells before (Some left) held r rest c bytes e =
+    let split : bytes ≡ c.filled.0 ++ left = subst (λ (t : Option (List ℕ)). Consumes t (Some left) c.filled.0) e c.filled.1 in
+    let whole : held ++ bytes ≡ c.have ++ left
+    = ap (λ (t : List ℕ). held ++ t) split ∙ sym (append_assoc held c.filled.0 left) ∙ ap (λ (t : List ℕ). t ++ left) (sym c.filled.2) in
+    (left, refl, subst (λ (t : List ℕ). Cut t r (rest ++ left)) (sym whole) (outcome_cut c.have left r rest c.outcome))
+
+-- ---- what is free
+
+-- the lines of the front are lines of the whole
+lines_grow : (a b : List ℕ) → line_count a ≤ line_count (a ++ b)
+lines_grow a b = go (eqb (prefix_len is_newline a) (length a)) refl
+  where
+    k : ℕ
+    k = prefix_len is_newline a
+
+    small : prefix_len is_newline a ≤ length a
+    small = prefix_len-le-length is_newline a
+
+    go : (t : Bool) → eqb (prefix_len is_newline a) (length a) ≡ t → line_count a ≤ line_count (a ++ b)
+    go true e =
+        let all : prefix_len is_newline a ≡ length a = eqb-true _ _ e in
+        let none : line_count a ≡ 0 = ap (count_by is_line_feed) (drop_all (prefix_len is_newline a) a (omega arith)) in
+        omega (arith, none)
+    go false e =
+        let same : prefix_len is_newline (a ++ b) ≡ prefix_len is_newline a
+        = prefix_len-append is_newline a b ∙ ap (λ (t : Bool). cond t (length a + prefix_len is_newline b) (prefix_len is_newline a)) e in
+        let split : skip_newlines (a ++ b) ≡ skip_newlines a ++ b
+        = ap (λ (n : ℕ). drop n (a ++ b)) same ∙ drop-append-le (prefix_len is_newline a) a b small in
+        let counts : line_count (a ++ b) ≡ line_count a + count_by is_line_feed b
+        = ap (count_by is_line_feed) split ∙ sum_by-append (λ (x : ℕ). cond (is_line_feed x) 1 0) (skip_newlines a) b in
+        omega (arith, counts)
+
+-- where it ends behind the front, the front is its beginning
+front_in_head : (front more : List ℕ) (h : RequestHead) (rest : List ℕ) → BeginsWith (front ++ more) h rest
+    → length front < length (print_request h) → print_request h ≡ front ++ drop (length front) (print_request h)
+front_in_head front more h rest b longer =
+    let n = length front in
+    let start : take n (print_request h) ≡ front
+    = sym (take-append-le n (print_request h) rest (omega arith)) ∙ ap (take n) (sym b.reads.1) ∙ take_at front more n refl in
+    sym (take-append-drop n (print_request h)) ∙ ap (λ (t : List ℕ). t ++ drop n (print_request h)) start
+
+-- a front without a head and over the limits has none, whatever follows
+pub too_long_stays : (front more : List ℕ) → IsTooLong front → HasNoHead (front ++ more)
+too_long_stays front more t h rest b =
+    elim (cases_lt (length front) (length (print_request h))) [
+      | inl longer ↦ elim t.1 [
+        | inl bytes ↦ absurd (omega (arith, b.limits.bytes))
+        | inr lines ↦
+            let whole = front_in_head front more h rest b longer in
+            let grow = lines_grow front (drop (length front) (print_request h)) in
+            let same = ap line_count whole in
+            absurd (omega (arith, b.limits.lines, grow, same))
+      ]
+      | inr fits ↦ absurd (t.0 h (drop (length (print_request h)) front) (head_in_front front more h rest b fits))
+    ]
+
+-- a stream has at most one whole message
+pub message_unique : (stream : List ℕ) (h k : RequestHead) (a b r q : List ℕ) → IsMessage stream h a r → IsMessage stream k b q
+    → (h ≡ k) × (a ≡ b) × (r ≡ q)
+message_unique stream h k a b r q m n =
+    let same = request_unique stream h k (a ++ r) (b ++ q) m.begins.reads n.begins.reads in
+    let sizes : Body (length a) ≡ Body (length b) = sym m.size ∙ ap decide same.0 ∙ n.size in
+    let len : length a ≡ length b = cc in
+    let body : a ≡ b = sym (take_at a r (length b) len) ∙ ap (take (length b)) same.1 ∙ take_at b q (length b) refl in
+    (same.0, body, sym (drop_at a r (length b) len) ∙ ap (drop (length b)) same.1 ∙ drop_at b q (length b) refl)
+
+-- ---- where the head is whole, the outcome is a function of it
+
+no_bad : (stream : List ℕ) (h : RequestHead) (rest : List ℕ) → BeginsWith stream h rest → AtFront NeverHasRequest stream → ⊥
+no_bad stream h rest b f = f.3 f.1 h rest (subst (λ (t : List ℕ). ReadsRequest t h rest) f.2 b.reads)
+
+no_long : (stream : List ℕ) (h : RequestHead) (rest : List ℕ) → BeginsWith stream h rest → AtFront IsTooLong stream → ⊥
+no_long stream h rest b f = too_long_stays f.0 f.1 f.3 h rest (subst (λ (t : List ℕ). BeginsWith t h rest) f.2 b)
+
+no_end : (h : RequestHead) (rest : List ℕ) → BeginsWith [] h rest → ⊥
+no_end h rest b =
+    let nil : print_request h ≡ [] = nil_from_length (print_request h) (omega (arith, ap length b.reads.1, length-append (print_request h) rest)) in
+    let some = line_count-head h b.reads.0 in
+    let none = ap line_count nil in
+    absurd (omega (arith, some, none))
+
+same_decision : (stream : List ℕ) (h k : RequestHead) (r q : List ℕ) → BeginsWith stream h r → BeginsWith stream k q → decide h ≡ decide k
+same_decision stream h k r q a b = ap decide (request_unique stream h k r q a.reads b.reads).0
+
+same_test : (stream : List ℕ) (e f : ReadOutcome) → IsDenied stream e → IsDenied stream f → ◌≡◌ {A = Result Request ReadOutcome} (Err f) (Err e)
+same_test stream e f d g =
+    let same : Refused e ≡ Refused f = sym d.test ∙ same_decision stream d.head g.head d.rest g.rest d.begins g.begins ∙ g.test in
+    cc
+
+-- no test refuses the head of a whole message
+not_denied : (stream : List ℕ) (h : RequestHead) (body rest : List ℕ) (e : ReadOutcome) → IsMessage stream h body rest → IsDenied stream e → ⊥
+not_denied stream h body rest e m d =
+    let bad : Refused e ≡ Body (length body) = sym d.test ∙ same_decision stream d.head h d.rest (body ++ rest) d.begins m.begins ∙ m.size in
+    cc
+
+-- a test that refuses the head gives the outcome, unless a read failed first
+pub denied_exact : (stream : List ℕ) (e : ReadOutcome) (r : Result Request ReadOutcome) (rest : List ℕ)
+    → IsDenied stream e → Cut stream r rest → (r ≡ Err e) ⊎ (r ≡ Err ReadFault)
+denied_exact stream e (Ok q) rest d c = absurd (not_denied stream c.0 c.1 rest e c.2 d)
+denied_exact stream e (Err End) rest d c = absurd (no_end d.head d.rest (subst (λ (t : List ℕ). BeginsWith t d.head d.rest) c d.begins))
+denied_exact stream e (Err BadHead) rest d c = absurd (no_bad stream d.head d.rest d.begins c)
+denied_exact stream e (Err Truncated) rest d c =
+    elim c.1 [
+      | inl none ↦ absurd (none d.head d.rest d.begins)
+      | inr lacks ↦
+          let same = same_decision stream d.head lacks.head d.rest lacks.rest d.begins lacks.begins in
+          let bad : Refused e ≡ Body lacks.size = sym d.test ∙ same ∙ lacks.wants in
+          cc
+    ]
+denied_exact stream e (Err HeadTooLong) rest d c = absurd (no_long stream d.head d.rest d.begins c)
+denied_exact stream e (Err NoHost) rest d c = inl (same_test stream e NoHost d c)
+denied_exact stream e (Err Coding) rest d c = inl (same_test stream e Coding d c)
+denied_exact stream e (Err BadLength) rest d c = inl (same_test stream e BadLength d c)
+denied_exact stream e (Err LengthRequired) rest d c = inl (same_test stream e LengthRequired d c)
+denied_exact stream e (Err BodyTooLong) rest d c = inl (same_test stream e BodyTooLong d c)
+denied_exact stream e (Err Media) rest d c = inl (same_test stream e Media d c)
+denied_exact stream e (Err ReadFault) rest d c = inr refl
+denied_exact stream e (Err Memory) rest d c = absurd (not_denied stream c.0 c.1 rest e c.2 d)
+
+-- ---- what is due comes
+
+-- a whole message comes as its request, or as want of memory
+pub message_exact : (stream : List ℕ) (h : RequestHead) (body after rest : List ℕ) (e : ReadOutcome)
+    → IsMessage stream h body after → Cut stream (Err e) rest → (e ≡ Memory) ⊎ (e ≡ ReadFault)
+message_exact stream h body after rest End m c = absurd (no_end h (body ++ after) (subst (λ (t : List ℕ). BeginsWith t h (body ++ after)) c m.begins))
+message_exact stream h body after rest BadHead m c = absurd (no_bad stream h (body ++ after) m.begins c)
+message_exact stream h body after rest Truncated m c =
+    elim c.1 [
+      | inl none ↦ absurd (none h (body ++ after) m.begins)
+      | inr lacks ↦
+          let same = request_unique stream lacks.head h lacks.rest (body ++ after) lacks.begins.reads m.begins.reads in
+          let sizes : Body lacks.size ≡ Body (length body) = sym lacks.wants ∙ ap decide same.0 ∙ m.size in
+          let size : lacks.size ≡ length body = cc in
+          absurd (omega (arith, size, lacks.lacks, ap length same.1, length-append body after))
+    ]
+message_exact stream h body after rest HeadTooLong m c = absurd (no_long stream h (body ++ after) m.begins c)
+message_exact stream h body after rest NoHost m c = absurd (not_denied stream h body after NoHost m c)
+message_exact stream h body after rest Coding m c = absurd (not_denied stream h body after Coding m c)
+message_exact stream h body after rest BadLength m c = absurd (not_denied stream h body after BadLength m c)
+message_exact stream h body after rest LengthRequired m c = absurd (not_denied stream h body after LengthRequired m c)
+message_exact stream h body after rest BodyTooLong m c = absurd (not_denied stream h body after BodyTooLong m c)
+message_exact stream h body after rest Media m c = absurd (not_denied stream h body after Media m c)
+message_exact stream h body after rest ReadFault m c = inr refl
+message_exact stream h body after rest Memory m c = inl refl
+
+-- some head, so that the empty bytes may become one
+sample : RequestHead
+sample = record { blank = []; method = 48 ∷ []; target = 48 ∷ []; minor = 0; line_end = lf; fields = []; last = lf }
+
+sample_is : IsRequestHead sample
+unfolding sample is_token_byte
+sample_is = record {
+  method = (omega arith, search rules);
+  target = (omega arith, search rules);
+  target_text = IsUtf8-from_ascii (48 ∷ []) (IsAscii-cons 48 [] (omega arith) IsAscii-nil);
+  minor = omega arith;
+  fields = search rules;
+}
+
+no_bad_end : AtFront NeverHasRequest [] → ⊥
+no_bad_end f =
+    let nil : f.0 ≡ [] = nil_from_length f.0 (omega (arith, ap length f.2, length-append f.0 f.1)) in
+    f.3 (print_request sample) sample [] (sample_is, ap (λ (t : List ℕ). t ++ print_request sample) nil ∙ sym (append-nil (print_request sample)))
+
+no_long_end : AtFront IsTooLong [] → ⊥
+no_long_end f =
+    let nil : f.0 ≡ [] = nil_from_length f.0 (omega (arith, ap length f.2, length-append f.0 f.1)) in
+    elim f.3.1 [
+      | inl bytes ↦ absurd (omega (arith, bytes, ap length nil))
+      | inr lines ↦ absurd (omega (arith, lines, ap line_count nil))
+    ]
+
+-- an empty stream comes as its end
+pub end_exact : (r : Result Request ReadOutcome) (rest : List ℕ) → Cut [] r rest → (r ≡ Err End) ⊎ (r ≡ Err ReadFault)
+end_exact (Ok q) rest c = absurd (no_end c.0 (c.1 ++ rest) c.2.begins)
+end_exact (Err End) rest c = inl refl
+end_exact (Err BadHead) rest c = absurd (no_bad_end c)
+end_exact (Err Truncated) rest c = absurd (c.0 refl)
+end_exact (Err HeadTooLong) rest c = absurd (no_long_end c)
+end_exact (Err NoHost) rest c = absurd (no_end c.head c.rest c.begins)
+end_exact (Err Coding) rest c = absurd (no_end c.head c.rest c.begins)
+end_exact (Err BadLength) rest c = absurd (no_end c.head c.rest c.begins)
+end_exact (Err LengthRequired) rest c = absurd (no_end c.head c.rest c.begins)
+end_exact (Err BodyTooLong) rest c = absurd (no_end c.head c.rest c.begins)
+end_exact (Err Media) rest c = absurd (no_end c.head c.rest c.begins)
+end_exact (Err ReadFault) rest c = inr refl
+end_exact (Err Memory) rest c = absurd (no_end c.0 (c.1 ++ rest) c.2.begins)
+
+-- want of memory takes the message that a request would take
+pub memory_goes_on : (stream : List ℕ) (q : Request) (rest after : List ℕ) → Cut stream (Err Memory) rest → Cut stream (Ok q) after → rest ≡ after
+memory_goes_on stream q rest after c d = (message_unique stream c.0 d.0 c.1 d.1 rest after c.2 d.2).2

@@ -1,0 +1,30 @@
+use Rattle.std.proofs.Common.{◌≡◌, ℕ, List, ◌++◌, length, ap, ◌∙◌, arith, subst, true}
+use Rattle.std.proofs.lemmas.List.{length-append}
+use Rattle.std.proofs.lemmas.Bool.{false≢true}
+use Rattle.std.specs.List.{list_all}
+use Rattle.httparse.specs.Pieces.{is_newline}
+use Rattle.bw_out.proofs.TakeLaws.{took, took_more}
+use Rattle.bw_http.specs.Heads.{HasNoHead}
+use Rattle.bw_http.proofs.Messages.{filled_more}
+use Rattle.bw_http.proofs.Filling.{stays_blank, stays_none}
+use Rattle.bw_http.proofs.reading.fill_line.Goals as goal
+
+pub more-preserved : goal.more-preserved
+more-preserved g c =
+    let before = c.more.invariant in
+    let filled = c.in_ok-fill.ensures.taken in
+    let held = c.bytes-held.result.now in
+    let bytes = c.bytes-in-more-2.result.now in
+    let all : bytes ≡ c.more.intake ++ filled.0 = c.bytes-in-more-2.ensures.value ∙ filled.2 in
+    let worth = c.may_end_head.ensures c.if-may_end_head.false in
+    record {
+      filled = filled_more _ _ _ _ _ _ before.filled filled;
+      took = took_more g.S.Channel g.met.S.Source.same_trans before.took (took c.in_ok-fill.ensures.takes (λ e. absurd (false≢true e)));
+      none = subst (λ (t : List ℕ). HasNoHead t) c.bytes-in-more-2.ensures.value
+          (stays_none c.more.begun c.is_blank.result c.more.intake filled.0 held bytes c.bytes-held.ensures.value all
+          before.blank c.is_blank.ensures before.none worth);
+      blank = λ idle. subst (λ (t : List ℕ). list_all is_newline t ≡ true) c.bytes-in-more-2.ensures.value
+          (stays_blank c.more.begun c.is_blank.result c.more.intake filled.0 held bytes c.bytes-held.ensures.value all
+          before.blank c.is_blank.ensures idle);
+      grows = omega (arith, before.grows, ap length filled.2, length-append c.more.intake filled.0);
+    }

@@ -1,0 +1,10 @@
+pub mod Heads
+pub mod Looks
+pub mod Decisions
+pub mod Paths
+pub mod Forms
+pub mod Taken
+pub mod Messages
+pub mod Cuts
+pub mod Replies
+pub mod Laws
