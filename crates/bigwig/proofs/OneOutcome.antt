@@ -1,7 +1,7 @@
 -- One status is due, and a stream has one answer.
 use Rattle.std.proofs.Common.{◌≡◌, ◌⊎◌, ℕ, arith, List, ◌++◌, refl, sym, ap, ◌∙◌, subst, inl, inr, Some}
 use Rattle.bw_lang.specs.declared.service.Service.{Service}
-use Rattle.bw_out.specs.Told.{Disk, later_keys}
+use Rattle.bw_out.specs.Told.{Coming, Disk, later_words}
 use Rattle.bigwig.specs.Commands.{command_of, replay}
 use Rattle.bigwig.specs.Loads.{IsServed, IsRefused}
 use Rattle.bigwig.proofs.Loads.{served_or_refused}
@@ -76,7 +76,7 @@ same_reply : (service : Service) (s t : List ℕ) (path : Path) (rest : List ℕ
 same_reply service s t path rest other more e a b = ap (λ p. bytes_of (reply_to service p)) (one_request_path t path rest other more (subst (λ x. Asks x path rest) e a) b)
 
 -- two runs over the same requests with the same keys
-same_left : (service : Service) (s t keys others : List ℕ) (n m : ℕ) (left all later more : List ℕ) → Run service s keys n left all → Run service t others m later more → s ≡ t → keys ≡ others → n ≡ m → left ≡ later
+same_left : (service : Service) (s t : List ℕ) (keys others : Coming) (n m : ℕ) (left : Coming) (all : List ℕ) (later : Coming) (more : List ℕ) → Run service s keys n left all → Run service t others m later more → s ≡ t → keys ≡ others → n ≡ m → left ≡ later
 same_left service s t keys others n m left all later more (over z1 l1 is1) (over z2 l2 is2) es ek en = l1 ∙ ek ∙ sym l2
 same_left service s t keys others n m left all later more (over z1 l1 is1) (ends n2 z2 none2 end2 l2) es ek en = absurd (omega arith)
 same_left service s t keys others n m left all later more (over z1 l1 is1) (request n2 path2 rest2 more2 z2 a2 run2 is2) es ek en = absurd (omega arith)
@@ -87,17 +87,17 @@ same_left service s t keys others n m left all later more (ends n1 z1 none1 end1
 same_left service s t keys others n m left all later more (ends n1 z1 none1 end1 l1) (no_memory n2 path2 rest2 more2 z2 a2 takes2 run2 is2) es ek en = absurd (none1 path2 rest2 (subst (λ x. Asks x path2 rest2) (sym es) a2))
 same_left service s t keys others n m left all later more (request n1 path1 rest1 more1 z1 a1 run1 is1) (over z2 l2 is2) es ek en = absurd (omega arith)
 same_left service s t keys others n m left all later more (request n1 path1 rest1 more1 z1 a1 run1 is1) (ends n2 z2 none2 end2 l2) es ek en = absurd (none2 path1 rest1 (subst (λ x. Asks x path1 rest1) es a1))
-same_left service s t keys others n m left all later more (request n1 path1 rest1 more1 z1 a1 run1 is1) (request n2 path2 rest2 more2 z2 a2 run2 is2) es ek en = same_left service rest1 rest2 (later_keys keys) (later_keys others) n1 n2 left more1 later more2 run1 run2 (same_rest s t path1 rest1 path2 rest2 es a1 a2) (ap later_keys ek) (omega arith)
-same_left service s t keys others n m left all later more (request n1 path1 rest1 more1 z1 a1 run1 is1) (no_memory n2 path2 rest2 more2 z2 a2 takes2 run2 is2) es ek en = same_left service rest1 rest2 (later_keys keys) (later_keys others) n1 n2 left more1 later more2 run1 run2 (same_rest s t path1 rest1 path2 rest2 es a1 a2) (ap later_keys ek) (omega arith)
+same_left service s t keys others n m left all later more (request n1 path1 rest1 more1 z1 a1 run1 is1) (request n2 path2 rest2 more2 z2 a2 run2 is2) es ek en = same_left service rest1 rest2 (later_words keys) (later_words others) n1 n2 left more1 later more2 run1 run2 (same_rest s t path1 rest1 path2 rest2 es a1 a2) (ap later_words ek) (omega arith)
+same_left service s t keys others n m left all later more (request n1 path1 rest1 more1 z1 a1 run1 is1) (no_memory n2 path2 rest2 more2 z2 a2 takes2 run2 is2) es ek en = same_left service rest1 rest2 (later_words keys) (later_words others) n1 n2 left more1 later more2 run1 run2 (same_rest s t path1 rest1 path2 rest2 es a1 a2) (ap later_words ek) (omega arith)
 same_left service s t keys others n m left all later more (no_memory n1 path1 rest1 more1 z1 a1 takes1 run1 is1) (over z2 l2 is2) es ek en = absurd (omega arith)
 same_left service s t keys others n m left all later more (no_memory n1 path1 rest1 more1 z1 a1 takes1 run1 is1) (ends n2 z2 none2 end2 l2) es ek en = absurd (none2 path1 rest1 (subst (λ x. Asks x path1 rest1) es a1))
-same_left service s t keys others n m left all later more (no_memory n1 path1 rest1 more1 z1 a1 takes1 run1 is1) (request n2 path2 rest2 more2 z2 a2 run2 is2) es ek en = same_left service rest1 rest2 (later_keys keys) (later_keys others) n1 n2 left more1 later more2 run1 run2 (same_rest s t path1 rest1 path2 rest2 es a1 a2) (ap later_keys ek) (omega arith)
-same_left service s t keys others n m left all later more (no_memory n1 path1 rest1 more1 z1 a1 takes1 run1 is1) (no_memory n2 path2 rest2 more2 z2 a2 takes2 run2 is2) es ek en = same_left service rest1 rest2 (later_keys keys) (later_keys others) n1 n2 left more1 later more2 run1 run2 (same_rest s t path1 rest1 path2 rest2 es a1 a2) (ap later_keys ek) (omega arith)
+same_left service s t keys others n m left all later more (no_memory n1 path1 rest1 more1 z1 a1 takes1 run1 is1) (request n2 path2 rest2 more2 z2 a2 run2 is2) es ek en = same_left service rest1 rest2 (later_words keys) (later_words others) n1 n2 left more1 later more2 run1 run2 (same_rest s t path1 rest1 path2 rest2 es a1 a2) (ap later_words ek) (omega arith)
+same_left service s t keys others n m left all later more (no_memory n1 path1 rest1 more1 z1 a1 takes1 run1 is1) (no_memory n2 path2 rest2 more2 z2 a2 takes2 run2 is2) es ek en = same_left service rest1 rest2 (later_words keys) (later_words others) n1 n2 left more1 later more2 run1 run2 (same_rest s t path1 rest1 path2 rest2 es a1 a2) (ap later_words ek) (omega arith)
 
 pub leaves_once : LeavesOnce
 leaves_once service stream keys left all later others most one other = same_left service stream stream keys keys most most left all later others one other refl refl refl
 
-same_answer : (service : Service) (s t keys others : List ℕ) (n m : ℕ) (left all later more : List ℕ) (one : Run service s keys n left all) (other : Run service t others m later more) → s ≡ t → keys ≡ others → n ≡ m
+same_answer : (service : Service) (s t : List ℕ) (keys others : Coming) (n m : ℕ) (left : Coming) (all : List ℕ) (later : Coming) (more : List ℕ) (one : Run service s keys n left all) (other : Run service t others m later more) → s ≡ t → keys ≡ others → n ≡ m
     → (all ≡ more) ⊎ (WantsMemory one ⊎ WantsMemory other)
 same_answer service s t keys others n m left all later more (over z1 l1 is1) (over z2 l2 is2) es ek en = inl (is1 ∙ sym is2)
 same_answer service s t keys others n m left all later more (over z1 l1 is1) (ends n2 z2 none2 end2 l2) es ek en = absurd (omega arith)
@@ -109,7 +109,7 @@ same_answer service s t keys others n m left all later more (ends n1 z1 none1 en
 same_answer service s t keys others n m left all later more (ends n1 z1 none1 end1 l1) (no_memory n2 path2 rest2 more2 z2 a2 takes2 run2 is2) es ek en = absurd (none1 path2 rest2 (subst (λ x. Asks x path2 rest2) (sym es) a2))
 same_answer service s t keys others n m left all later more (request n1 path1 rest1 more1 z1 a1 run1 is1) (over z2 l2 is2) es ek en = absurd (omega arith)
 same_answer service s t keys others n m left all later more (request n1 path1 rest1 more1 z1 a1 run1 is1) (ends n2 z2 none2 end2 l2) es ek en = absurd (none2 path1 rest1 (subst (λ x. Asks x path1 rest1) es a1))
-same_answer service s t keys others n m left all later more (request n1 path1 rest1 more1 z1 a1 run1 is1) (request n2 path2 rest2 more2 z2 a2 run2 is2) es ek en = elim (same_answer service rest1 rest2 (later_keys keys) (later_keys others) n1 n2 left more1 later more2 run1 run2 (same_rest s t path1 rest1 path2 rest2 es a1 a2) (ap later_keys ek) (omega arith)) [
+same_answer service s t keys others n m left all later more (request n1 path1 rest1 more1 z1 a1 run1 is1) (request n2 path2 rest2 more2 z2 a2 run2 is2) es ek en = elim (same_answer service rest1 rest2 (later_words keys) (later_words others) n1 n2 left more1 later more2 run1 run2 (same_rest s t path1 rest1 path2 rest2 es a1 a2) (ap later_words ek) (omega arith)) [
   | inl e ↦ inl (is1 ∙ ap (λ x. x ++ more1) (same_reply service s t path1 rest1 path2 rest2 es a1 a2) ∙ ap (λ x. bytes_of (reply_to service path2) ++ x) e ∙ sym is2)
   | inr w ↦ inr w
 ]

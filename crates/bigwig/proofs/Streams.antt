@@ -4,7 +4,7 @@ use Rattle.std.specs.declared.option.Option.{Option}
 use Rattle.std.specs.Io.KnownBytes.{Appends, IsAtEnd}
 use Rattle.std.proofs.KnownBytes.{Appends-nil, Appends-trans}
 use Rattle.bw_lang.specs.declared.service.Service.{Service}
-use Rattle.bw_out.specs.Told.{Draws, later_keys}
+use Rattle.bw_out.specs.Told.{Coming, Draws, later_words}
 use Rattle.bw_out.specs.Writes.{AppendsPart}
 use Rattle.bigwig.specs.Outcomes.{Leaves}
 use Rattle.bigwig.specs.Replies.{bad, bytes_of}
@@ -53,7 +53,7 @@ asked service stream taken rest bytes left reply takes replies =
     )
 
 -- a reply was sent
-pub answered : (service : Service) (left later left2 later2 held held2 now left3 : Option (List ℕ)) (taken taken2 : List ℕ) (reply : Reply) (key : ℕ)
+pub answered : (service : Service) (left : Option (List ℕ)) (later : Option Coming) (left2 : Option (List ℕ)) (later2 : Option Coming) (held held2 now left3 : Option (List ℕ)) (taken taken2 : List ℕ) (reply : Reply) (key : ℕ)
     → ((bytes : List ℕ) × Takes left left2 taken bytes × RepliesTo service bytes taken2 reply) → Draws later later2 key → held2 ≡ held → left3 ≡ left2 → Appends held2 now (bytes_of (stands_for reply))
     → IfSome left (λ stream. IfSome later (λ ks. Turns service (taken ++ stream) ks later2 held now taken2 left3 turn.Answered))
 answered service None later left2 later2 held held2 now left3 taken taken2 reply key r draws eh el w = tt
@@ -61,12 +61,12 @@ answered service (Some stream) None left2 later2 held held2 now left3 taken take
 answered service (Some stream) (Some ks) left2 later2 held held2 now left3 taken taken2 reply key r draws eh el w =
     let a = asked service stream taken taken2 r.0 left2 reply r.1 r.2 in (
       a.0,
-      (later_keys ks, bytes_of (stands_for reply), draws.1, subst (λ h. Appends h now (bytes_of (stands_for reply))) eh w, handles_one service (taken ++ stream) ks a.1.0 a.0 (stands_for reply) a.1.1 a.1.2),
+      (later_words ks, bytes_of (stands_for reply), draws.1, subst (λ h. Appends h now (bytes_of (stands_for reply))) eh w, handles_one service (taken ++ stream) ks a.1.0 a.0 (stands_for reply) a.1.1 a.1.2),
       (a.2.0, el ∙ a.2.1, a.2.2),
     )
 
 -- a reply was begun
-pub reply_stopped : (service : Service) (left later left2 later2 held held2 now left3 : Option (List ℕ)) (taken taken2 : List ℕ) (reply : Reply) (key : ℕ)
+pub reply_stopped : (service : Service) (left : Option (List ℕ)) (later : Option Coming) (left2 : Option (List ℕ)) (later2 : Option Coming) (held held2 now left3 : Option (List ℕ)) (taken taken2 : List ℕ) (reply : Reply) (key : ℕ)
     → ((bytes : List ℕ) × Takes left left2 taken bytes × RepliesTo service bytes taken2 reply) → Draws later later2 key → held2 ≡ held → AppendsPart held2 now (bytes_of (stands_for reply))
     → IfSome left (λ stream. IfSome later (λ ks. Turns service (taken ++ stream) ks later2 held now taken2 left3 (turn.Over end.WriteFault)))
 reply_stopped service None later left2 later2 held held2 now left3 taken taken2 reply key r draws eh w = tt
@@ -74,10 +74,10 @@ reply_stopped service (Some stream) None left2 later2 held held2 now left3 taken
 reply_stopped service (Some stream) (Some ks) left2 later2 held held2 now left3 taken taken2 reply key r draws eh w =
     let a = asked service stream taken taken2 r.0 left2 reply r.1 r.2 in
     let handles = handles_one service (taken ++ stream) ks a.1.0 a.0 (stands_for reply) a.1.1 a.1.2 in
-    (later_keys ks, bytes_of (stands_for reply), draws.1, handles.run, subst (λ h. AppendsPart h now (bytes_of (stands_for reply))) eh w)
+    (later_words ks, bytes_of (stands_for reply), draws.1, handles.run, subst (λ h. AppendsPart h now (bytes_of (stands_for reply))) eh w)
 
 -- no request is whole, and a read failed
-pub read_stopped : (service : Service) (left later left2 held now : Option (List ℕ)) (taken taken2 : List ℕ) → Takes left left2 taken taken2 → AsksNothing taken2 → now ≡ held
+pub read_stopped : (service : Service) (left : Option (List ℕ)) (later : Option Coming) (left2 held now : Option (List ℕ)) (taken taken2 : List ℕ) → Takes left left2 taken taken2 → AsksNothing taken2 → now ≡ held
     → IfSome left (λ stream. IfSome later (λ ks. Turns service (taken ++ stream) ks later held now taken2 left2 (turn.Over end.ReadFault)))
 read_stopped service None later left2 held now taken taken2 takes none eh = tt
 read_stopped service (Some stream) None left2 held now taken taken2 takes none eh = tt
@@ -88,7 +88,7 @@ all_at_hand taken unread left e (inl full) = inl full
 all_at_hand taken unread left e (inr end) = inr (subst IsAtEnd e end)
 
 -- there is no request, and what is left was answered
-pub rest_answered : (service : Service) (left later left2 held held2 now left3 : Option (List ℕ)) (taken taken2 bytes : List ℕ) (e : StreamEnd) → Takes left left2 taken taken2 → AsksNothing taken2
+pub rest_answered : (service : Service) (left : Option (List ℕ)) (later : Option Coming) (left2 held held2 now left3 : Option (List ℕ)) (taken taken2 bytes : List ℕ) (e : StreamEnd) → Takes left left2 taken taken2 → AsksNothing taken2
     → (length taken2 ≡ 16385) ⊎ IsAtEnd left2 → held2 ≡ held → bytes ≡ taken2 → Appended held2 now (Ends bytes) e
     → IfSome left (λ stream. IfSome later (λ ks. Turns service (taken ++ stream) ks later held now taken2 left3 (turn.Over e)))
 rest_answered service None later left2 held held2 now left3 taken taken2 bytes e takes none last eh eb w = tt
@@ -111,16 +111,16 @@ rest_answered service (Some stream) (Some ks) left2 held held2 now left3 taken t
 -- ---- turn after turn
 
 -- a stream of which the first n requests were answered: the keys left, the answer so far, and what is left to read
-pub record Stands (service : Service) (stream keys : List ℕ) (n : ℕ) (later held now : Option (List ℕ)) (taken : List ℕ) (left : Option (List ℕ)) : Type 0 where
+pub record Stands (service : Service) (stream : List ℕ) (keys : Coming) (n : ℕ) (later : Option Coming) (held now : Option (List ℕ)) (taken : List ℕ) (left : Option (List ℕ)) : Type 0 where
   pub rest : List ℕ
   pub leaves : Leaves later held now (Handles service stream keys n rest)
   pub is_left : IsLeft taken left rest
 
 -- the same, if the bytes of the stream and the keys are told
-abbrev pub StandsAt : Service → List ℕ → Option (List ℕ) → Option (List ℕ) → ℕ → Option (List ℕ) → Option (List ℕ) → Option (List ℕ) → List ℕ → Option (List ℕ) → Type 0
+abbrev pub StandsAt : Service → List ℕ → Option (List ℕ) → Option Coming → ℕ → Option Coming → Option (List ℕ) → Option (List ℕ) → List ℕ → Option (List ℕ) → Type 0
 StandsAt service taken left later n later2 held now taken2 left2 = IfSome left (λ stream. IfSome later (λ ks. Stands service (taken ++ stream) ks n later2 held now taken2 left2))
 
-pub stands_first : (service : Service) (taken : List ℕ) (left later held : Option (List ℕ)) → StandsAt service taken left later 0 later held held taken left
+pub stands_first : (service : Service) (taken : List ℕ) (left : Option (List ℕ)) (later : Option Coming) (held : Option (List ℕ)) → StandsAt service taken left later 0 later held held taken left
 stands_first service taken None later held = tt
 stands_first service taken (Some stream) None held = tt
 stands_first service taken (Some stream) (Some ks) held = record {
@@ -130,12 +130,12 @@ stands_first service taken (Some stream) (Some ks) held = record {
 }
 
 -- what a turn did, of where the stream stands
-turned : (P : List ℕ → List ℕ → Type 0) (left later : Option (List ℕ)) (taken rest keys : List ℕ) → later ≡ Some keys → IsLeft taken left rest → IfSome left (λ unread. IfSome later (λ ks. P (taken ++ unread) ks)) → P rest keys
+turned : (P : List ℕ → Coming → Type 0) (left : Option (List ℕ)) (later : Option Coming) (taken rest : List ℕ) (keys : Coming) → later ≡ Some keys → IsLeft taken left rest → IfSome left (λ unread. IfSome later (λ ks. P (taken ++ unread) ks)) → P rest keys
 turned P left later taken rest keys e is did =
     subst (λ r. P r keys) (sym is.2) (subst (λ o. IfSome o (λ ks. P (taken ++ is.0) ks)) e (subst (λ o. IfSome o (λ unread. IfSome later (λ ks. P (taken ++ unread) ks))) is.1 did))
 
 -- one more request was answered
-more : (service : Service) (stream keys : List ℕ) (n : ℕ) (later held now : Option (List ℕ)) (taken : List ℕ) (left later2 now2 : Option (List ℕ)) (taken2 : List ℕ) (left2 : Option (List ℕ))
+more : (service : Service) (stream : List ℕ) (keys : Coming) (n : ℕ) (later : Option Coming) (held now : Option (List ℕ)) (taken : List ℕ) (left : Option (List ℕ)) (later2 : Option Coming) (now2 : Option (List ℕ)) (taken2 : List ℕ) (left2 : Option (List ℕ))
     → Stands service stream keys n later held now taken left
     → IfSome left (λ unread. IfSome later (λ ks. Turns service (taken ++ unread) ks later2 now now2 taken2 left2 turn.Answered))
     → Stands service stream keys (n + 1) later2 held now2 taken2 left2
@@ -149,7 +149,7 @@ more service stream keys n later held now taken left later2 now2 taken2 left2 s 
     }
 
 -- the stream is over
-over : (service : Service) (stream keys : List ℕ) (n most : ℕ) (later held now : Option (List ℕ)) (taken : List ℕ) (left later2 now2 : Option (List ℕ)) (taken2 : List ℕ) (left2 : Option (List ℕ)) (e : StreamEnd)
+over : (service : Service) (stream : List ℕ) (keys : Coming) (n most : ℕ) (later : Option Coming) (held now : Option (List ℕ)) (taken : List ℕ) (left : Option (List ℕ)) (later2 : Option Coming) (now2 : Option (List ℕ)) (taken2 : List ℕ) (left2 : Option (List ℕ)) (e : StreamEnd)
     → n < most → Stands service stream keys n later held now taken left
     → IfSome left (λ unread. IfSome later (λ ks. Turns service (taken ++ unread) ks later2 now now2 taken2 left2 (turn.Over e)))
     → Serves service stream keys most later2 held now2 taken2 left2 e
@@ -175,7 +175,7 @@ over service stream keys n most later held now taken left later2 now2 taken2 lef
     )
 
 -- the same, as the code's loop has it
-pub stands_more : (service : Service) (taken0 : List ℕ) (left0 later0 : Option (List ℕ)) (n : ℕ) (later held now : Option (List ℕ)) (taken : List ℕ) (left later2 now2 : Option (List ℕ)) (taken2 : List ℕ) (left2 : Option (List ℕ))
+pub stands_more : (service : Service) (taken0 : List ℕ) (left0 : Option (List ℕ)) (later0 : Option Coming) (n : ℕ) (later : Option Coming) (held now : Option (List ℕ)) (taken : List ℕ) (left : Option (List ℕ)) (later2 : Option Coming) (now2 : Option (List ℕ)) (taken2 : List ℕ) (left2 : Option (List ℕ))
     → StandsAt service taken0 left0 later0 n later held now taken left
     → IfSome left (λ unread. IfSome later (λ ks. Turns service (taken ++ unread) ks later2 now now2 taken2 left2 turn.Answered))
     → StandsAt service taken0 left0 later0 (n + 1) later2 held now2 taken2 left2
@@ -185,11 +185,11 @@ stands_more service taken0 (Some stream) (Some ks) n later held now taken left l
     more service (taken0 ++ stream) ks n later held now taken left later2 now2 taken2 left2 s did
 
 -- how a stream of at most so many requests was served, if its bytes and the keys are told
-abbrev pub ServesAt : Service → List ℕ → Option (List ℕ) → Option (List ℕ) → ℕ → Option (List ℕ) → Option (List ℕ) → Option (List ℕ) → List ℕ → Option (List ℕ) → StreamEnd → Type 0
+abbrev pub ServesAt : Service → List ℕ → Option (List ℕ) → Option Coming → ℕ → Option Coming → Option (List ℕ) → Option (List ℕ) → List ℕ → Option (List ℕ) → StreamEnd → Type 0
 ServesAt service taken left later most later2 held now taken2 left2 e =
     IfSome left (λ stream. IfSome later (λ ks. Serves service (taken ++ stream) ks most later2 held now taken2 left2 e))
 
-pub serves_over : (service : Service) (taken0 : List ℕ) (left0 later0 : Option (List ℕ)) (n most : ℕ) (later held now : Option (List ℕ)) (taken : List ℕ) (left later2 now2 : Option (List ℕ)) (taken2 : List ℕ) (left2 : Option (List ℕ)) (e : StreamEnd)
+pub serves_over : (service : Service) (taken0 : List ℕ) (left0 : Option (List ℕ)) (later0 : Option Coming) (n most : ℕ) (later : Option Coming) (held now : Option (List ℕ)) (taken : List ℕ) (left : Option (List ℕ)) (later2 : Option Coming) (now2 : Option (List ℕ)) (taken2 : List ℕ) (left2 : Option (List ℕ)) (e : StreamEnd)
     → n < most → StandsAt service taken0 left0 later0 n later held now taken left
     → IfSome left (λ unread. IfSome later (λ ks. Turns service (taken ++ unread) ks later2 now now2 taken2 left2 (turn.Over e)))
     → ServesAt service taken0 left0 later0 most later2 held now2 taken2 left2 e

@@ -2,6 +2,7 @@
 use Rattle.std.specs.Prelude.{◌≡◌, ◌⊎◌, ℕ, List, ◌++◌, length, None, Some, Result, Ok, Err}
 use Rattle.std.specs.declared.option.Option.{Option}
 use Rattle.std.specs.Io.KnownBytes.{Appends, IsAtEnd}
+use Rattle.bw_out.specs.Told.{Coming}
 use Rattle.bw_lang.specs.declared.service.Service.{Service}
 use Rattle.bw_out.specs.Writes.{AppendsPart}
 use Rattle.bw_out.specs.declared.outside.Failed.{Failed}
@@ -45,16 +46,16 @@ Appended held now fact ReadFault = ⊥
 
 -- What one turn did: one request was answered whole; or the stream is over, since it begins with no request, since
 -- no request is whole in the bytes that could be read, or since its next answer was written in part.
-abbrev pub Turns : Service → List ℕ → List ℕ → Option (List ℕ) → Option (List ℕ) → Option (List ℕ) → List ℕ → Option (List ℕ) → Turn → Type 0
+abbrev pub Turns : Service → List ℕ → Coming → Option Coming → Option (List ℕ) → Option (List ℕ) → List ℕ → Option (List ℕ) → Turn → Type 0
 Turns service stream keys later held now taken left Answered = (rest : List ℕ) × Leaves later held now (Handles service stream keys 1 rest) × IsLeft taken left rest
 Turns service stream keys later held now taken left (Over Ended) = (answer : List ℕ) × (later ≡ Some keys) × AsksNothing stream × Ends stream answer × Appends held now answer
 Turns service stream keys later held now taken left (Over ReadFault) = (later ≡ Some keys) × (now ≡ held) × IsUnread taken left stream
-Turns service stream keys later held now taken left (Over WriteFault) = (left answer : List ℕ) × (later ≡ Some left) × Run service stream keys 1 left answer × AppendsPart held now answer
+Turns service stream keys later held now taken left (Over WriteFault) = (left : Coming) × (answer : List ℕ) × (later ≡ Some left) × Run service stream keys 1 left answer × AppendsPart held now answer
 
 -- A stream was answered as its run says, at most so many requests of it: the whole of the answer is held; after a read
 -- fault the replies to the requests before it, and no further one is whole in the bytes at hand; after a write fault
 -- the replies to the requests before it, and a first part of the next answer.
-abbrev pub Serves : Service → List ℕ → List ℕ → ℕ → Option (List ℕ) → Option (List ℕ) → Option (List ℕ) → List ℕ → Option (List ℕ) → StreamEnd → Type 0
+abbrev pub Serves : Service → List ℕ → Coming → ℕ → Option Coming → Option (List ℕ) → Option (List ℕ) → List ℕ → Option (List ℕ) → StreamEnd → Type 0
 Serves service stream keys most later held now taken left Ended = Leaves later held now (Run service stream keys most)
 Serves service stream keys most later held now taken left ReadFault = (rest : List ℕ) × Leaves later held now (IsCutShort service stream keys most rest) × IsUnread taken left rest
 Serves service stream keys most later held now taken left WriteFault = Leaves later held now (IsBroken service stream keys most)

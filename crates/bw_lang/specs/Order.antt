@@ -26,6 +26,12 @@ woven (sorts.Session ∷ order) ts vs (s ∷ ss) = declarations.Session s ∷ wo
 abbrev pub declarations_of : Service → List Declaration
 declarations_of service = woven service.order service.templates service.shared service.sessions
 
+-- the service's lists are those of its declarations
+pub record IsWoven (service : Service) : Type 0 where
+  pub templates : templates_of (declarations_of service) ≡ service.templates
+  pub shared : shared_of (declarations_of service) ≡ service.shared
+  pub sessions : sessions_of (declarations_of service) ≡ service.sessions
+
 -- a declaration that stands in a service
 abbrev pub seen : Declared → Declaration
 seen (standing.Template t) = declarations.Template t.now

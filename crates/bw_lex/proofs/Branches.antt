@@ -25,7 +25,8 @@ pub data Branch (bad : Bool) (b : ℕ) (bs : List ℕ) : Piece → Type 0 where
   quoted : b ≡ 34 → Branch bad b bs (string bad false [] 1 bs)
   comment : b ∷ bs ≡ codes "//" ++ drop 2 (b ∷ bs) → Branch bad b bs (pieces.Gap (prefix_len is_on_line (b ∷ bs)))
   markup : b ∷ bs ≡ codes "<html>" ++ drop 6 (b ∷ bs) → Branch bad b bs (template bad 6 (drop 6 (b ∷ bs)))
-  other : is_blank b ≡ false → is_letter b ≡ false → is_digit b ≡ false → (b == 34) ≡ false → starts_with nat_eq (b ∷ bs) (codes "//") ≡ false → starts_with nat_eq (b ∷ bs) (codes "<html>") ≡ false → Branch bad b bs (sign (b ∷ bs))
+  other : is_blank b ≡ false → is_letter b ≡ false → is_digit b ≡ false → (b == 34) ≡ false → starts_with nat_eq (b ∷ bs) (codes "//") ≡ false
+      → starts_with nat_eq (b ∷ bs) (codes "<html>") ≡ false → Branch bad b bs (sign (b ∷ bs))
 
 pub if_branch : {X : Type 0} (P : X → Type 0) (c : Bool) (x y : X) → (c ≡ true → P x) → (c ≡ false → P y) → P (if c then x else y)
 if_branch P true x y f g = f refl

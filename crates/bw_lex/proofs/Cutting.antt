@@ -1,5 +1,6 @@
 -- A text is cut into the tokens that the scan finds, and in no other way.
-use Rattle.std.proofs.Common.{Bool, ◌≡◌, ℕ, zero, suc, ◌+◌, ◌-◌, ◌≤◌, true, false, List, [], ◌∷◌, ◌++◌, length, take, drop, refl, sym, ap, ◌∙◌, subst, arith, Result, Ok, Err, All, ◌⊎◌, inl, inr, IfOk, IfErr}
+use Rattle.std.proofs.Common.{Bool, ◌≡◌, ℕ, zero, suc, ◌+◌, ◌-◌, ◌≤◌, true, false, List, [], ◌∷◌, ◌++◌, length, take, drop, refl, sym, ap, ◌∙◌, subst}
+use Rattle.std.proofs.Common.{arith, Result, Ok, Err, All, ◌⊎◌, inl, inr, IfOk, IfErr}
 use Rattle.std.specs.Str.{IsUtf8, is_utf8}
 use Rattle.std.specs.Str.Lossy.{utf8_valid_len, valid_len_up_to}
 use Rattle.std.proofs.lemmas.Bool.{cases_lt, lt-ltb}
@@ -35,7 +36,8 @@ behind token (Ok others) tokens e = let is : token ∷ others ≡ tokens = cc in
 behind token (Err fault) tokens e = absurd (cc)
 
 -- the parts that a piece cuts bytes into
-gap-cut : (at n : ℕ) (bytes : List ℕ) (tokens : List Token) → piece false bytes ≡ pieces.Gap n → 1 ≤ n → n ≤ length bytes → Cuts (at + n) (drop n bytes) tokens → Cuts at bytes tokens
+gap-cut : (at n : ℕ) (bytes : List ℕ) (tokens : List Token) → piece false bytes ≡ pieces.Gap n → 1 ≤ n → n ≤ length bytes
+    → Cuts (at + n) (drop n bytes) tokens → Cuts at bytes tokens
 gap-cut at n bytes tokens e some most rest =
     let own = take n bytes in
     let len : length own ≡ n = length-take-le n bytes most in
@@ -43,7 +45,8 @@ gap-cut at n bytes tokens e some most rest =
     subst (λ l. Cuts at l tokens) (take-append-drop n bytes)
     (cuts.gap at own (drop n bytes) tokens (piece-means false bytes (pieces.Gap n) e) long (subst (λ m. Cuts (at + m) (drop n bytes) tokens) (sym len) rest))
 
-token-cut : (at n : ℕ) (kind : TokenKind) (bytes : List ℕ) (tokens : List Token) → piece false bytes ≡ pieces.Token kind n → 1 ≤ n → n ≤ length bytes → Cuts (at + n) (drop n bytes) tokens → Cuts at bytes (record { what = kind; start = at; end = at + n } ∷ tokens)
+token-cut : (at n : ℕ) (kind : TokenKind) (bytes : List ℕ) (tokens : List Token) → piece false bytes ≡ pieces.Token kind n → 1 ≤ n → n ≤ length bytes
+    → Cuts (at + n) (drop n bytes) tokens → Cuts at bytes (record { what = kind; start = at; end = at + n } ∷ tokens)
 token-cut at n kind bytes tokens e some most rest =
     let own = take n bytes in
     let len : length own ≡ n = length-take-le n bytes most in
@@ -54,12 +57,16 @@ token-cut at n kind bytes tokens e some most rest =
     (cuts.token at kind own (drop n bytes) tokens means.0 means.1 long (subst (λ m. Cuts (at + m) (drop n bytes) tokens) (sym len) rest)))
 
 -- the scan's tokens cut the bytes
-step : (p : Piece) (at : ℕ) (b : ℕ) (bs : List ℕ) (tokens : List Token) → piece false (b ∷ bs) ≡ p → Ends p (length (b ∷ bs)) → scan false 0 at (b ∷ bs) ≡ Ok tokens →
+step : (p : Piece) (at : ℕ) (b : ℕ) (bs : List ℕ) (tokens : List Token) → piece false (b ∷ bs) ≡ p → Ends p (length (b ∷ bs))
+    → scan false 0 at (b ∷ bs) ≡ Ok tokens →
     ((at n : ℕ) (tokens : List Token) → 1 ≤ n → scan false 0 at (drop n (b ∷ bs)) ≡ Ok tokens → Cuts at (drop n (b ∷ bs)) tokens) → Cuts at (b ∷ bs) tokens
 step (pieces.Gap n) at b bs tokens e ends read rest =
-    gap-cut at n (b ∷ bs) tokens e ends.0 ends.1 (rest (at + n) n tokens ends.0 (sym (scan-piece false at n (b ∷ bs) (pieces.Gap n) e refl ends.0 ends.1) ∙ read))
+    gap-cut at n (b ∷ bs) tokens e ends.0 ends.1
+    (rest (at + n) n tokens ends.0 (sym (scan-piece false at n (b ∷ bs) (pieces.Gap n) e refl ends.0 ends.1) ∙ read))
 step (pieces.Token kind n) at b bs tokens e ends read rest =
-    let f = behind (record { what = kind; start = at; end = at + n }) (scan false 0 (at + n) (drop n (b ∷ bs))) tokens (sym (scan-piece false at n (b ∷ bs) (pieces.Token kind n) e refl ends.0 ends.1) ∙ read) in
+    let f =
+    behind (record { what = kind; start = at; end = at + n }) (scan false 0 (at + n) (drop n (b ∷ bs))) tokens
+    (sym (scan-piece false at n (b ∷ bs) (pieces.Token kind n) e refl ends.0 ends.1) ∙ read) in
     subst (Cuts at (b ∷ bs)) (sym f.is) (token-cut at n kind (b ∷ bs) f.others e ends.0 ends.1 (rest (at + n) n f.others ends.0 f.read))
 step (pieces.Fault kind n) at b bs tokens e ends read rest =
     let fault = sym (scan-fault false at n (b ∷ bs) kind e (omega arith)) ∙ read in
@@ -78,7 +85,8 @@ pub gap_has_bytes : (own : List ℕ) → IsGap own → 1 ≤ length own
 gap_has_bytes own (inl h) = omega (arith, ap length h.1)
 gap_has_bytes own (inr h) = omega (arith, ap length h.1)
 
-pub scanned : (bad : Bool) (at : ℕ) (own rest : List ℕ) (p : Piece) → piece bad (own ++ rest) ≡ p → piece_len p ≡ length own → 1 ≤ length own → scan bad 0 at (own ++ rest) ≡ with_rest at p (scan bad 0 (at + length own) rest)
+pub scanned : (bad : Bool) (at : ℕ) (own rest : List ℕ) (p : Piece) → piece bad (own ++ rest) ≡ p → piece_len p ≡ length own → 1 ≤ length own
+    → scan bad 0 at (own ++ rest) ≡ with_rest at p (scan bad 0 (at + length own) rest)
 scanned bad at own rest p e l some =
     scan-piece bad at (length own) (own ++ rest) p e l some (omega (arith, length-append own rest))
     ∙ ap (λ r. with_rest at p (scan bad 0 (at + length own) r)) (drop_at own rest (length own) refl)
@@ -112,12 +120,14 @@ unfolding scan
 bad-reads-nothing inner at [] tokens e = cc
 bad-reads-nothing (suc inner) at (b ∷ bs) tokens e = bad-reads-nothing inner (at + 1) bs tokens e
 bad-reads-nothing zero at (b ∷ bs) tokens e =
-    none_read (piece true (b ∷ bs)) at (scan true (piece_len (piece true (b ∷ bs)) - 1) (at + 1) bs) tokens (bad-reads-nothing (piece_len (piece true (b ∷ bs)) - 1) (at + 1) bs) e
+    none_read (piece true (b ∷ bs)) at (scan true (piece_len (piece true (b ∷ bs)) - 1) (at + 1) bs) tokens
+    (bad-reads-nothing (piece_len (piece true (b ∷ bs)) - 1) (at + 1) bs) e
 
 -- the front that is counted as UTF-8 is UTF-8
 pub front_is_text : (bs : List ℕ) (n : ℕ) → IsUtf8 (take (valid_len_up_to bs n) bs)
 front_is_text bs zero = IsUtf8-nil
-front_is_text bs (suc n) = if_branch (λ m. IsUtf8 (take m bs)) (is_utf8 (take (suc n) bs)) _ _ (λ h. IsUtf8-from_is_utf8 (take (suc n) bs) h) (λ h. front_is_text bs n)
+front_is_text bs (suc n) =
+    if_branch (λ m. IsUtf8 (take m bs)) (is_utf8 (take (suc n) bs)) _ _ (λ h. IsUtf8-from_is_utf8 (take (suc n) bs) h) (λ h. front_is_text bs n)
 
 pub is_text : (bytes : List ℕ) → length bytes ≤ utf8_valid_len bytes → IsUtf8 bytes
 unfolding utf8_valid_len
@@ -125,7 +135,9 @@ is_text bytes h = subst IsUtf8 (take_all (utf8_valid_len bytes) bytes h) (front_
 
 pub tokens-found : (bytes : List ℕ) (tokens : List Token) → tokens_of bytes ≡ Ok tokens → AreTokens bytes tokens
 tokens-found bytes tokens e = elim (cases_lt (utf8_valid_len bytes) (length bytes)) [
-  | inl h ↦ absurd (bad-reads-nothing 0 0 (take (utf8_valid_len bytes) bytes) tokens (ap (λ bad. scan bad 0 0 (take (utf8_valid_len bytes) bytes)) (sym (lt-ltb _ _ h)) ∙ e))
+  | inl h ↦
+      absurd (bad-reads-nothing 0 0 (take (utf8_valid_len bytes) bytes) tokens
+      (ap (λ bad. scan bad 0 0 (take (utf8_valid_len bytes) bytes)) (sym (lt-ltb _ _ h)) ∙ e))
   | inr h ↦
       let text = is_text bytes h in
       (text, cut (length bytes) 0 bytes tokens (omega arith) (sym (whole bytes text) ∙ e))
@@ -135,15 +147,19 @@ pub read_exactly : IsReadExactly
 read_exactly bytes tokens = (read-cuts bytes tokens, tokens-found bytes tokens)
 
 -- what that says of an answer
-pub if_tokens : {X : Type 0} (answer : Result (List Token) X) (bytes : List ℕ) → IfOk answer (λ tokens. tokens_of bytes ≡ Ok tokens) → IfOk answer (λ tokens. AreTokens bytes tokens)
+pub if_tokens : {X : Type 0} (answer : Result (List Token) X) (bytes : List ℕ) → IfOk answer (λ tokens. tokens_of bytes ≡ Ok tokens)
+    → IfOk answer (λ tokens. AreTokens bytes tokens)
 if_tokens (Ok tokens) bytes h = tokens-found bytes tokens h
 if_tokens (Err fault) bytes h = h
 
-pub if_within : {X : Type 0} (answer : Result (List Token) X) (bytes : List ℕ) → IfOk answer (λ tokens. tokens_of bytes ≡ Ok tokens) → IfOk answer (λ tokens. All (IsWithin bytes) tokens)
+pub if_within : {X : Type 0} (answer : Result (List Token) X) (bytes : List ℕ) → IfOk answer (λ tokens. tokens_of bytes ≡ Ok tokens)
+    → IfOk answer (λ tokens. All (IsWithin bytes) tokens)
 if_within (Ok tokens) bytes h = all-within bytes tokens (tokens-found bytes tokens h)
 if_within (Err fault) bytes h = h
 
-pub if_only : (answer : Reading) (bytes : List ℕ) → IfOk answer (λ tokens. tokens_of bytes ≡ Ok tokens) → IfErr answer (λ fault. (fault ≡ faults.Memory) ⊎ (tokens_of bytes ≡ Err fault)) → (tokens : List Token) → AreTokens bytes tokens → (answer ≡ Err faults.Memory) ⊎ (answer ≡ Ok tokens)
+pub if_only : (answer : Reading) (bytes : List ℕ) → IfOk answer (λ tokens. tokens_of bytes ≡ Ok tokens)
+    → IfErr answer (λ fault. (fault ≡ faults.Memory) ⊎ (tokens_of bytes ≡ Err fault)) → (tokens : List Token) → AreTokens bytes tokens
+    → (answer ≡ Err faults.Memory) ⊎ (answer ≡ Ok tokens)
 if_only (Ok found) bytes h g tokens are = let e = read-cuts bytes tokens are in inr (sym h ∙ e)
 if_only (Err fault) bytes h (inl g) tokens are = inl (ap (λ f. Err f) g)
 if_only (Err fault) bytes h (inr g) tokens are = let e = read-cuts bytes tokens are in absurd (cc)

@@ -27,15 +27,19 @@ value-take-le digits n =
 pub value-more : (digits : List ℕ) (n : ℕ) → n < length digits → value (take (n + 1) digits) ≡ value (take n digits) * 10 + (get_or digits n 0 - 48)
 value-more digits n h = fold_more after_digit 0 digits n 0 h
 
-pub number_fits : (bytes : List ℕ) (v : ℕ) → v ≡ value (take (prefix_len is_digit bytes) bytes) → v ≤ 9_223_372_036_854_775_807 → number bytes ≡ pieces.Token (kinds.Number v) (prefix_len is_digit bytes)
+pub number_fits : (bytes : List ℕ) (v : ℕ) → v ≡ value (take (prefix_len is_digit bytes) bytes) → v ≤ 9_223_372_036_854_775_807
+    → number bytes ≡ pieces.Token (kinds.Number v) (prefix_len is_digit bytes)
 number_fits bytes v e h =
     let most : value (take (prefix_len is_digit bytes) bytes) ≤ 9_223_372_036_854_775_807 = omega (arith, e) in
-    ap (λ b. if b then pieces.Token (kinds.Number (value (take (prefix_len is_digit bytes) bytes))) (prefix_len is_digit bytes) else pieces.Fault faults.NumberTooBig 0) (le-leb _ _ most)
+    ap (λ b. if b then pieces.Token (kinds.Number (value (take (prefix_len is_digit bytes) bytes))) (prefix_len is_digit bytes)
+    else pieces.Fault faults.NumberTooBig 0) (le-leb _ _ most)
     ∙ ap (λ w. pieces.Token (kinds.Number w) (prefix_len is_digit bytes)) (sym e)
 
-pub number_is_too_big : (bytes : List ℕ) → 9_223_372_036_854_775_807 < value (take (prefix_len is_digit bytes) bytes) → number bytes ≡ pieces.Fault faults.NumberTooBig 0
+pub number_is_too_big : (bytes : List ℕ) → 9_223_372_036_854_775_807 < value (take (prefix_len is_digit bytes) bytes)
+    → number bytes ≡ pieces.Fault faults.NumberTooBig 0
 number_is_too_big bytes h =
-    ap (λ b. if b then pieces.Token (kinds.Number (value (take (prefix_len is_digit bytes) bytes))) (prefix_len is_digit bytes) else pieces.Fault faults.NumberTooBig 0) (lt-leb _ _ h)
+    ap (λ b. if b then pieces.Token (kinds.Number (value (take (prefix_len is_digit bytes) bytes))) (prefix_len is_digit bytes)
+    else pieces.Fault faults.NumberTooBig 0) (lt-leb _ _ h)
 
 -- the front that is counted has digits alone
 pub all_digits : (bytes : List ℕ) (n : ℕ) → n ≡ prefix_len is_digit bytes → AllPass is_digit (take n bytes)

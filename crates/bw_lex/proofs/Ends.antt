@@ -24,9 +24,12 @@ pub some : (p : ℕ → Bool) (b : ℕ) (bs : List ℕ) → p b ≡ true → (1 
 some p b bs h = (omega (arith, ap (λ t. cond t (1 + prefix_len p bs) 0) h), prefix_len-le-length p (b ∷ bs))
 
 number-ends : (b : ℕ) (bs : List ℕ) → is_digit b ≡ true → Ends (number (b ∷ bs)) (suc (length bs))
-number-ends b bs h = if_branch (λ p. Ends p (suc (length bs))) (nat_le (value (take (prefix_len is_digit (b ∷ bs)) (b ∷ bs))) 9_223_372_036_854_775_807) _ _ (λ g. some is_digit b bs h) (λ g. omega arith)
+number-ends b bs h =
+    if_branch (λ p. Ends p (suc (length bs))) (nat_le (value (take (prefix_len is_digit (b ∷ bs)) (b ∷ bs))) 9_223_372_036_854_775_807) _ _
+    (λ g. some is_digit b bs h) (λ g. omega arith)
 
-string_at-ends : (s : StringByte) (text : List ℕ) (n most : ℕ) (stands : ℕ → Piece) (escapes : Piece) → 1 ≤ n → n + 1 ≤ most → ((c : ℕ) → Ends (stands c) most) → Ends escapes most → Ends (string_at s text n stands escapes) most
+string_at-ends : (s : StringByte) (text : List ℕ) (n most : ℕ) (stands : ℕ → Piece) (escapes : Piece) → 1 ≤ n → n + 1 ≤ most
+    → ((c : ℕ) → Ends (stands c) most) → Ends escapes most → Ends (string_at s text n stands escapes) most
 string_at-ends (inside.Stands c) text n most stands escapes h g f e = f c
 string_at-ends inside.Escapes text n most stands escapes h g f e = e
 string_at-ends inside.Closes text n most stands escapes h g f e = (omega arith, g)

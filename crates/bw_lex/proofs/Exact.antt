@@ -1,5 +1,6 @@
 -- The longest piece is the one that is found.
-use Rattle.std.proofs.Common.{◌≡◌, ℕ, suc, ◌<◌, ◌^◌, Bool, true, List, [], ◌∷◌, ◌++◌, length, take, drop, refl, sym, ap, ◌∙◌, subst, arith, inl, inr, codes, ◌==◌, ◌||◌, if◌then◌else◌}
+use Rattle.std.proofs.Common.{◌≡◌, ℕ, suc, ◌<◌, ◌^◌, Bool, true, List, [], ◌∷◌, ◌++◌, length, take, drop, refl, sym, ap, ◌∙◌, subst, arith, inl, inr}
+use Rattle.std.proofs.Common.{codes, ◌==◌, ◌||◌, if◌then◌else◌}
 use Rattle.std.specs.List.{prefix_len, AllPass}
 use Rattle.std.proofs.lemmas.List.{append_assoc, length-append, take_at}
 use Rattle.bw_lang.specs.declared.token.TokenKind.{TokenKind}
@@ -23,7 +24,8 @@ cons_is_more : (c : ℕ) (cs : List ℕ) → c ∷ cs ≡ [] → ⊥
 cons_is_more c cs e = cc
 
 -- a front of which each byte passes, and which would do so with one more, ends where the test fails
-counted : (p : ℕ → Bool) (own rest : List ℕ) → AllPass p own → IsLongest own rest → ((c : ℕ) → AllPass p (own ++ c ∷ []) → IsTokenPiece (own ++ c ∷ [])) → prefix_len p (own ++ rest) ≡ length own
+counted : (p : ℕ → Bool) (own rest : List ℕ) → AllPass p own → IsLongest own rest
+    → ((c : ℕ) → AllPass p (own ++ c ∷ []) → IsTokenPiece (own ++ c ∷ [])) → prefix_len p (own ++ rest) ≡ length own
 counted p own rest all longest form = elim (next p own rest all) [
   | inl e ↦ e
   | inr h ↦ absurd (cons_is_more h.0 [] (longest (h.0 ∷ []) h.1 h.2 (form h.0 (all_push p own h.0 all h.3))))
@@ -39,15 +41,19 @@ gap-exact bad own rest (inr h) longest =
     let more = subst (AllPass is_on_line) (ap (λ l. l ++ c ∷ []) h.1) every in
     inl (inr (h.0 ++ c ∷ [], ap (λ l. l ++ c ∷ []) h.1, all_tail is_on_line 47 (h.0 ++ c ∷ []) (all_tail is_on_line 47 (47 ∷ (h.0 ++ c ∷ [])) more)))))
 
-word-exact : (bad : Bool) (b : ℕ) (bs rest : List ℕ) → HasForm kinds.Word (b ∷ bs) → IsLongest (b ∷ bs) rest → piece bad (b ∷ (bs ++ rest)) ≡ pieces.Token kinds.Word (suc (length bs))
+word-exact : (bad : Bool) (b : ℕ) (bs rest : List ℕ) → HasForm kinds.Word (b ∷ bs) → IsLongest (b ∷ bs) rest
+    → piece bad (b ∷ (bs ++ rest)) ≡ pieces.Token kinds.Word (suc (length bs))
 word-exact bad b bs rest h longest =
     let all = all_cons is_word_byte b bs (ap (λ t. t || is_digit b) h.0) h.1 in
     piece-word bad b (bs ++ rest) h.0
-    ∙ ap (pieces.Token kinds.Word) (counted is_word_byte (b ∷ bs) rest all longest (λ c every. inr (inl (kinds.Word, (h.0, all_tail is_word_byte b (bs ++ c ∷ []) every)))))
+    ∙ ap (pieces.Token kinds.Word) (counted is_word_byte (b ∷ bs) rest all longest
+    (λ c every. inr (inl (kinds.Word, (h.0, all_tail is_word_byte b (bs ++ c ∷ []) every)))))
 
-number-exact : (bad : Bool) (v b : ℕ) (bs rest : List ℕ) → HasForm (kinds.Number v) (b ∷ bs) → v < 2 ^ 63 → IsLongest (b ∷ bs) rest → piece bad (b ∷ (bs ++ rest)) ≡ pieces.Token (kinds.Number v) (suc (length bs))
+number-exact : (bad : Bool) (v b : ℕ) (bs rest : List ℕ) → HasForm (kinds.Number v) (b ∷ bs) → v < 2 ^ 63 → IsLongest (b ∷ bs) rest
+    → piece bad (b ∷ (bs ++ rest)) ≡ pieces.Token (kinds.Number v) (suc (length bs))
 number-exact bad v b bs rest h below longest =
-    let count = counted is_digit (b ∷ bs) rest h.1 longest (λ c every. inr (inl (kinds.Number (value (b ∷ (bs ++ c ∷ []))), ((λ e. cons_is_more _ _ e), every, refl)))) in
+    let count =
+    counted is_digit (b ∷ bs) rest h.1 longest (λ c every. inr (inl (kinds.Number (value (b ∷ (bs ++ c ∷ []))), ((λ e. cons_is_more _ _ e), every, refl)))) in
     let own : take (prefix_len is_digit (b ∷ (bs ++ rest))) (b ∷ (bs ++ rest)) ≡ b ∷ bs = take_at (b ∷ bs) rest _ (sym count) in
     piece-number bad b (bs ++ rest) (all_head is_digit b bs h.1)
     ∙ number_fits (b ∷ (bs ++ rest)) v (sym h.2 ∙ ap value (sym own)) (omega (arith, below))
@@ -83,16 +89,19 @@ sign-exact bad a rest p h longest (comment e) =
 sign-exact bad a rest p h longest (markup e) =
     let first : a ≡ 60 = cc in
     let others : rest ≡ codes "html>" ++ drop 6 (a ∷ rest) = cc in
-    absurd (cons_is_more 104 (codes "tml>") (longest (codes "html>") (drop 6 (a ∷ rest)) others (inr (inr ([], ap (λ c. c ∷ codes "html>") first, none_in_nil)))))
+    absurd (cons_is_more 104 (codes "tml>") (longest (codes "html>") (drop 6 (a ∷ rest)) others
+    (inr (inr ([], ap (λ c. c ∷ codes "html>") first, none_in_nil)))))
 sign-exact bad a rest p h longest (other h1 h2 h3 h4 h5 h6) = one-sign a rest h longest
 
-pub token-exact : (bad : Bool) (kind : TokenKind) (own rest : List ℕ) → HasForm kind own → IsHeld kind → IsLongest own rest → piece bad (own ++ rest) ≡ pieces.Token kind (length own)
+pub token-exact : (bad : Bool) (kind : TokenKind) (own rest : List ℕ) → HasForm kind own → IsHeld kind → IsLongest own rest
+    → piece bad (own ++ rest) ≡ pieces.Token kind (length own)
 token-exact bad kinds.Word [] rest h held longest = absurd h
 token-exact bad kinds.Word (b ∷ bs) rest h held longest = word-exact bad b bs rest h longest
 token-exact bad (kinds.Number v) [] rest h held longest = absurd (h.0 refl)
 token-exact bad (kinds.Number v) (b ∷ bs) rest h held longest = number-exact bad v b bs rest h held longest
 token-exact bad (kinds.Str text) own rest h held longest =
-    ap (λ l. piece bad (l ++ rest)) h.1 ∙ piece-string bad (h.0 ++ rest) ∙ string-whole bad text h.0 rest h.2 ∙ ap (λ l. pieces.Token (kinds.Str text) (length l)) (sym h.1)
+    ap (λ l. piece bad (l ++ rest)) h.1 ∙ piece-string bad (h.0 ++ rest) ∙ string-whole bad text h.0 rest h.2
+    ∙ ap (λ l. pieces.Token (kinds.Str text) (length l)) (sym h.1)
 token-exact bad kinds.Template own rest h held longest = template-exact bad own rest h
 token-exact bad kinds.Sign [] rest h held longest = absurd h
 token-exact bad kinds.Sign (a ∷ []) rest h held longest = sign-exact bad a rest (piece bad (a ∷ rest)) h longest (branch bad a rest)

@@ -52,7 +52,8 @@ piece-pair bad a b bs h =
     let line : starts_with nat_eq (a ∷ b ∷ bs) (codes "//") ≡ false = grind (arith, nat_tests) in
     let html : starts_with nat_eq (a ∷ b ∷ bs) (codes "<html>") ≡ false = grind (arith, nat_tests) in
     if_false (is_blank a) _ _ blank ∙ (if_false (is_letter a) _ _ letter ∙ (if_false (is_digit a) _ _ digit ∙ (if_false (a == 34) _ _ quote
-    ∙ (if_false (starts_with nat_eq (a ∷ b ∷ bs) (codes "//")) _ _ line ∙ (if_false (starts_with nat_eq (a ∷ b ∷ bs) (codes "<html>")) _ _ html ∙ if_true (is_pair a b) _ _ h)))))
+    ∙ (if_false (starts_with nat_eq (a ∷ b ∷ bs) (codes "//")) _ _ line
+    ∙ (if_false (starts_with nat_eq (a ∷ b ∷ bs) (codes "<html>")) _ _ html ∙ if_true (is_pair a b) _ _ h)))))
 
 -- the bytes of a sign begin nothing else
 pub sign_alone : (a : ℕ) → is_sign a ≡ true → (is_blank a ≡ false) × (is_letter a ≡ false) × (is_digit a ≡ false) × ((a == 34) ≡ false)

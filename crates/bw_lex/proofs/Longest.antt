@@ -36,7 +36,8 @@ gap-reached bad own rest (inr h) =
 template-reached : (bad : Bool) (own rest : List ℕ) → IsTemplateToken own → Reaches (length own) (piece bad (own ++ rest))
 template-reached bad own rest h =
     let split = ap (λ l. codes "<html>" ++ l) (append_assoc h.0 (codes "</html>") rest) in
-    let is = ap (λ l. piece bad (l ++ rest)) h.1 ∙ ap (piece bad) split ∙ piece-template bad (h.0 ++ (codes "</html>" ++ rest)) ∙ template-whole bad 6 h.0 rest h.2 in
+    let is =
+    ap (λ l. piece bad (l ++ rest)) h.1 ∙ ap (piece bad) split ∙ piece-template bad (h.0 ++ (codes "</html>" ++ rest)) ∙ template-whole bad 6 h.0 rest h.2 in
     subst (Reaches (length own)) (sym is) (omega (arith, ap length h.1, length-append h.0 (codes "</html>")))
 
 token-reached : (bad : Bool) (kind : TokenKind) (own rest : List ℕ) → HasForm kind own → Reaches (length own) (piece bad (own ++ rest))
@@ -47,7 +48,8 @@ token-reached bad kinds.Word (b ∷ bs) rest h =
 token-reached bad (kinds.Number v) [] rest h = absurd (h.0 refl)
 token-reached bad (kinds.Number v) (b ∷ bs) rest h =
     subst (Reaches (suc (length bs))) (sym (piece-number bad b (bs ++ rest) (all_head is_digit b bs h.1)))
-    (if_branch (Reaches (suc (length bs))) (nat_le (value (take (prefix_len is_digit (b ∷ (bs ++ rest))) (b ∷ (bs ++ rest)))) 9_223_372_036_854_775_807) _ _ (λ g. reaches is_digit (b ∷ bs) rest h.1) (λ g. tt))
+    (if_branch (Reaches (suc (length bs))) (nat_le (value (take (prefix_len is_digit (b ∷ (bs ++ rest))) (b ∷ (bs ++ rest))))
+    9_223_372_036_854_775_807) _ _ (λ g. reaches is_digit (b ∷ bs) rest h.1) (λ g. tt))
 token-reached bad (kinds.Str text) own rest h =
     let is = ap (λ l. piece bad (l ++ rest)) h.1 ∙ piece-string bad (h.0 ++ rest) ∙ string-whole bad text h.0 rest h.2 in
     subst (Reaches (length own)) (sym is) (omega (arith, ap length h.1))
@@ -60,7 +62,8 @@ token-reached bad kinds.Sign (a ∷ b ∷ c ∷ bs) rest h = absurd h
 begun-reached : (bad : Bool) (own rest : List ℕ) → BeginsTemplate own → Reaches (length own) (piece bad (own ++ rest))
 begun-reached bad own rest h =
     subst (λ l. Reaches (length l) (piece bad (l ++ rest))) (sym h.1)
-    (subst (Reaches (length (codes "<html>" ++ h.0))) (sym (piece-template bad (h.0 ++ rest))) (template-begun bad 6 (length (codes "<html>" ++ h.0)) h.0 rest h.2 (omega arith)))
+    (subst (Reaches (length (codes "<html>" ++ h.0))) (sym (piece-template bad (h.0 ++ rest)))
+    (template-begun bad 6 (length (codes "<html>" ++ h.0)) h.0 rest h.2 (omega arith)))
 
 -- whatever stands at the front, no less is taken
 reached : (bad : Bool) (own rest : List ℕ) → IsTokenPiece own → Reaches (length own) (piece bad (own ++ rest))
@@ -76,6 +79,9 @@ within (pieces.Fault kind m) n least e some h = absurd (omega (arith, e))
 -- so what is taken is the longest
 pub longest : (bad : Bool) (bytes : List ℕ) (n : ℕ) → piece_len (piece bad bytes) ≡ n → 1 ≤ n → n ≤ length bytes → IsLongest (take n bytes) (drop n bytes)
 longest bad bytes n e some most more less split h =
-    let whole : (take n bytes ++ more) ++ less ≡ bytes = append_assoc (take n bytes) more less ∙ ap (λ l. take n bytes ++ l) (sym split) ∙ take-append-drop n bytes in
-    let far = within (piece bad bytes) n (length (take n bytes ++ more)) e some (subst (λ l. Reaches (length (take n bytes ++ more)) (piece bad l)) whole (reached bad (take n bytes ++ more) less h)) in
+    let whole : (take n bytes ++ more) ++ less ≡ bytes =
+    append_assoc (take n bytes) more less ∙ ap (λ l. take n bytes ++ l) (sym split) ∙ take-append-drop n bytes in
+    let far =
+    within (piece bad bytes) n (length (take n bytes ++ more)) e some
+    (subst (λ l. Reaches (length (take n bytes ++ more)) (piece bad l)) whole (reached bad (take n bytes ++ more) less h)) in
     nil_from_length more (omega (arith, far, length-append (take n bytes) more, length-take-le n bytes most))

@@ -1,5 +1,6 @@
 -- Each piece that is found has its form.
-use Rattle.std.proofs.Common.{◌≡◌, ℕ, suc, ◌+◌, ◌-◌, ◌≤◌, Bool, true, false, List, [], ◌∷◌, ◌++◌, length, take, drop, refl, sym, ap, ◌∙◌, subst, arith, inl, inr, codes, nat_eq, nat_le, ◌||◌}
+use Rattle.std.proofs.Common.{◌≡◌, ℕ, suc, ◌+◌, ◌-◌, ◌≤◌, Bool, true, false, List, [], ◌∷◌, ◌++◌, length, take, drop, refl, sym, ap, ◌∙◌, subst}
+use Rattle.std.proofs.Common.{arith, inl, inr, codes, nat_eq, nat_le, ◌||◌}
 use Rattle.std.specs.List.{prefix_len, starts_with, AllPass}
 use Rattle.std.proofs.lemmas.Bool.{leb-true}
 use Rattle.std.proofs.lemmas.List.{take_at, append_assoc, length-append}
@@ -35,8 +36,14 @@ number-means b bs h =
     let n = prefix_len is_digit (b ∷ bs) in
     let own = take n (b ∷ bs) in
     if_branch (λ p. Means p (b ∷ bs)) (nat_le (value own) 9_223_372_036_854_775_807) _ _
-    (λ g. let most : value own ≤ 9_223_372_036_854_775_807 = leb-true _ _ g in
-    (((λ e. let q : b ∷ take (n - 1) bs ≡ [] = sym (take_first n b bs (some is_digit b bs h).0) ∙ e in absurd (cc)), passing is_digit (b ∷ bs) n refl, refl), omega (arith, most)))
+    (λ g. let most : value own ≤ 9_223_372_036_854_775_807 = leb-true _ _ g in (
+      (
+        (λ e. let q : b ∷ take (n - 1) bs ≡ [] = sym (take_first n b bs (some is_digit b bs h).0) ∙ e in absurd (cc)),
+        passing is_digit (b ∷ bs) n refl,
+        refl,
+      ),
+      omega (arith, most),
+    ))
     (λ g. tt)
 
 comment-means : (bs : List ℕ) → IsGap (take (prefix_len is_on_line (codes "//" ++ bs)) (codes "//" ++ bs))
@@ -50,7 +57,8 @@ NoGap (pieces.Gap n) = ⊥
 NoGap (pieces.Token kind n) = Unit {0}
 NoGap (pieces.Fault kind n) = Unit {0}
 
-string_at-no-gap : (s : StringByte) (text : List ℕ) (n : ℕ) (stands : ℕ → Piece) (escapes : Piece) → ((c : ℕ) → NoGap (stands c)) → NoGap escapes → NoGap (string_at s text n stands escapes)
+string_at-no-gap : (s : StringByte) (text : List ℕ) (n : ℕ) (stands : ℕ → Piece) (escapes : Piece) → ((c : ℕ) → NoGap (stands c)) → NoGap escapes
+    → NoGap (string_at s text n stands escapes)
 string_at-no-gap (inside.Stands c) text n stands escapes f e = f c
 string_at-no-gap inside.Escapes text n stands escapes f e = e
 string_at-no-gap inside.Closes text n stands escapes f e = tt
@@ -83,7 +91,8 @@ template-token : (bs : List ℕ) (kind : TokenKind) (n : ℕ) → Ended 6 bs kin
 template-token bs kind n f =
     let whole = codes "<html>" ++ (f.inner ++ codes "</html>") in
     let front : codes "<html>" ++ bs ≡ whole ++ f.rest = ap (λ l. codes "<html>" ++ l) (f.front ∙ sym (append_assoc f.inner (codes "</html>") f.rest)) in
-    let own : take n (codes "<html>" ++ bs) ≡ whole = (λ i. take n (front i)) ∙ take_at whole f.rest n (omega (arith, f.len, length-append f.inner (codes "</html>"))) in
+    let own : take n (codes "<html>" ++ bs) ≡ whole =
+    (λ i. take n (front i)) ∙ take_at whole f.rest n (omega (arith, f.len, length-append f.inner (codes "</html>"))) in
     subst (λ k. HasForm k (take n (codes "<html>" ++ bs)) × IsHeld k) (sym f.is) ((f.inner, own, f.none), tt)
 
 template-means : (bad : Bool) (bs : List ℕ) (p : Piece) → template bad 6 bs ≡ p → Means p (codes "<html>" ++ bs)
@@ -105,7 +114,8 @@ branch-means bad b bs p (word h) = (word-means b bs h (some is_word_byte b bs (a
 branch-means bad b bs p (digits h) = number-means b bs h
 branch-means bad b bs p (quoted h) = subst (λ c. Means (string bad false [] 1 bs) (c ∷ bs)) (sym h) (string-means bad bs (string bad false [] 1 bs) refl)
 branch-means bad b bs p (comment h) = subst (λ l. IsGap (take (prefix_len is_on_line l) l)) (sym h) (comment-means (drop 2 (b ∷ bs)))
-branch-means bad b bs p (markup h) = subst (Means (template bad 6 (drop 6 (b ∷ bs)))) (sym h) (template-means bad (drop 6 (b ∷ bs)) (template bad 6 (drop 6 (b ∷ bs))) refl)
+branch-means bad b bs p (markup h) =
+    subst (Means (template bad 6 (drop 6 (b ∷ bs)))) (sym h) (template-means bad (drop 6 (b ∷ bs)) (template bad 6 (drop 6 (b ∷ bs))) refl)
 branch-means bad b bs p (other h1 h2 h3 h4 h5 h6) = sign-means (b ∷ bs)
 
 here : (bad : Bool) (bs : List ℕ) → Means (piece bad bs) bs

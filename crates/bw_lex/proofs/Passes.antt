@@ -1,5 +1,6 @@
 -- Fronts of which each byte passes a test.
-use Rattle.std.proofs.Common.{◌≡◌, ℕ, zero, suc, ◌+◌, ◌-◌, ◌<◌, ◌≤◌, Bool, true, false, List, [], ◌∷◌, ◌++◌, length, take, refl, ap, ◌∙◌, arith, ◌⊎◌, inl, inr, cond}
+use Rattle.std.proofs.Common.{◌≡◌, ℕ, zero, suc, ◌+◌, ◌-◌, ◌<◌, ◌≤◌, Bool, true, false, List, [], ◌∷◌, ◌++◌, length, take, refl, ap, ◌∙◌, arith, ◌⊎◌}
+use Rattle.std.proofs.Common.{inl, inr, cond}
 use Rattle.std.specs.List.{prefix_len, AllPass}
 use Rattle.std.proofs.lemmas.List.{length-take, get_or-take}
 use Rattle.std.proofs.lemmas.List.Sums.{prefix_len_passes}
@@ -37,7 +38,8 @@ reaches p [] rest h = omega arith
 reaches p (b ∷ bs) rest h = omega (arith, ap (λ t. cond t (1 + prefix_len p (bs ++ rest)) 0) (all_head p b bs h), reaches p bs rest (all_tail p b bs h))
 
 -- and where it is longer, the next byte passes too
-pub next : (p : ℕ → Bool) (own rest : List ℕ) → AllPass p own → (prefix_len p (own ++ rest) ≡ length own) ⊎ ((c : ℕ) × (less : List ℕ) × (rest ≡ c ∷ less) × (p c ≡ true))
+pub next : (p : ℕ → Bool) (own rest : List ℕ) → AllPass p own
+    → (prefix_len p (own ++ rest) ≡ length own) ⊎ ((c : ℕ) × (less : List ℕ) × (rest ≡ c ∷ less) × (p c ≡ true))
 next p [] [] h = inl refl
 next p [] (c ∷ less) h = elim (true_or_false (p c)) [
   | inl e ↦ inr (c, less, refl, e)

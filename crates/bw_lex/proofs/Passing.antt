@@ -1,5 +1,6 @@
 -- What the rest reads as behind a piece.
-use Rattle.std.proofs.Common.{◌≡◌, ℕ, zero, suc, ◌+◌, ◌-◌, ◌<◌, ◌≤◌, Bool, true, false, List, [], ◌∷◌, ◌++◌, length, take, drop, refl, sym, ap, ◌∙◌, subst, arith, Ok, Err, nat_lt}
+use Rattle.std.proofs.Common.{◌≡◌, ℕ, zero, suc, ◌+◌, ◌-◌, ◌<◌, ◌≤◌, Bool, true, false, List, [], ◌∷◌, ◌++◌, length, take, drop, refl, sym, ap, ◌∙◌}
+use Rattle.std.proofs.Common.{subst, arith, Ok, Err, nat_lt}
 use Rattle.std.specs.Str.{IsUtf8}
 use Rattle.std.specs.Str.Lossy.{utf8_valid_len}
 use Rattle.std.proofs.lemmas.List.{length-drop, drop-drop, take_rest, take_all, append_assoc, append-nil}
@@ -22,7 +23,8 @@ pass bad (suc k) at [] h = absurd (omega arith)
 pass bad (suc k) at (b ∷ bs) h = pass bad k (at + 1) bs (omega arith) ∙ ap (λ n. scan bad 0 n (drop k bs)) (omega arith)
 
 -- a piece, and what stands behind it
-pub scan-piece : (bad : Bool) (at n : ℕ) (bs : List ℕ) (p : Piece) → piece bad bs ≡ p → piece_len p ≡ n → 1 ≤ n → n ≤ length bs → scan bad 0 at bs ≡ with_rest at p (scan bad 0 (at + n) (drop n bs))
+pub scan-piece : (bad : Bool) (at n : ℕ) (bs : List ℕ) (p : Piece) → piece bad bs ≡ p → piece_len p ≡ n → 1 ≤ n → n ≤ length bs
+    → scan bad 0 at bs ≡ with_rest at p (scan bad 0 (at + n) (drop n bs))
 unfolding scan
 scan-piece bad at n [] p e l some within = absurd (omega arith)
 scan-piece bad at zero (b ∷ bs) p e l some within = absurd (omega arith)
@@ -31,7 +33,8 @@ scan-piece bad at (suc n) (b ∷ bs) p e l some within =
     ∙ ap (λ m. with_rest at p (scan bad m (at + 1) bs)) (omega (arith, l))
     ∙ ap (with_rest at p) (pass bad n (at + 1) bs (omega arith) ∙ ap (λ m. scan bad 0 m (drop n bs)) (omega arith))
 
-pub scan-fault : (bad : Bool) (at n : ℕ) (bs : List ℕ) (k : FaultKind) → piece bad bs ≡ pieces.Fault k n → 0 < length bs → scan bad 0 at bs ≡ Err (fault_at k (at + n))
+pub scan-fault : (bad : Bool) (at n : ℕ) (bs : List ℕ) (k : FaultKind) → piece bad bs ≡ pieces.Fault k n → 0 < length bs
+    → scan bad 0 at bs ≡ Err (fault_at k (at + n))
 unfolding scan
 scan-fault bad at n [] k e some = absurd (omega arith)
 scan-fault bad at n (b ∷ bs) k e some = ap (λ q. with_rest at q (scan bad (piece_len q - 1) (at + 1) bs)) e
@@ -61,12 +64,14 @@ ends_there bad at bs p q e f =
     subst (Ends q) (from_len at bs) (subst (λ q. Ends q (length (from at bs))) (sym e ∙ f) (piece-ends bad (from at bs)))
 
 -- and then the scan goes on behind it, or ends with its fault
-pub goes_on : (bad : Bool) (at n : ℕ) (bs : List ℕ) (p q : Piece) → p ≡ piece bad (from at bs) → p ≡ q → piece_len q ≡ n → 1 ≤ n → n ≤ length bs - at → scan bad 0 at (drop at bs) ≡ with_rest at q (scan bad 0 (at + n) (drop (at + n) bs))
+pub goes_on : (bad : Bool) (at n : ℕ) (bs : List ℕ) (p q : Piece) → p ≡ piece bad (from at bs) → p ≡ q → piece_len q ≡ n → 1 ≤ n → n ≤ length bs - at
+    → scan bad 0 at (drop at bs) ≡ with_rest at q (scan bad 0 (at + n) (drop (at + n) bs))
 goes_on bad at n bs p q e f l some most =
     scan-piece bad at n (drop at bs) q (ap (piece bad) (sym (take_rest bs at)) ∙ sym e ∙ f) l some (omega (arith, length-drop at bs))
     ∙ ap (λ l. with_rest at q (scan bad 0 (at + n) l)) (drop-drop n at bs)
 
-pub stops : (bad : Bool) (at n : ℕ) (bs : List ℕ) (p : Piece) (k : FaultKind) → at < length bs → p ≡ piece bad (from at bs) → p ≡ pieces.Fault k n → scan bad 0 at (drop at bs) ≡ Err (fault_at k (at + n))
+pub stops : (bad : Bool) (at n : ℕ) (bs : List ℕ) (p : Piece) (k : FaultKind) → at < length bs → p ≡ piece bad (from at bs) → p ≡ pieces.Fault k n
+    → scan bad 0 at (drop at bs) ≡ Err (fault_at k (at + n))
 stops bad at n bs p k h e f =
     scan-fault bad at n (drop at bs) k (ap (piece bad) (sym (take_rest bs at)) ∙ sym e ∙ f) (omega (arith, length-drop at bs))
 

@@ -1,5 +1,6 @@
 -- A text is refused for the fault that the scan finds, and for no other.
-use Rattle.std.proofs.Common.{◌≡◌, ℕ, zero, suc, ◌+◌, ◌<◌, ◌≤◌, Bool, true, false, List, [], ◌∷◌, ◌++◌, length, take, drop, refl, sym, ap, ◌∙◌, subst, arith, Result, Ok, Err, ◌⊎◌, inl, inr, IfOk, IfErr, codes, if◌then◌else◌}
+use Rattle.std.proofs.Common.{◌≡◌, ℕ, zero, suc, ◌+◌, ◌<◌, ◌≤◌, Bool, true, false, List, [], ◌∷◌, ◌++◌, length, take, drop, refl, sym, ap, ◌∙◌, subst}
+use Rattle.std.proofs.Common.{arith, Result, Ok, Err, ◌⊎◌, inl, inr, IfOk, IfErr, codes, if◌then◌else◌}
 use Rattle.std.specs.Str.{IsUtf8, is_utf8, IsValidUpTo}
 use Rattle.std.specs.Str.Lossy.{utf8_valid_len, valid_len_up_to}
 use Rattle.std.proofs.lemmas.Bool.{cases_lt}
@@ -36,7 +37,8 @@ rest-fails : (tokens : List Token) (rest : Reading) (fault : LexFault) → onto 
 rest-fails tokens (Ok others) fault e = absurd (cc)
 rest-fails tokens (Err other) fault e = e
 
-step : (bad : Bool) (p : Piece) (at b : ℕ) (bs : List ℕ) (fault : LexFault) → piece bad (b ∷ bs) ≡ p → Ends p (length (b ∷ bs)) → scan bad 0 at (b ∷ bs) ≡ Err fault →
+step : (bad : Bool) (p : Piece) (at b : ℕ) (bs : List ℕ) (fault : LexFault) → piece bad (b ∷ bs) ≡ p → Ends p (length (b ∷ bs))
+    → scan bad 0 at (b ∷ bs) ≡ Err fault →
     ((at n : ℕ) → 1 ≤ n → scan bad 0 at (drop n (b ∷ bs)) ≡ Err fault → Refuses bad at (drop n (b ∷ bs)) fault) → Refuses bad at (b ∷ bs) fault
 step bad (pieces.Gap n) at b bs fault e ends read rest =
     let bytes = b ∷ bs in
@@ -49,7 +51,9 @@ step bad (pieces.Token kind n) at b bs fault e ends read rest =
     let bytes = b ∷ bs in
     let own = take n bytes in
     let tokens : List Token = record { what = kind; start = at; end = at + n } ∷ [] in
-    let on = rest (at + n) n ends.0 (rest-fails tokens (scan bad 0 (at + n) (drop n bytes)) fault (sym (scan-piece bad at n bytes (pieces.Token kind n) e refl ends.0 ends.1) ∙ read)) in
+    let on =
+    rest (at + n) n ends.0 (rest-fails tokens (scan bad 0 (at + n) (drop n bytes)) fault
+    (sym (scan-piece bad at n bytes (pieces.Token kind n) e refl ends.0 ends.1) ∙ read)) in
     let means : HasForm kind own × IsHeld kind = piece-means bad bytes (pieces.Token kind n) e in
     subst (λ l. Refuses bad at l fault) (take-append-drop n bytes)
     (refusals.token at kind own (drop n bytes) fault means.0 means.1 (longest bad bytes n (ap piece_len e) ends.0 ends.1)
@@ -71,27 +75,37 @@ refused bad (suc most) at (b ∷ bs) fault h e =
     (λ at n some read. refused bad most at (drop n (b ∷ bs)) fault (omega (arith, h, some, length-drop n (b ∷ bs))) read)
 
 -- and a fault that stands in the text is found
-at_once : (bad : Bool) (at n : ℕ) (bytes : List ℕ) (kind : FaultKind) (fault : LexFault) → piece bad bytes ≡ pieces.Fault kind n → 0 < length bytes → fault_at kind (at + n) ≡ fault → scan bad 0 at bytes ≡ Err fault
+at_once : (bad : Bool) (at n : ℕ) (bytes : List ℕ) (kind : FaultKind) (fault : LexFault) → piece bad bytes ≡ pieces.Fault kind n → 0 < length bytes
+    → fault_at kind (at + n) ≡ fault → scan bad 0 at bytes ≡ Err fault
 at_once bad at n bytes kind fault e some is = scan-fault bad at n bytes kind e some ∙ ap (λ f. Err f) is
 
 stopped : (bad : Bool) (at : ℕ) (bytes : List ℕ) (fault : LexFault) → Stops bad at bytes fault → scan bad 0 at bytes ≡ Err fault
 unfolding scan
 stopped bad at bytes fault (refusals.bad_byte e) = ap (λ t. scan t 0 at []) e
-stopped bad at bytes fault (refusals.stray_byte b bs q h) = at_once bad at 0 (b ∷ bs) faults.BadByte _ (stray-byte bad b bs q h) (omega arith) (ap lexical.BadByte (omega arith))
+stopped bad at bytes fault (refusals.stray_byte b bs q h) =
+    at_once bad at 0 (b ∷ bs) faults.BadByte _ (stray-byte bad b bs q h) (omega arith) (ap lexical.BadByte (omega arith))
 stopped bad at bytes fault (refusals.bad_byte_in_string text inner e h) =
-    at_once bad at (1 + length inner) (34 ∷ inner) faults.BadByte _ (string-cut bad text inner h ∙ ap (λ t. if t then pieces.Fault faults.BadByte (1 + length inner) else pieces.Fault faults.OpenString 0) e) (omega arith) refl
+    at_once bad at (1 + length inner) (34 ∷ inner) faults.BadByte _
+    (string-cut bad text inner h ∙ ap (λ t. if t then pieces.Fault faults.BadByte (1 + length inner) else pieces.Fault faults.OpenString 0) e)
+    (omega arith) refl
 stopped bad at bytes fault (refusals.no_escape text inner rest h g) =
     at_once bad at (1 + length inner) (34 ∷ (inner ++ 92 ∷ rest)) faults.BadByte _ (string-no-escape bad text inner rest h g) (omega arith) refl
 stopped bad at bytes fault (refusals.broken_string text inner rest h) =
     at_once bad at 0 (34 ∷ (inner ++ 10 ∷ rest)) faults.OpenString _ (string-broken bad text inner rest h) (omega arith) (ap lexical.OpenString (omega arith))
 stopped bad at bytes fault (refusals.open_string text inner e h) =
-    at_once bad at 0 (34 ∷ inner) faults.OpenString _ (string-cut bad text inner h ∙ ap (λ t. if t then pieces.Fault faults.BadByte (1 + length inner) else pieces.Fault faults.OpenString 0) e) (omega arith) (ap lexical.OpenString (omega arith))
+    at_once bad at 0 (34 ∷ inner) faults.OpenString _
+    (string-cut bad text inner h ∙ ap (λ t. if t then pieces.Fault faults.BadByte (1 + length inner) else pieces.Fault faults.OpenString 0) e)
+    (omega arith) (ap lexical.OpenString (omega arith))
 stopped bad at bytes fault (refusals.bad_byte_in_template inner e h) =
-    at_once bad at (6 + length inner) (codes "<html>" ++ inner) faults.BadByte _ (markup-cut bad inner h ∙ ap (λ t. if t then pieces.Fault faults.BadByte (6 + length inner) else pieces.Fault faults.OpenTemplate 0) e) (omega arith) refl
+    at_once bad at (6 + length inner) (codes "<html>" ++ inner) faults.BadByte _
+    (markup-cut bad inner h ∙ ap (λ t. if t then pieces.Fault faults.BadByte (6 + length inner) else pieces.Fault faults.OpenTemplate 0) e) (omega arith) refl
 stopped bad at bytes fault (refusals.open_template inner e h) =
-    at_once bad at 0 (codes "<html>" ++ inner) faults.OpenTemplate _ (markup-cut bad inner h ∙ ap (λ t. if t then pieces.Fault faults.BadByte (6 + length inner) else pieces.Fault faults.OpenTemplate 0) e) (omega arith) (ap lexical.OpenTemplate (omega arith))
+    at_once bad at 0 (codes "<html>" ++ inner) faults.OpenTemplate _
+    (markup-cut bad inner h ∙ ap (λ t. if t then pieces.Fault faults.BadByte (6 + length inner) else pieces.Fault faults.OpenTemplate 0) e)
+    (omega arith) (ap lexical.OpenTemplate (omega arith))
 stopped bad at bytes fault (refusals.big_number v own rest h g) =
-    at_once bad at 0 (own ++ rest) faults.NumberTooBig _ (number-too-big bad v own rest h g) (omega (arith, form_has_bytes (kinds.Number v) own h, length-append own rest)) (ap lexical.NumberTooBig (omega arith))
+    at_once bad at 0 (own ++ rest) faults.NumberTooBig _ (number-too-big bad v own rest h g)
+    (omega (arith, form_has_bytes (kinds.Number v) own h, length-append own rest)) (ap lexical.NumberTooBig (omega arith))
 
 found : (bad : Bool) (at : ℕ) (bytes : List ℕ) (fault : LexFault) → Refuses bad at bytes fault → scan bad 0 at bytes ≡ Err fault
 found bad at bytes fault (refusals.stop n bs f h) = stopped bad n bs f h
@@ -142,7 +156,11 @@ refused_exactly bytes fault = (to, from)
     from e = elim (cases_lt (utf8_valid_len bytes) (length bytes)) [
       | inl h ↦
           let n = utf8_valid_len bytes in
-          inr (n, valid_front bytes h, refused true n 0 (take n bytes) fault (omega (arith, length-take-le n bytes (omega (arith, h)))) (cut_off bytes n refl h ∙ e))
+          inr (
+            n,
+            valid_front bytes h,
+            refused true n 0 (take n bytes) fault (omega (arith, length-take-le n bytes (omega (arith, h)))) (cut_off bytes n refl h ∙ e),
+          )
       | inr h ↦
           let text = is_text bytes h in
           inl (text, refused false (length bytes) 0 bytes fault (omega arith) (sym (whole bytes text) ∙ e))
@@ -156,12 +174,16 @@ read_or_refused bytes = go (tokens_of bytes) refl
     go (Err fault) e = inr (fault, (refused_exactly bytes fault).1 e)
 
 -- what that says of an answer
-pub if_refused : {X : Type 0} (answer : Result X LexFault) (bytes : List ℕ) → IfErr answer (λ fault. (fault ≡ lexical.Memory) ⊎ (tokens_of bytes ≡ Err fault)) → IfErr answer (λ fault. (fault ≡ lexical.Memory) ⊎ IsRefused bytes fault)
+pub if_refused : {X : Type 0} (answer : Result X LexFault) (bytes : List ℕ)
+    → IfErr answer (λ fault. (fault ≡ lexical.Memory) ⊎ (tokens_of bytes ≡ Err fault))
+    → IfErr answer (λ fault. (fault ≡ lexical.Memory) ⊎ IsRefused bytes fault)
 if_refused (Ok x) bytes h = h
 if_refused (Err fault) bytes (inl h) = inl h
 if_refused (Err fault) bytes (inr h) = inr ((refused_exactly bytes fault).1 h)
 
-pub only_refused : (answer : Reading) (bytes : List ℕ) → IfOk answer (λ tokens. tokens_of bytes ≡ Ok tokens) → IfErr answer (λ fault. (fault ≡ lexical.Memory) ⊎ (tokens_of bytes ≡ Err fault)) → (fault : LexFault) → IsRefused bytes fault → (answer ≡ Err lexical.Memory) ⊎ (answer ≡ Err fault)
+pub only_refused : (answer : Reading) (bytes : List ℕ) → IfOk answer (λ tokens. tokens_of bytes ≡ Ok tokens)
+    → IfErr answer (λ fault. (fault ≡ lexical.Memory) ⊎ (tokens_of bytes ≡ Err fault)) → (fault : LexFault) → IsRefused bytes fault
+    → (answer ≡ Err lexical.Memory) ⊎ (answer ≡ Err fault)
 only_refused (Ok tokens) bytes h g fault is = let e = (refused_exactly bytes fault).0 is in absurd (cc)
 only_refused (Err other) bytes h (inl g) fault is = inl (ap (λ f. Err f) g)
 only_refused (Err other) bytes h (inr g) fault is = inr (sym g ∙ (refused_exactly bytes fault).0 is)

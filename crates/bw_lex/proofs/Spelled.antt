@@ -21,26 +21,38 @@ SpellsText-append [] bytes rest more h = ap (λ l. l ++ more) h
 SpellsText-append (c ∷ text) bytes rest more h = (h.0 ++ more, StandsFor-append c bytes h.0 more h.1, SpellsText-append text h.0 rest more h.2)
 
 -- The scan of a string goes over the bytes that stand for a byte of its text,
-over_byte : (bad : Bool) (c : ℕ) (bytes rest text : List ℕ) (n : ℕ) → StandsFor c bytes rest → (m : ℕ) × (m + length rest ≡ n + length bytes) × (string bad false text n bytes ≡ string bad false (text ++ c ∷ []) m rest)
+over_byte : (bad : Bool) (c : ℕ) (bytes rest text : List ℕ) (n : ℕ) → StandsFor c bytes rest
+    → (m : ℕ) × (m + length rest ≡ n + length bytes) × (string bad false text n bytes ≡ string bad false (text ++ c ∷ []) m rest)
 over_byte bad c bytes rest text n (inl h) =
-    let stands : string_byte false c ≡ inside.Stands c = grind (arith, nat_tests, h.1, h.2, h.3) in
-    (n + 1, omega (arith, ap length h.0), ap (string bad false text n) h.0 ∙ ap (λ s. string_at s text n (λ c. string bad false (text ++ c ∷ []) (n + 1) rest) (string bad true text (n + 1) rest)) stands)
+    let stands : string_byte false c ≡ inside.Stands c = grind (arith, nat_tests, h.1, h.2, h.3) in (
+      n + 1,
+      omega (arith, ap length h.0),
+      ap (string bad false text n) h.0
+          ∙ ap (λ s. string_at s text n (λ c. string bad false (text ++ c ∷ []) (n + 1) rest) (string bad true text (n + 1) rest)) stands,
+    )
 over_byte bad c bytes rest text n (inr (inl h)) =
-    let stands : string_byte true c ≡ inside.Stands c = grind (arith, nat_tests, h.1) in
-    (n + 1 + 1, omega (arith, ap length h.0), ap (string bad false text n) h.0 ∙ ap (λ s. string_at s text (n + 1) (λ c. string bad false (text ++ c ∷ []) (n + 1 + 1) rest) (string bad true text (n + 1 + 1) rest)) stands)
+    let stands : string_byte true c ≡ inside.Stands c = grind (arith, nat_tests, h.1) in (
+      n + 1 + 1,
+      omega (arith, ap length h.0),
+      ap (string bad false text n) h.0
+          ∙ ap (λ s. string_at s text (n + 1) (λ c. string bad false (text ++ c ∷ []) (n + 1 + 1) rest) (string bad true text (n + 1 + 1) rest)) stands,
+    )
 over_byte bad c bytes rest text n (inr (inr h)) =
     (n + 1 + 1, omega (arith, ap length h.0), ap (string bad false text n) h.0 ∙ ap (λ c. string bad false (text ++ c ∷ []) (n + 1 + 1) rest) (sym h.1))
 
 -- and over those that stand for a text
-pub over_text : (bad : Bool) (more bytes rest text : List ℕ) (n : ℕ) → SpellsText more bytes rest → (m : ℕ) × (m + length rest ≡ n + length bytes) × (string bad false text n bytes ≡ string bad false (text ++ more) m rest)
-over_text bad [] bytes rest text n h = (n, omega (arith, ap length h), ap (string bad false text n) h ∙ ap (λ t. string bad false t n rest) (sym (append-nil text)))
+pub over_text : (bad : Bool) (more bytes rest text : List ℕ) (n : ℕ) → SpellsText more bytes rest
+    → (m : ℕ) × (m + length rest ≡ n + length bytes) × (string bad false text n bytes ≡ string bad false (text ++ more) m rest)
+over_text bad [] bytes rest text n h =
+    (n, omega (arith, ap length h), ap (string bad false text n) h ∙ ap (λ t. string bad false t n rest) (sym (append-nil text)))
 over_text bad (c ∷ more) bytes rest text n h =
     let first = over_byte bad c bytes h.0 text n h.1 in
     let others = over_text bad more h.0 rest (text ++ c ∷ []) first.0 h.2 in
     (others.0, omega (arith, first.1, others.1), first.2 ∙ others.2 ∙ ap (λ t. string bad false t others.0 rest) (append_assoc text (c ∷ []) more))
 
 -- a string is read to its end
-pub string-whole : (bad : Bool) (text inner rest : List ℕ) → SpellsText text inner (34 ∷ []) → string bad false [] 1 (inner ++ rest) ≡ pieces.Token (kinds.Str text) (suc (length inner))
+pub string-whole : (bad : Bool) (text inner rest : List ℕ) → SpellsText text inner (34 ∷ [])
+    → string bad false [] 1 (inner ++ rest) ≡ pieces.Token (kinds.Str text) (suc (length inner))
 string-whole bad text inner rest h =
     let over = over_text bad text (inner ++ rest) (34 ∷ rest) [] 1 (SpellsText-append text inner (34 ∷ []) rest h) in
     over.2 ∙ ap (pieces.Token (kinds.Str text)) (omega (arith, over.1, length-append inner rest))
@@ -76,7 +88,8 @@ found_none false false text n kind end e = cc
 found_at : (s : StringByte) (escaped bad : Bool) (text : List ℕ) (n b : ℕ) (bytes : List ℕ) (kind : TokenKind) (end : ℕ) → string_byte escaped b ≡ s →
     ((c : ℕ) → string bad false (text ++ c ∷ []) (n + 1) bytes ≡ pieces.Token kind end → Found false (text ++ c ∷ []) (n + 1) bytes kind end) →
     (string bad true text (n + 1) bytes ≡ pieces.Token kind end → Found true text (n + 1) bytes kind end) →
-    string_at s text n (λ c. string bad false (text ++ c ∷ []) (n + 1) bytes) (string bad true text (n + 1) bytes) ≡ pieces.Token kind end → Found escaped text n (b ∷ bytes) kind end
+    string_at s text n (λ c. string bad false (text ++ c ∷ []) (n + 1) bytes) (string bad true text (n + 1) bytes) ≡ pieces.Token kind end
+    → Found escaped text n (b ∷ bytes) kind end
 found_at (inside.Stands c) escaped bad text n b bytes kind end q stands escapes e =
     let f = stands c e in
     record {
@@ -98,7 +111,9 @@ found_at inside.Escapes escaped bad text n b bytes kind end q stands escapes e =
       is = f.is;
       front = ap (λ l. b ∷ l) f.front;
       len = omega (arith, f.len);
-      spelled = subst (λ x. SpellsText f.more (behind x (b ∷ f.inner)) (34 ∷ [])) (sym h.0) (subst (λ d. SpellsText f.more (d ∷ f.inner) (34 ∷ [])) (sym h.1) f.spelled);
+      spelled =
+          subst (λ x. SpellsText f.more (behind x (b ∷ f.inner)) (34 ∷ [])) (sym h.0)
+          (subst (λ d. SpellsText f.more (d ∷ f.inner) (34 ∷ [])) (sym h.1) f.spelled);
     }
 found_at inside.Closes escaped bad text n b bytes kind end q stands escapes e =
     let h = closes_is escaped b q in
@@ -116,7 +131,8 @@ found_at inside.Closes escaped bad text n b bytes kind end q stands escapes e =
 found_at inside.BreaksLine escaped bad text n b bytes kind end q stands escapes e = absurd (cc)
 found_at inside.NoEscape escaped bad text n b bytes kind end q stands escapes e = absurd (cc)
 
-pub string-found : (bad escaped : Bool) (text : List ℕ) (n : ℕ) (bytes : List ℕ) (kind : TokenKind) (end : ℕ) → string bad escaped text n bytes ≡ pieces.Token kind end → Found escaped text n bytes kind end
+pub string-found : (bad escaped : Bool) (text : List ℕ) (n : ℕ) (bytes : List ℕ) (kind : TokenKind) (end : ℕ)
+    → string bad escaped text n bytes ≡ pieces.Token kind end → Found escaped text n bytes kind end
 string-found bad escaped text n [] kind end e = absurd (found_none escaped bad text n kind end e)
 string-found bad escaped text n (b ∷ bytes) kind end e =
     found_at (string_byte escaped b) escaped bad text n b bytes kind end refl

@@ -22,12 +22,15 @@ closes_is true b e = grind (arith, nat_tests)
 closes_is false b e = grind (arith, nat_tests)
 
 -- a string at a byte that stands for a byte of the text, and at a backslash
-pub string-stands : (bad escaped : Bool) (text bytes : List ℕ) (n m c : ℕ) → n < length bytes → string_byte escaped (get_or bytes n 0) ≡ inside.Stands c → string bad escaped text m (drop n bytes) ≡ string bad false (text ++ c ∷ []) (m + 1) (drop (n + 1) bytes)
+pub string-stands : (bad escaped : Bool) (text bytes : List ℕ) (n m c : ℕ) → n < length bytes
+    → string_byte escaped (get_or bytes n 0) ≡ inside.Stands c
+    → string bad escaped text m (drop n bytes) ≡ string bad false (text ++ c ∷ []) (m + 1) (drop (n + 1) bytes)
 string-stands bad escaped text bytes n m c h e =
     ap (string bad escaped text m) (drop_more bytes n 0 h)
     ∙ ap (λ s. string_at s text m (λ c. string bad false (text ++ c ∷ []) (m + 1) (drop (n + 1) bytes)) (string bad true text (m + 1) (drop (n + 1) bytes))) e
 
-pub string-escapes : (bad escaped : Bool) (text bytes : List ℕ) (n m : ℕ) → n < length bytes → string_byte escaped (get_or bytes n 0) ≡ inside.Escapes → string bad escaped text m (drop n bytes) ≡ string bad true text (m + 1) (drop (n + 1) bytes)
+pub string-escapes : (bad escaped : Bool) (text bytes : List ℕ) (n m : ℕ) → n < length bytes → string_byte escaped (get_or bytes n 0) ≡ inside.Escapes
+    → string bad escaped text m (drop n bytes) ≡ string bad true text (m + 1) (drop (n + 1) bytes)
 string-escapes bad escaped text bytes n m h e =
     ap (string bad escaped text m) (drop_more bytes n 0 h)
     ∙ ap (λ s. string_at s text m (λ c. string bad false (text ++ c ∷ []) (m + 1) (drop (n + 1) bytes)) (string bad true text (m + 1) (drop (n + 1) bytes))) e

@@ -1,5 +1,6 @@
 -- The search for the end of a template.
-use Rattle.std.proofs.Common.{inl, inr, ◌≡◌, ℕ, ◌+◌, ◌-◌, ◌<◌, ◌≤◌, Bool, true, false, List, [], ◌∷◌, ◌++◌, length, get_or, take, drop, refl, sym, ap, ◌∙◌, arith, codes, nat_eq, if◌then◌else◌}
+use Rattle.std.proofs.Common.{inl, inr, ◌≡◌, ℕ, ◌+◌, ◌-◌, ◌<◌, ◌≤◌, Bool, true, false, List, [], ◌∷◌, ◌++◌, length, get_or, take, drop, refl, sym, ap}
+use Rattle.std.proofs.Common.{◌∙◌, arith, codes, nat_eq, if◌then◌else◌}
 use Rattle.std.specs.List.{starts_with}
 use Rattle.std.proofs.lemmas.Bool.{cases_lt}
 use Rattle.std.proofs.lemmas.List.{drop_more, take_rest, length-append}
@@ -13,11 +14,14 @@ use Rattle.bw_lex.specs.declared.pieces.Piece.TheVariants as pieces
 use Rattle.bw_lex.specs.Pieces.{template}
 
 -- one byte on, where the code asks for the end tag at the bytes that it cuts off
-pub template-more : (bad : Bool) (bytes : List ℕ) (n : ℕ) (r : Bool) → n < length bytes → r ≡ starts_with nat_eq (take (length bytes - n) (drop n bytes)) (codes "</html>") → template bad n (drop n bytes) ≡ (if r then pieces.Token kinds.Template (n + 7) else template bad (n + 1) (drop (n + 1) bytes))
+pub template-more : (bad : Bool) (bytes : List ℕ) (n : ℕ) (r : Bool) → n < length bytes
+    → r ≡ starts_with nat_eq (take (length bytes - n) (drop n bytes)) (codes "</html>")
+    → template bad n (drop n bytes) ≡ (if r then pieces.Token kinds.Template (n + 7) else template bad (n + 1) (drop (n + 1) bytes))
 template-more bad bytes n r h e =
     let b = get_or bytes n 0 in
     let bs = drop (n + 1) bytes in
-    let there : starts_with nat_eq (b ∷ bs) (codes "</html>") ≡ r = ap (λ s. starts_with nat_eq s (codes "</html>")) (sym (take_rest bytes n ∙ drop_more bytes n 0 h)) ∙ sym e in
+    let there : starts_with nat_eq (b ∷ bs) (codes "</html>") ≡ r =
+    ap (λ s. starts_with nat_eq s (codes "</html>")) (sym (take_rest bytes n ∙ drop_more bytes n 0 h)) ∙ sym e in
     ap (template bad n) (drop_more bytes n 0 h) ∙ ap (λ t. if t then pieces.Token kinds.Template (n + 7) else template bad (n + 1) bs) there
 
 -- the end tag at the front of the bytes ends within a front that is long enough
@@ -37,11 +41,14 @@ no_end_behind b bs h front back e = h (b ∷ front) back (ap (λ l. b ∷ l) e)
 is_cut : (b : ℕ) (bs rest : List ℕ) → HasNoEnd (b ∷ bs) → starts_with nat_eq (b ∷ (bs ++ rest)) (codes "</html>") ≡ true → length (b ∷ bs) < 7
 is_cut b bs rest none e = elim (cases_lt (length (b ∷ bs)) 7) [
   | inl h ↦ h
-  | inr h ↦ absurd (none [] (drop 7 (b ∷ bs)) (front_of (codes "</html>") (b ∷ bs) rest (drop 7 (b ∷ (bs ++ rest))) (starts (b ∷ (bs ++ rest)) (codes "</html>") e) h))
+  | inr h ↦
+      absurd (none [] (drop 7 (b ∷ bs)) (front_of (codes "</html>") (b ∷ bs) rest (drop 7 (b ∷ (bs ++ rest)))
+      (starts (b ∷ (bs ++ rest)) (codes "</html>") e) h))
 ]
 
 -- it doesn't lap over into another
-laps : (bs rest : List ℕ) (b : ℕ) → length (b ∷ bs) < 7 → (b ∷ bs) ++ (codes "</html>" ++ rest) ≡ codes "</html>" ++ drop 7 ((b ∷ bs) ++ (codes "</html>" ++ rest)) → ⊥
+laps : (bs rest : List ℕ) (b : ℕ) → length (b ∷ bs) < 7
+    → (b ∷ bs) ++ (codes "</html>" ++ rest) ≡ codes "</html>" ++ drop 7 ((b ∷ bs) ++ (codes "</html>" ++ rest)) → ⊥
 laps [] rest b h e = let q : 60 ≡ 47 = ap (λ l. get_or l 1 0) e in omega (arith, q)
 laps (b1 ∷ []) rest b h e = let q : 60 ≡ 104 = ap (λ l. get_or l 2 0) e in omega (arith, q)
 laps (b1 ∷ b2 ∷ []) rest b h e = let q : 60 ≡ 116 = ap (λ l. get_or l 3 0) e in omega (arith, q)
@@ -51,7 +58,8 @@ laps (b1 ∷ b2 ∷ b3 ∷ b4 ∷ b5 ∷ []) rest b h e = let q : 60 ≡ 62 = ap
 laps (b1 ∷ b2 ∷ b3 ∷ b4 ∷ b5 ∷ b6 ∷ bs) rest b h e = absurd (omega (arith, h))
 
 -- a template is read to its end
-pub template-whole : (bad : Bool) (n : ℕ) (inner rest : List ℕ) → HasNoEnd inner → template bad n (inner ++ (codes "</html>" ++ rest)) ≡ pieces.Token kinds.Template (n + length inner + 7)
+pub template-whole : (bad : Bool) (n : ℕ) (inner rest : List ℕ) → HasNoEnd inner
+    → template bad n (inner ++ (codes "</html>" ++ rest)) ≡ pieces.Token kinds.Template (n + length inner + 7)
 template-whole bad n [] rest none =
     ap (pieces.Token kinds.Template) (omega arith)
 template-whole bad n (b ∷ bs) rest none =
@@ -111,7 +119,8 @@ template-found true n [] kind end e = absurd (cc)
 template-found false n [] kind end e = absurd (cc)
 template-found bad n (b ∷ bs) kind end e = elim (true_or_false (starts_with nat_eq (b ∷ bs) (codes "</html>"))) [
   | inl h ↦
-      let q : pieces.Token kinds.Template (n + 7) ≡ pieces.Token kind end = ap (λ t. if t then pieces.Token kinds.Template (n + 7) else template bad (n + 1) bs) (sym h) ∙ e in
+      let q : pieces.Token kinds.Template (n + 7) ≡ pieces.Token kind end =
+      ap (λ t. if t then pieces.Token kinds.Template (n + 7) else template bad (n + 1) bs) (sym h) ∙ e in
       let is : kind ≡ kinds.Template = cc in
       let len : end ≡ n + 7 = cc in
       record { inner = []; rest = drop 7 (b ∷ bs); is = is; front = starts (b ∷ bs) (codes "</html>") h; len = omega (arith, len); none = none_in_nil }

@@ -1,5 +1,6 @@
 -- A fault that stands at a place is the one that is found there.
-use Rattle.std.proofs.Common.{◌≡◌, ◌≢◌, ℕ, suc, ◌+◌, ◌≤◌, ◌^◌, Bool, true, false, List, [], ◌∷◌, ◌++◌, length, take, drop, refl, sym, ap, ◌∙◌, arith, inl, inr, codes, nat_eq, if◌then◌else◌}
+use Rattle.std.proofs.Common.{◌≡◌, ◌≢◌, ℕ, suc, ◌+◌, ◌≤◌, ◌^◌, Bool, true, false, List, [], ◌∷◌, ◌++◌, length, take, drop, refl, sym, ap, ◌∙◌, arith}
+use Rattle.std.proofs.Common.{inl, inr, codes, nat_eq, if◌then◌else◌}
 use Rattle.std.specs.List.{prefix_len, starts_with}
 use Rattle.std.proofs.lemmas.Bool.Decides.{nat_tests}
 use Rattle.std.proofs.lemmas.List.{append-nil, length-append, take_at, take-take}
@@ -21,15 +22,18 @@ use Rattle.bw_lex.proofs.Spelled.{SpellsText-append, over_text}
 use Rattle.bw_lex.proofs.Templates.{none_in_nil, no_end_behind}
 
 -- a string up to a place in front of its end
-string-over : (bad : Bool) (text inner rest : List ℕ) → SpellsText text inner [] → piece bad (34 ∷ (inner ++ rest)) ≡ string bad false text (1 + length inner) rest
+string-over : (bad : Bool) (text inner rest : List ℕ) → SpellsText text inner []
+    → piece bad (34 ∷ (inner ++ rest)) ≡ string bad false text (1 + length inner) rest
 string-over bad text inner rest h =
     let over = over_text bad text (inner ++ rest) rest [] 1 (SpellsText-append text inner [] rest h) in
     piece-string bad (inner ++ rest) ∙ over.2 ∙ ap (λ m. string bad false text m rest) (omega (arith, over.1, length-append inner rest))
 
-pub string-cut : (bad : Bool) (text inner : List ℕ) → SpellsText text inner [] → piece bad (34 ∷ inner) ≡ (if bad then pieces.Fault faults.BadByte (1 + length inner) else pieces.Fault faults.OpenString 0)
+pub string-cut : (bad : Bool) (text inner : List ℕ) → SpellsText text inner []
+    → piece bad (34 ∷ inner) ≡ (if bad then pieces.Fault faults.BadByte (1 + length inner) else pieces.Fault faults.OpenString 0)
 string-cut bad text inner h = ap (λ l. piece bad (34 ∷ l)) (sym (append-nil inner)) ∙ string-over bad text inner [] h
 
-pub string-broken : (bad : Bool) (text inner rest : List ℕ) → SpellsText text inner [] → piece bad (34 ∷ (inner ++ 10 ∷ rest)) ≡ pieces.Fault faults.OpenString 0
+pub string-broken : (bad : Bool) (text inner rest : List ℕ) → SpellsText text inner []
+    → piece bad (34 ∷ (inner ++ 10 ∷ rest)) ≡ pieces.Fault faults.OpenString 0
 string-broken bad text inner rest h = string-over bad text inner (10 ∷ rest) h
 
 no-escape : (bad : Bool) (text : List ℕ) (n : ℕ) (rest : List ℕ) → EndsNoEscape rest → string bad true text (n + 1) rest ≡ pieces.Fault faults.BadByte n
@@ -39,11 +43,13 @@ no-escape bad text n (b ∷ bs) h =
     ap (λ s. string_at s text (n + 1) (λ c. string bad false (text ++ c ∷ []) (n + 1 + 1) bs) (string bad true text (n + 1 + 1) bs)) e
     ∙ ap (pieces.Fault faults.BadByte) (omega arith)
 
-pub string-no-escape : (bad : Bool) (text inner rest : List ℕ) → SpellsText text inner [] → EndsNoEscape rest → piece bad (34 ∷ (inner ++ 92 ∷ rest)) ≡ pieces.Fault faults.BadByte (1 + length inner)
+pub string-no-escape : (bad : Bool) (text inner rest : List ℕ) → SpellsText text inner [] → EndsNoEscape rest
+    → piece bad (34 ∷ (inner ++ 92 ∷ rest)) ≡ pieces.Fault faults.BadByte (1 + length inner)
 string-no-escape bad text inner rest h g = string-over bad text inner (92 ∷ rest) h ∙ no-escape bad text (1 + length inner) rest g
 
 -- a template whose end isn't there
-template-cut : (bad : Bool) (n : ℕ) (inner : List ℕ) → HasNoEnd inner → template bad n inner ≡ (if bad then pieces.Fault faults.BadByte (n + length inner) else pieces.Fault faults.OpenTemplate 0)
+template-cut : (bad : Bool) (n : ℕ) (inner : List ℕ) → HasNoEnd inner
+    → template bad n inner ≡ (if bad then pieces.Fault faults.BadByte (n + length inner) else pieces.Fault faults.OpenTemplate 0)
 template-cut bad n [] h = ap (λ m. if bad then pieces.Fault faults.BadByte m else pieces.Fault faults.OpenTemplate 0) (omega arith)
 template-cut bad n (b ∷ bs) h =
     let there : starts_with nat_eq (b ∷ bs) (codes "</html>") ≡ false = elim (true_or_false (starts_with nat_eq (b ∷ bs) (codes "</html>"))) [
@@ -54,7 +60,8 @@ template-cut bad n (b ∷ bs) h =
     ∙ template-cut bad (n + 1) bs (no_end_behind b bs h)
     ∙ ap (λ m. if bad then pieces.Fault faults.BadByte m else pieces.Fault faults.OpenTemplate 0) (omega arith)
 
-pub markup-cut : (bad : Bool) (inner : List ℕ) → HasNoEnd inner → piece bad (codes "<html>" ++ inner) ≡ (if bad then pieces.Fault faults.BadByte (6 + length inner) else pieces.Fault faults.OpenTemplate 0)
+pub markup-cut : (bad : Bool) (inner : List ℕ) → HasNoEnd inner
+    → piece bad (codes "<html>" ++ inner) ≡ (if bad then pieces.Fault faults.BadByte (6 + length inner) else pieces.Fault faults.OpenTemplate 0)
 markup-cut bad inner h = piece-template bad inner ∙ template-cut bad 6 inner h
 
 -- a number with a front that is too big
@@ -63,7 +70,8 @@ number-too-big bad v [] rest h g = absurd (h.0 refl)
 number-too-big bad v (b ∷ bs) rest h g =
     let bytes = b ∷ (bs ++ rest) in
     let n = prefix_len is_digit bytes in
-    let own : take (suc (length bs)) (take n bytes) ≡ b ∷ bs = take-take (suc (length bs)) n bytes (reaches is_digit (b ∷ bs) rest h.1) ∙ take_at (b ∷ bs) rest (suc (length bs)) refl in
+    let own : take (suc (length bs)) (take n bytes) ≡ b ∷ bs =
+    take-take (suc (length bs)) n bytes (reaches is_digit (b ∷ bs) rest h.1) ∙ take_at (b ∷ bs) rest (suc (length bs)) refl in
     let most = value-take-le (take n bytes) (suc (length bs)) in
     piece-number bad b (bs ++ rest) (all_head is_digit b bs h.1)
     ∙ number_is_too_big bytes (omega (arith, most, ap value own, h.2, g))
@@ -89,7 +97,11 @@ no-sign a (b ∷ bs) h = elim (true_or_false (is_pair a b)) [
 stray : (bad : Bool) (b : ℕ) (bs : List ℕ) (p : Piece) → b ≢ 34 → BeginsNothing (b ∷ bs) → Branch bad b bs p → p ≡ pieces.Fault faults.BadByte 0
 stray bad b bs p q h (blank e) = absurd (nothing-there b bs h (inl (inl (b, refl, e))))
 stray bad b bs p q h (word e) = absurd (nothing-there b bs h (inr (inl (kinds.Word, (e, all_nil is_word_byte)))))
-stray bad b bs p q h (digits e) = absurd (nothing-there b bs h (inr (inl (kinds.Number (value (b ∷ [])), ((λ n. let m : b ∷ [] ≡ [] = n in cc), all_cons is_digit b [] e (all_nil is_digit), refl)))))
+stray bad b bs p q h (digits e) =
+    absurd (nothing-there b bs h (inr (inl (
+      kinds.Number (value (b ∷ [])),
+      ((λ n. let m : b ∷ [] ≡ [] = n in cc), all_cons is_digit b [] e (all_nil is_digit), refl),
+    ))))
 stray bad b bs p q h (quoted e) = absurd (q e)
 stray bad b bs p q h (comment e) = let n = h (codes "//") (drop 2 (b ∷ bs)) e (inl (inr ([], refl, all_nil is_on_line))) in absurd (cc)
 stray bad b bs p q h (markup e) = let n = h (codes "<html>") (drop 6 (b ∷ bs)) e (inr (inr ([], refl, none_in_nil))) in absurd (cc)

@@ -47,7 +47,8 @@ has_text before own rest kinds.Template h u = tt
 has_text before own rest kinds.Sign h u = tt
 
 -- each token stands in the bytes that are cut
-at_place : (front own rest bytes : List ℕ) (kind : TokenKind) (at : ℕ) → bytes ≡ front ++ (own ++ rest) → at ≡ length front → HasForm kind own → IsHeld kind → IsUtf8 bytes → IsWithin bytes (record { what = kind; start = at; end = at + length own })
+at_place : (front own rest bytes : List ℕ) (kind : TokenKind) (at : ℕ) → bytes ≡ front ++ (own ++ rest) → at ≡ length front → HasForm kind own
+    → IsHeld kind → IsUtf8 bytes → IsWithin bytes (record { what = kind; start = at; end = at + length own })
 at_place front own rest bytes kind at e l form held u =
     let some = form_has_bytes kind own form in
     let slice : slice_range bytes at (at + length own) ≡ own =
@@ -62,13 +63,15 @@ at_place front own rest bytes kind at e l form held u =
       text = has_text front own rest kind form (subst IsUtf8 e u);
     }
 
-within : (front bytes text : List ℕ) (at : ℕ) (tokens : List Token) → text ≡ front ++ bytes → at ≡ length front → Cuts at bytes tokens → IsUtf8 text → All (IsWithin text) tokens
+within : (front bytes text : List ℕ) (at : ℕ) (tokens : List Token) → text ≡ front ++ bytes → at ≡ length front → Cuts at bytes tokens → IsUtf8 text
+    → All (IsWithin text) tokens
 within front bytes text at tokens e l (cuts.nothing n) u k d h = absurd (omega (arith, h))
 within front bytes text at tokens e l (cuts.gap n own rest ts form long others) u k d h =
     within (front ++ own) rest text (n + length own) ts (e ∙ sym (append_assoc front own rest)) (omega (arith, l, length-append front own)) others u k d h
 within front bytes text at tokens e l (cuts.token n kind own rest ts form held long others) u zero d h = at_place front own rest text kind n e l form held u
 within front bytes text at tokens e l (cuts.token n kind own rest ts form held long others) u (suc k) d h =
-    within (front ++ own) rest text (n + length own) ts (e ∙ sym (append_assoc front own rest)) (omega (arith, l, length-append front own)) others u k d (omega (arith, h))
+    within (front ++ own) rest text (n + length own) ts (e ∙ sym (append_assoc front own rest)) (omega (arith, l, length-append front own))
+    others u k d (omega (arith, h))
 
 pub all-within : (bytes : List ℕ) (tokens : List Token) → AreTokens bytes tokens → All (IsWithin bytes) tokens
 all-within bytes tokens h = within [] bytes bytes 0 tokens refl refl h.1 h.0

@@ -21,7 +21,8 @@ number bytes =
 -- what a byte of a string is; escaped: behind the backslash of an escape
 abbrev pub string_byte : Bool → ℕ → StringByte
 string_byte true b = if b == byte "\"" || b == byte "\\" then inside.Stands b else if b == byte "n" then inside.Stands (byte "\n") else inside.NoEscape
-string_byte false b = if b == byte "\"" then inside.Closes else if b == byte "\n" then inside.BreaksLine else if b == byte "\\" then inside.Escapes else inside.Stands b
+string_byte false b =
+    if b == byte "\"" then inside.Closes else if b == byte "\n" then inside.BreaksLine else if b == byte "\\" then inside.Escapes else inside.Stands b
 
 -- what comes of a string at a byte, where the first n bytes, the quote among them, stand for the text, and the byte
 -- may stand for one more or begin an escape
@@ -35,8 +36,10 @@ string_at inside.NoEscape text n stands escapes = pieces.Fault faults.BadByte (n
 -- a string of which the first n bytes, the quote among them, stand for the text; escaped: the last of these is the
 -- backslash of an escape; bad: a byte that is no UTF-8 follows the last
 abbrev pub string : Bool → Bool → List ℕ → ℕ → List ℕ → Piece
-string bad escaped text n [] = if escaped then pieces.Fault faults.BadByte (n - 1) else if bad then pieces.Fault faults.BadByte n else pieces.Fault faults.OpenString 0
-string bad escaped text n (b ∷ bs) = string_at (string_byte escaped b) text n (λ c. string bad false (text ++ c ∷ []) (n + 1) bs) (string bad true text (n + 1) bs)
+string bad escaped text n [] =
+    if escaped then pieces.Fault faults.BadByte (n - 1) else if bad then pieces.Fault faults.BadByte n else pieces.Fault faults.OpenString 0
+string bad escaped text n (b ∷ bs) =
+    string_at (string_byte escaped b) text n (λ c. string bad false (text ++ c ∷ []) (n + 1) bs) (string bad true text (n + 1) bs)
 
 -- the rest of a template behind its first n bytes; bad: a byte that is no UTF-8 follows the last
 abbrev pub template : Bool → ℕ → List ℕ → Piece

@@ -2,11 +2,11 @@
 ghost use Rattle.std.specs.Prelude.{◌≡◌, ℕ, ◌+◌, ◌<◌, ◌≤◌, false, nat_le, [], length, slice_index, drop, IfOk, MatchOption};
 ghost use Rattle.std.specs.List.{prefix_len, AllPass};
 ghost use Rattle.std.specs.Str.{IsUtf8, byte};
-ghost use Rattle.bw_lang.specs.Bytes.{is_blank, is_letter, is_digit, is_word_byte, is_on_line, is_sign, is_pair};
+ghost use Rattle.bw_lang.specs.Bytes.{is_letter, is_digit, is_word_byte, is_on_line, is_sign, is_pair};
 ghost use Rattle.bw_lang.specs.TokenForms.{value};
 ghost use Rattle.bw_lex.specs.Pieces.{number, string_byte, string, template, sign, piece};
 
-use bw_lang::{Memory, Text, TokenKind};
+use bw_lang::{Memory, Text, TokenKind, is_blank};
 use std::alloc::Global;
 
 /// The greatest value of a number.
@@ -45,12 +45,6 @@ enum StringByte {
     BreaksLine,
     /// Behind a backslash, none of the three that may stand there.
     NoEscape,
-}
-
-fn is_blank(b: u8) -> bool
-    ensures { result ≡ is_blank b }
-{
-    b" \t\r\n".contains(&b)
 }
 
 fn is_letter(b: u8) -> bool

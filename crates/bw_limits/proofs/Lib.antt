@@ -1,5 +1,4 @@
 pub mod BracketSteps
-pub mod Drops
 pub mod Firsts
 pub mod LocalSteps
 pub mod Options

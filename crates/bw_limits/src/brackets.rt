@@ -1,6 +1,5 @@
 //! The limits that are decided on the tokens of a service alone.
 ghost use Rattle.std.specs.Prelude.{◌≡◌, ◌-◌, ◌<◌, ◌^◌, find, nat_lt};
-ghost use Rattle.bw_lang.specs.Keywords.{is};
 ghost use Rattle.bw_lang.specs.Brackets as spec;
 
 use crate::passing::{over, passed};
@@ -12,22 +11,16 @@ const MAX_NESTING: u64 = 64;
 /// The most tokens in a row without `;`, `{` or `}`.
 const MAX_STRETCH: u64 = 500;
 
-fn is_sign(sign: &[u8], other: &[u8]) -> bool
-    ensures { result ≡ is sign.now other.now }
-{
-    sign == other
-}
-
 fn is_opening(sign: &[u8]) -> bool
     ensures { result ≡ spec.is_opening sign.now }
 {
-    is_sign(sign, b"{") || (is_sign(sign, b"(") || (is_sign(sign, b"[") || is_sign(sign, b"<[")))
+    matches!(sign, b"{" | b"(" | b"[" | b"<[")
 }
 
 fn is_closing(sign: &[u8]) -> bool
     ensures { result ≡ spec.is_closing sign.now }
 {
-    is_sign(sign, b"}") || (is_sign(sign, b")") || is_sign(sign, b"]"))
+    matches!(sign, b"}" | b")" | b"]")
 }
 
 /// How many brackets are open behind the lexeme, where so many are in front of it.
@@ -69,10 +62,7 @@ fn ends_stretch(lexeme: &Lexeme) -> bool
     ensures { result ≡ spec.ends_stretch lexeme.now }
 {
     match lexeme {
-        Lexeme::Sign(sign) => {
-            let sign = sign.as_slice();
-            is_sign(sign, b";") || (is_sign(sign, b"{") || is_sign(sign, b"}"))
-        }
+        Lexeme::Sign(sign) => { matches!(sign.as_slice(), b";" | b"{" | b"}") }
         _ => false,
     }
 }

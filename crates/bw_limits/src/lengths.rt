@@ -230,7 +230,8 @@ impl Search {
     }
 
     fn attribute(self, gaps: &GapNames, tag: &Name, attr: &Attr) -> Option<u64>
-        ensures { result ≡ find (nat_lt self.most) (spec.value_lengths gaps.now (controls.is_control tag.now && same attr.now.name (codes "name")) attr.now.value) }
+        ensures { result ≡ find (nat_lt self.most)
+            (spec.value_lengths gaps.now (controls.is_control tag.now && same attr.now.name (codes "name")) attr.now.value) }
     {
         match &attr.value {
             AttrValue::Hole(gap) => over(self.most, gap_length(gaps, *gap)),

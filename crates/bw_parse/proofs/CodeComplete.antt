@@ -12,9 +12,10 @@ use Rattle.bw_lang.specs.Term.{Term}
 use Rattle.bw_lang.specs.Words.{IsName, kind_word}
 use Rattle.bw_parse.specs.Expressions.{parse_inside}
 use Rattle.bw_parse.specs.Fronts.{behind, keyword, word, named}
-use Rattle.bw_parse.specs.Statements.{condition, each_head, valued, simple, parse_show, parse_exit, parse_declare, parse_assign, code_of, one, braces, parse_code}
+use Rattle.bw_parse.specs.Statements.{condition, each_head, valued, simple, parse_show, parse_exit, parse_declare, parse_assign, code_of, one, braces}
+use Rattle.bw_parse.specs.Statements.{parse_code}
 use Rattle.bw_parse.proofs.CodeSteps.{code_is}
-use Rattle.bw_parse.proofs.Complete.{Comes, later}
+use Rattle.bw_parse.proofs.Comes.{Comes, later}
 use Rattle.bw_parse.proofs.FrontLaws.{no_keyword, no_kind, kind_self}
 use Rattle.bw_parse.proofs.Receives.{receives_give, receives_bind}
 use Rattle.bw_parse.proofs.Steps.{parse_inside_is}
@@ -48,7 +49,8 @@ unfolding simple parse_assign
 assign_gives w e k n v =
     rw (no_keyword (codes "show") w _ n refl) (rw (no_keyword (codes "exit") w _ n refl) (rw (no_kind w _ n) (rw (valued_gives w e k n v) refl)))
 
-declare_gives : (t : Kind) (w : List ℕ) (e : Term) (k : List Lexeme) → IsName w → Levelled e → simple (lex.Word (kind_word t) ∷ spell_value w e k) ≡ Some (declare t w e done, k)
+declare_gives : (t : Kind) (w : List ℕ) (e : Term) (k : List Lexeme) → IsName w → Levelled e
+    → simple (lex.Word (kind_word t) ∷ spell_value w e k) ≡ Some (declare t w e done, k)
 unfolding simple parse_declare keyword
 declare_gives t w e k n v = go t
   where
@@ -114,7 +116,8 @@ block_one : (b : Code) (k : List Lexeme) → Comes_from b → Comes Got (λ f. o
 unfolding code_of behind keyword Comes_from
 block_one b k r = let g = r k in later (λ f. one f (spell_code (block b done) k)) _ g.from (λ f le. rw (g.gives f le) refl)
 
-while_one : (t : Term) (b : Code) (k : List Lexeme) → Levelled t → Comes_from b → Comes Got (λ f. one f (spell_code (while_loop t b done) k)) (while_loop t b done, k)
+while_one : (t : Term) (b : Code) (k : List Lexeme) → Levelled t → Comes_from b
+    → Comes Got (λ f. one f (spell_code (while_loop t b done) k)) (while_loop t b done, k)
 unfolding code_of keyword
 while_one t b k v r =
     let g = braces_give b k r in
@@ -127,13 +130,15 @@ each_one w e b k n v r =
     let g = braces_give b k r in
     later (λ f. one f (spell_code (for_each w e b done) k)) _ g.from (λ f le. rw (head_gives w e _ n v) (rw (g.gives f le) refl))
 
-if_one : (t : Term) (y : Code) (k : List Lexeme) → Levelled t → Comes_from y → keyword (codes "else") k ≡ None → Comes Got (λ f. one f (spell_code (if_then t y done) k)) (if_then t y done, k)
+if_one : (t : Term) (y : Code) (k : List Lexeme) → Levelled t → Comes_from y → keyword (codes "else") k ≡ None
+    → Comes Got (λ f. one f (spell_code (if_then t y done) k)) (if_then t y done, k)
 unfolding code_of keyword
 if_one t y k v r n =
     let g = braces_give y k r in
     later (λ f. one f (spell_code (if_then t y done) k)) _ g.from (λ f le. rw (condition_gives t _ v) (rw (g.gives f le) (rw n refl)))
 
-else_one : (t : Term) (y n : Code) (k : List Lexeme) → Levelled t → Comes_from y → Comes_from n → Comes Got (λ f. one f (spell_code (if_else t y n done) k)) (if_else t y n done, k)
+else_one : (t : Term) (y n : Code) (k : List Lexeme) → Levelled t → Comes_from y → Comes_from n
+    → Comes Got (λ f. one f (spell_code (if_else t y n done) k)) (if_else t y n done, k)
 unfolding code_of keyword
 else_one t y n k v r s =
     let g = braces_give y (lex.Word (codes "else") ∷ lex.Sign (codes "{") ∷ spell_code n (lex.Sign (codes "}") ∷ k)) r in
@@ -141,7 +146,8 @@ else_one t y n k v r s =
     later (λ f. one f (spell_code (if_else t y n done) k)) _ (g.from + h.from)
     (λ f le. rw (condition_gives t _ v) (rw (g.gives f (omega arith)) (rw (h.gives f (omega arith)) refl)))
 
-declare_one : (t : Kind) (w : List ℕ) (e : Term) (k : List Lexeme) → IsName w → Levelled e → Comes Got (λ f. one f (spell_code (declare t w e done) k)) (declare t w e done, k)
+declare_one : (t : Kind) (w : List ℕ) (e : Term) (k : List Lexeme) → IsName w → Levelled e
+    → Comes Got (λ f. one f (spell_code (declare t w e done) k)) (declare t w e done, k)
 unfolding keyword behind
 declare_one kinds.Int w e k n v = simple_one _ _ refl refl refl refl (declare_gives kinds.Int w e k n v)
 declare_one kinds.Bool w e k n v = simple_one _ _ refl refl refl refl (declare_gives kinds.Bool w e k n v)
@@ -151,9 +157,12 @@ declare_one kinds.Html w e k n v = simple_one _ _ refl refl refl refl (declare_g
 
 assign_one : (w : List ℕ) (e : Term) (k : List Lexeme) → IsName w → Levelled e → Comes Got (λ f. one f (spell_code (assign w e done) k)) (assign w e done, k)
 unfolding behind
-assign_one w e k n v = simple_one _ _ (no_keyword (codes "if") w _ n refl) (no_keyword (codes "while") w _ n refl) (no_keyword (codes "foreach") w _ n refl) refl (assign_gives w e k n v)
+assign_one w e k n v =
+    simple_one _ _ (no_keyword (codes "if") w _ n refl) (no_keyword (codes "while") w _ n refl) (no_keyword (codes "foreach") w _ n refl) refl
+    (assign_gives w e k n v)
 
-show_one : (p : Term) (rs : List Receive) (k : List Lexeme) → Levelled p → HaveTargets rs → Comes Got (λ f. one f (spell_code (show p rs done) k)) (show p rs done, k)
+show_one : (p : Term) (rs : List Receive) (k : List Lexeme) → Levelled p → HaveTargets rs
+    → Comes Got (λ f. one f (spell_code (show p rs done) k)) (show p rs done, k)
 unfolding keyword behind
 show_one p rs k v n = simple_one _ _ refl refl refl refl (show_gives p rs k v n)
 
@@ -167,7 +176,8 @@ complete_code done v k = later (λ f. code_of f _) (done, k) 0 (λ f le. refl)
 complete_code (declare t w e r) v k = goes_on _ (declare t w e done) r k refl (declare_one t w e _ v.0 v.1) (complete_code r v.2)
 complete_code (assign w e r) v k = goes_on _ (assign w e done) r k refl (assign_one w e _ v.0 v.1) (complete_code r v.2)
 complete_code (if_then t y r) v k = goes_on _ (if_then t y done) r k refl (if_one t y _ v.0 (complete_code y v.1) (begins r k v.2)) (complete_code r v.2)
-complete_code (if_else t y n r) v k = goes_on _ (if_else t y n done) r k refl (else_one t y n _ v.0 (complete_code y v.1) (complete_code n v.2)) (complete_code r v.3)
+complete_code (if_else t y n r) v k =
+    goes_on _ (if_else t y n done) r k refl (else_one t y n _ v.0 (complete_code y v.1) (complete_code n v.2)) (complete_code r v.3)
 complete_code (while_loop t b r) v k = goes_on _ (while_loop t b done) r k refl (while_one t b _ v.0 (complete_code b v.1)) (complete_code r v.2)
 complete_code (for_each w e b r) v k = goes_on _ (for_each w e b done) r k refl (each_one w e b _ v.0 v.1 (complete_code b v.2)) (complete_code r v.3)
 complete_code (block b r) v k = goes_on _ (block b done) r k refl (block_one b _ (complete_code b v.0)) (complete_code r v.1)

@@ -9,9 +9,12 @@ use Rattle.bw_lang.specs.Spelling.{spell, spell_test, spell_value, spell_code, s
 use Rattle.bw_lang.specs.Term.{Term}
 use Rattle.bw_lang.specs.Words.{IsName, kind_word}
 use Rattle.bw_parse.specs.Expressions.{parse, parse_inside, steps}
-use Rattle.bw_parse.specs.Fronts.{◌>>=◌, behind, keyword, named, kind}
-use Rattle.bw_parse.specs.Statements.{condition, each_head, valued, parse_receives, parse_show, parse_exit, parse_declare, parse_assign, simple, code_of, one, braces}
-use Rattle.bw_parse.proofs.FrontLaws.{bind_some, where_cases, some, some_is, behind_is, keyword_is, named_is, kind_is}
+use Rattle.bw_lang.specs.Options.{◌>>=◌}
+use Rattle.bw_parse.specs.Fronts.{behind, keyword, named, kind}
+use Rattle.bw_parse.specs.Statements.{condition, each_head, valued, parse_receives, parse_show, parse_exit, parse_declare, parse_assign, simple}
+use Rattle.bw_parse.specs.Statements.{code_of, one, braces}
+use Rattle.bw_lang.proofs.Options.{bind_some, where_cases, some_is}
+use Rattle.bw_parse.proofs.FrontLaws.{some, behind_is, keyword_is, named_is, kind_is}
 use Rattle.bw_parse.proofs.Receives.{sound_receives}
 use Rattle.bw_parse.proofs.Sound.{sound_inside}
 use Rattle.bw_parse.proofs.Whole.{parse_sound}
@@ -102,8 +105,12 @@ valued_is ts x e =
     let v = bind_some (parse 1 k.0) _ x k.2 in
     let vi = parse_sound k.0 v.0 v.1 in
     let z = bind_some (behind (codes ";") v.0.1) (λ z. Some ((w.0.0, v.0.0), z)) x v.2 in
-    subst (λ (y : (List ℕ × Term) × List Lexeme). ReadsValue ts y.0 y.1) (some_is ((w.0.0, v.0.0), z.0) x z.2)
-    (wi.0 ∙ ap (λ l. lex.Word w.0.0 ∷ l) (behind_is (codes "=") w.0.1 k.0 k.1 ∙ ap (λ l. lex.Sign (codes "=") ∷ l) (vi.spelled ∙ ap (spell v.0.0) (behind_is (codes ";") v.0.1 z.0 z.1))), wi.1, vi.levelled)
+    subst (λ (y : (List ℕ × Term) × List Lexeme). ReadsValue ts y.0 y.1) (some_is ((w.0.0, v.0.0), z.0) x z.2) (
+      wi.0 ∙ ap (λ l. lex.Word w.0.0 ∷ l) (behind_is (codes "=") w.0.1 k.0 k.1
+          ∙ ap (λ l. lex.Sign (codes "=") ∷ l) (vi.spelled ∙ ap (spell v.0.0) (behind_is (codes ";") v.0.1 z.0 z.1))),
+      wi.1,
+      vi.levelled,
+    )
 
 pub show_is : (ts k : List Lexeme) (x : Code × List Lexeme) → ts ≡ lex.Word (codes "show") ∷ k → parse_show k ≡ Some x → ReadsOne ts x.0 x.1
 unfolding parse_show
@@ -115,7 +122,8 @@ show_is ts k x i e =
     let z = bind_some (behind (codes ";") r.0.1) (λ z. Some (show p.0.0 r.0.0 done, z)) x r.2 in
     got (show p.0.0 r.0.0 done) z.0 x
     (record {
-      spelled = i ∙ ap (λ l. lex.Word (codes "show") ∷ l) (pi.spelled ∙ ap (spell p.0.0) (ri.0 ∙ ap (spell_receives r.0.0) (behind_is (codes ";") r.0.1 z.0 z.1)));
+      spelled =
+          i ∙ ap (λ l. lex.Word (codes "show") ∷ l) (pi.spelled ∙ ap (spell p.0.0) (ri.0 ∙ ap (spell_receives r.0.0) (behind_is (codes ";") r.0.1 z.0 z.1)));
       good = (pi.levelled, ri.1, tt);
       some = tt;
     }) z.2
@@ -127,7 +135,12 @@ exit_is ts k x i e =
     let pi = parse_sound k p.0 p.1 in
     let z = bind_some (behind (codes ";") p.0.1) (λ z. Some (exit p.0.0 done, z)) x p.2 in
     got (exit p.0.0 done) z.0 x
-    (record { spelled = i ∙ ap (λ l. lex.Word (codes "exit") ∷ l) (pi.spelled ∙ ap (spell p.0.0) (behind_is (codes ";") p.0.1 z.0 z.1)); good = (pi.levelled, tt); some = tt }) z.2
+    (record {
+      spelled = i
+          ∙ ap (λ l. lex.Word (codes "exit") ∷ l) (pi.spelled ∙ ap (spell p.0.0) (behind_is (codes ";") p.0.1 z.0 z.1));
+      good = (pi.levelled, tt);
+      some = tt;
+    }) z.2
 
 pub declare_is : (t : Kind) (ts k : List Lexeme) (x : Code × List Lexeme) → ts ≡ lex.Word (kind_word t) ∷ k → parse_declare t k ≡ Some x → ReadsOne ts x.0 x.1
 unfolding parse_declare
@@ -175,10 +188,15 @@ mutual
             let p = sound_one f ts s.0 s.1 in
             let q = sound_code f s.0.1 c.0 c.1 in
             subst (λ (y : Code × List Lexeme). ReadsCode ts y.0 (lex.Sign (codes "}") ∷ y.1)) (some_is (append s.0.0 c.0.0, c.0.1) x c.2)
-            (record { spelled = p.spelled ∙ ap (spell_code s.0.0) q.spelled ∙ sym (append_spelled s.0.0 c.0.0 (lex.Sign (codes "}") ∷ c.0.1)); good = append_good s.0.0 c.0.0 p.good q.good })
+            (record {
+              spelled = p.spelled ∙ ap (spell_code s.0.0) q.spelled
+                  ∙ sym (append_spelled s.0.0 c.0.0 (lex.Sign (codes "}") ∷ c.0.1));
+              good = append_good s.0.0 c.0.0 p.good q.good;
+            })
       ]
 
-  pub sound_braces : (f : ℕ) (ts : List Lexeme) (x : Code × List Lexeme) → braces f ts ≡ Some x → (ts ≡ lex.Sign (codes "{") ∷ spell_code x.0 (lex.Sign (codes "}") ∷ x.1)) × IsCode x.0
+  pub sound_braces : (f : ℕ) (ts : List Lexeme) (x : Code × List Lexeme) → braces f ts ≡ Some x
+      → (ts ≡ lex.Sign (codes "{") ∷ spell_code x.0 (lex.Sign (codes "}") ∷ x.1)) × IsCode x.0
   sound_braces zero ts x e = absurd cc
   sound_braces (suc f) ts x e =
       let k = bind_some (behind (codes "{") ts) (λ k. code_of f k) x e in
@@ -195,13 +213,26 @@ mutual
             let ti = condition_is h.0 t.0 t.1 in
             let y = bind_some (braces f t.0.1) _ x t.2 in
             let yi = sound_braces f t.0.1 y.0 y.1 in
-            let front = λ (l : List Lexeme) (q : y.0.1 ≡ l). k ∙ ap (λ l. lex.Word (codes "if") ∷ l) (ti.0 ∙ ap (spell_test t.0.0) (yi.0 ∙ ap (λ l. lex.Sign (codes "{") ∷ spell_code y.0.0 (lex.Sign (codes "}") ∷ l)) q)) in
-            elim (where_cases (keyword (codes "else") y.0.1) (λ e. braces f e >>= λ n. Some (if_else t.0.0 y.0.0 n.0 done, n.1)) (Some (if_then t.0.0 y.0.0 done, y.0.1)) (Some x) y.2) [
+            let front =
+            λ (l : List Lexeme) (q : y.0.1 ≡ l). k
+            ∙ ap (λ l. lex.Word (codes "if") ∷ l) (ti.0
+            ∙ ap (spell_test t.0.0) (yi.0 ∙ ap (λ l. lex.Sign (codes "{") ∷ spell_code y.0.0 (lex.Sign (codes "}") ∷ l)) q)) in
+            elim (where_cases (keyword (codes "else") y.0.1) (λ e. braces f e >>= λ n. Some (if_else t.0.0 y.0.0 n.0 done, n.1))
+            (Some (if_then t.0.0 y.0.0 done, y.0.1)) (Some x) y.2) [
               | inl g ↦
                   let n = bind_some (braces f g.0) (λ n. Some (if_else t.0.0 y.0.0 n.0 done, n.1)) x g.2 in
                   let ni = sound_braces f g.0 n.0 n.1 in
                   got (if_else t.0.0 y.0.0 n.0.0 done) n.0.1 x
-                  (record { spelled = front _ (keyword_is (codes "else") y.0.1 g.0 g.1 ∙ ap (λ l. lex.Word (codes "else") ∷ l) ni.0); good = (ti.1, yi.1, ni.1, tt); some = tt }) n.2
+                  (record {
+                    spelled = front _ (keyword_is (codes "else") y.0.1 g.0 g.1 ∙ ap (λ l. lex.Word (codes "else") ∷ l) ni.0);
+                    good = (
+                      ti.1,
+                      yi.1,
+                      ni.1,
+                      tt,
+                    );
+                    some = tt;
+                  }) n.2
               | inr g ↦ got (if_then t.0.0 y.0.0 done) y.0.1 x (record { spelled = front _ refl; good = (ti.1, yi.1, tt); some = tt }) g.1
             ]
         | inr h ↦ elim (where_cases (keyword (codes "while") ts) _ _ (Some x) h.1) [

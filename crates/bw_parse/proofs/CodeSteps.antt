@@ -8,12 +8,16 @@ use Rattle.bw_lang.specs.declared.token.Lexeme.{Lexeme}
 use Rattle.bw_lang.specs.declared.token.Lexeme.TheVariants as lex
 use Rattle.bw_lang.specs.Spelling.{spell_code, spell_receives, spell_each}
 use Rattle.bw_lang.specs.Term.{Term}
-use Rattle.bw_parse.specs.Fronts.{Read, ◌>>=◌, where_some, behind, keyword}
-use Rattle.bw_parse.specs.Statements.{condition, each_head, simple, code_of, one, braces, parse_code, parse_one, parse_braces, with_code, parse_if, parse_while, parse_each}
+use Rattle.bw_lang.specs.Options.{◌>>=◌, where_some}
+use Rattle.bw_parse.specs.Fronts.{Read, behind, keyword}
+use Rattle.bw_parse.specs.Statements.{condition, each_head, simple, code_of, one, braces, parse_code, parse_one, parse_braces, with_code, parse_if}
+use Rattle.bw_parse.specs.Statements.{parse_while, parse_each}
 use Rattle.bw_lang.proofs.Codes.{append_code_assoc, append_done, code-append}
 use Rattle.bw_parse.proofs.CodeSound.{condition_is, each_is, IsStatement, sound_one, sound_braces}
 use Rattle.bw_parse.proofs.FrontLaws.{keyword_is}
-use Rattle.bw_parse.proofs.Steps.{longer, bind_same, where_same, same_from, behind_shorter}
+use Rattle.bw_parse.proofs.Shorter.{longer, behind_shorter}
+use Rattle.bw_parse.proofs.Stable.{bind_same, where_same}
+use Rattle.bw_parse.proofs.Steps.{same_from}
 
 pub keyword_shorter : (v : List ℕ) (ts k : List Lexeme) → keyword v ts ≡ Some k → length k + 1 ≡ length ts
 keyword_shorter v ts k e = omega (arith, ap length (keyword_is v ts k e))
@@ -37,32 +41,78 @@ code_longer done k = omega arith
 code_longer (declare t w e r) k = omega (arith, longer e (lex.Sign (codes ";") ∷ spell_code r k), code_longer r k)
 code_longer (exit p r) k = omega (arith, longer p (lex.Sign (codes ";") ∷ spell_code r k), code_longer r k)
 code_longer (assign w e r) k = omega (arith, longer e (lex.Sign (codes ";") ∷ spell_code r k), code_longer r k)
-code_longer (if_then t y r) k = omega (arith, longer t (lex.Sign (codes ")") ∷ lex.Sign (codes "{") ∷ spell_code y (lex.Sign (codes "}") ∷ spell_code r k)), code_longer y (lex.Sign (codes "}") ∷ spell_code r k), code_longer r k)
+code_longer (if_then t y r) k =
+    omega (
+      arith,
+      longer t (lex.Sign (codes ")") ∷ lex.Sign (codes "{") ∷ spell_code y (lex.Sign (codes "}") ∷ spell_code r k)),
+      code_longer y (lex.Sign (codes "}") ∷ spell_code r k),
+      code_longer r k,
+    )
 code_longer (if_else t y n r) k =
     let b = lex.Sign (codes "}") ∷ spell_code r k in
     let a = lex.Sign (codes "}") ∷ lex.Word (codes "else") ∷ lex.Sign (codes "{") ∷ spell_code n b in
     omega (arith, longer t (lex.Sign (codes ")") ∷ lex.Sign (codes "{") ∷ spell_code y a), code_longer y a, code_longer n b, code_longer r k)
-code_longer (while_loop t y r) k = omega (arith, longer t (lex.Sign (codes ")") ∷ lex.Sign (codes "{") ∷ spell_code y (lex.Sign (codes "}") ∷ spell_code r k)), code_longer y (lex.Sign (codes "}") ∷ spell_code r k), code_longer r k)
+code_longer (while_loop t y r) k =
+    omega (
+      arith,
+      longer t (lex.Sign (codes ")") ∷ lex.Sign (codes "{") ∷ spell_code y (lex.Sign (codes "}") ∷ spell_code r k)),
+      code_longer y (lex.Sign (codes "}") ∷ spell_code r k),
+      code_longer r k,
+    )
 code_longer (for_each w e y r) k =
-    omega (arith, longer e (lex.Sign (codes ")") ∷ lex.Sign (codes "{") ∷ spell_code y (lex.Sign (codes "}") ∷ spell_code r k)), code_longer y (lex.Sign (codes "}") ∷ spell_code r k), code_longer r k)
+    omega (
+      arith,
+      longer e (lex.Sign (codes ")") ∷ lex.Sign (codes "{") ∷ spell_code y (lex.Sign (codes "}") ∷ spell_code r k)),
+      code_longer y (lex.Sign (codes "}") ∷ spell_code r k),
+      code_longer r k,
+    )
 code_longer (block y r) k = omega (arith, code_longer y (lex.Sign (codes "}") ∷ spell_code r k), code_longer r k)
-code_longer (show p rs r) k = omega (arith, longer p (spell_receives rs (lex.Sign (codes ";") ∷ spell_code r k)), receives_longer rs (lex.Sign (codes ";") ∷ spell_code r k), code_longer r k)
+code_longer (show p rs r) k =
+    omega (
+      arith,
+      longer p (spell_receives rs (lex.Sign (codes ";") ∷ spell_code r k)),
+      receives_longer rs (lex.Sign (codes ";") ∷ spell_code r k),
+      code_longer r k,
+    )
 
 statement_longer : (c : Code) (k : List Lexeme) → IsStatement c → length k < length (spell_code c k)
 statement_longer done k s = absurd s
 statement_longer (declare t w e r) k s = omega (arith, longer e (lex.Sign (codes ";") ∷ spell_code r k), code_longer r k)
 statement_longer (exit p r) k s = omega (arith, longer p (lex.Sign (codes ";") ∷ spell_code r k), code_longer r k)
 statement_longer (assign w e r) k s = omega (arith, longer e (lex.Sign (codes ";") ∷ spell_code r k), code_longer r k)
-statement_longer (if_then t y r) k s = omega (arith, longer t (lex.Sign (codes ")") ∷ lex.Sign (codes "{") ∷ spell_code y (lex.Sign (codes "}") ∷ spell_code r k)), code_longer y (lex.Sign (codes "}") ∷ spell_code r k), code_longer r k)
+statement_longer (if_then t y r) k s =
+    omega (
+      arith,
+      longer t (lex.Sign (codes ")") ∷ lex.Sign (codes "{") ∷ spell_code y (lex.Sign (codes "}") ∷ spell_code r k)),
+      code_longer y (lex.Sign (codes "}") ∷ spell_code r k),
+      code_longer r k,
+    )
 statement_longer (if_else t y n r) k s =
     let b = lex.Sign (codes "}") ∷ spell_code r k in
     let a = lex.Sign (codes "}") ∷ lex.Word (codes "else") ∷ lex.Sign (codes "{") ∷ spell_code n b in
     omega (arith, longer t (lex.Sign (codes ")") ∷ lex.Sign (codes "{") ∷ spell_code y a), code_longer y a, code_longer n b, code_longer r k)
-statement_longer (while_loop t y r) k s = omega (arith, longer t (lex.Sign (codes ")") ∷ lex.Sign (codes "{") ∷ spell_code y (lex.Sign (codes "}") ∷ spell_code r k)), code_longer y (lex.Sign (codes "}") ∷ spell_code r k), code_longer r k)
+statement_longer (while_loop t y r) k s =
+    omega (
+      arith,
+      longer t (lex.Sign (codes ")") ∷ lex.Sign (codes "{") ∷ spell_code y (lex.Sign (codes "}") ∷ spell_code r k)),
+      code_longer y (lex.Sign (codes "}") ∷ spell_code r k),
+      code_longer r k,
+    )
 statement_longer (for_each w e y r) k s =
-    omega (arith, longer e (lex.Sign (codes ")") ∷ lex.Sign (codes "{") ∷ spell_code y (lex.Sign (codes "}") ∷ spell_code r k)), code_longer y (lex.Sign (codes "}") ∷ spell_code r k), code_longer r k)
+    omega (
+      arith,
+      longer e (lex.Sign (codes ")") ∷ lex.Sign (codes "{") ∷ spell_code y (lex.Sign (codes "}") ∷ spell_code r k)),
+      code_longer y (lex.Sign (codes "}") ∷ spell_code r k),
+      code_longer r k,
+    )
 statement_longer (block y r) k s = omega (arith, code_longer y (lex.Sign (codes "}") ∷ spell_code r k), code_longer r k)
-statement_longer (show p rs r) k s = omega (arith, longer p (spell_receives rs (lex.Sign (codes ";") ∷ spell_code r k)), receives_longer rs (lex.Sign (codes ";") ∷ spell_code r k), code_longer r k)
+statement_longer (show p rs r) k s =
+    omega (
+      arith,
+      longer p (spell_receives rs (lex.Sign (codes ";") ∷ spell_code r k)),
+      receives_longer rs (lex.Sign (codes ";") ∷ spell_code r k),
+      code_longer r k,
+    )
 
 pub one_shorter : (f : ℕ) (ts : List Lexeme) (x : Code × List Lexeme) → one f ts ≡ Some x → length x.1 < length ts
 one_shorter f ts x e = let r = sound_one f ts x e in omega (arith, ap length r.spelled, statement_longer x.0 x.1 r.some)
@@ -117,14 +167,16 @@ one_is : (f : ℕ) (ts : List Lexeme) → 4 * length ts + 1 ≤ f → one f ts �
 unfolding parse_one
 one_is f ts le = same_from (λ f. one f ts) (4 * length ts + 1) (λ f h. stable_one f ts h) f (4 * length ts + 4) le (omega arith)
 
-pub parse_code_is : (ts : List Lexeme) → parse_code ts ≡ where_some (behind (codes "}") ts) (λ k. Some (done, k)) (parse_one ts >>= λ s. with_code s.0 (parse_code s.1))
+pub parse_code_is : (ts : List Lexeme)
+    → parse_code ts ≡ where_some (behind (codes "}") ts) (λ k. Some (done, k)) (parse_one ts >>= λ s. with_code s.0 (parse_code s.1))
 unfolding code_of
 parse_code_is ts =
     let f = 4 * length ts + 8 in
     sym (code_is (suc f) ts (omega arith))
     ∙ where_same (behind (codes "}") ts) _ _ _ _ (λ k p. refl)
     (λ p. bind_same (one f ts) (parse_one ts) _ _ (one_is f ts (omega arith))
-    (λ s e. let t = one_shorter f ts s (one_is f ts (omega arith) ∙ e) in ap (λ o. o >>= λ c. Some (append s.0 c.0, c.1)) (code_is f s.1 (omega arith)) ∙ fold s.0 (parse_code s.1)))
+    (λ s e. let t = one_shorter f ts s (one_is f ts (omega arith) ∙ e) in
+    ap (λ o. o >>= λ c. Some (append s.0 c.0, c.1)) (code_is f s.1 (omega arith)) ∙ fold s.0 (parse_code s.1)))
   where
     fold : (c : Code) (o : Read Code) → (o >>= λ x. Some (append c x.0, x.1)) ≡ with_code c o
     fold c None = refl
@@ -182,17 +234,22 @@ with_done (Some x) = refl
 
 -- at the closing brace
 pub code_ends : (front : Code) (ts k : List Lexeme) → behind (codes "}") ts ≡ Some k → with_code front (parse_code ts) ≡ Some (front, k)
-code_ends front ts k e = ap (with_code front) (parse_code_is ts ∙ ap (λ o. where_some o (λ k. Some (done, k)) (parse_one ts >>= λ s. with_code s.0 (parse_code s.1))) e) ∙ ap (λ c. Some (c, k)) (append_done front)
+code_ends front ts k e =
+    ap (with_code front) (parse_code_is ts ∙ ap (λ o. where_some o (λ k. Some (done, k)) (parse_one ts >>= λ s. with_code s.0 (parse_code s.1))) e)
+    ∙ ap (λ c. Some (c, k)) (append_done front)
 
 -- at a statement
-pub code_goes : (xs : List Stmt) (s : Stmt) (ts k : List Lexeme) → behind (codes "}") ts ≡ None → parse_one ts ≡ Some (before s done, k) → with_code (code xs) (parse_code ts) ≡ with_code (code (xs ++ s ∷ [])) (parse_code k)
+pub code_goes : (xs : List Stmt) (s : Stmt) (ts k : List Lexeme) → behind (codes "}") ts ≡ None → parse_one ts ≡ Some (before s done, k)
+    → with_code (code xs) (parse_code ts) ≡ with_code (code (xs ++ s ∷ [])) (parse_code k)
 code_goes xs s ts k n e =
-    ap (with_code (code xs)) (parse_code_is ts ∙ ap (λ o. where_some o (λ k. Some (done, k)) (parse_one ts >>= λ s. with_code s.0 (parse_code s.1))) n ∙ ap (λ o. o >>= λ s. with_code s.0 (parse_code s.1)) e)
+    ap (with_code (code xs)) (parse_code_is ts ∙ ap (λ o. where_some o (λ k. Some (done, k)) (parse_one ts >>= λ s. with_code s.0 (parse_code s.1))) n
+    ∙ ap (λ o. o >>= λ s. with_code s.0 (parse_code s.1)) e)
     ∙ with_with (code xs) (before s done) (parse_code k) ∙ ap (λ c. with_code c (parse_code k)) (sym (code-append xs (s ∷ [])))
 
 -- at no statement
 pub code_fails : (front : Code) (ts : List Lexeme) → behind (codes "}") ts ≡ None → parse_one ts ≡ None → with_code front (parse_code ts) ≡ None
 code_fails front ts n e =
-    ap (with_code front) (parse_code_is ts ∙ ap (λ o. where_some o (λ k. Some (done, k)) (parse_one ts >>= λ s. with_code s.0 (parse_code s.1))) n ∙ ap (λ o. o >>= λ s. with_code s.0 (parse_code s.1)) e)
+    ap (with_code front) (parse_code_is ts ∙ ap (λ o. where_some o (λ k. Some (done, k)) (parse_one ts >>= λ s. with_code s.0 (parse_code s.1))) n
+    ∙ ap (λ o. o >>= λ s. with_code s.0 (parse_code s.1)) e)
 
 pub ruleset code_equations = (parse_braces_is, parse_one_is, code_ends, code_goes, code_fails, with_done)

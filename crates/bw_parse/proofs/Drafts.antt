@@ -1,5 +1,6 @@
 -- Declarations: what is parsed is spelled so, and what is spelled so is parsed.
-use Rattle.std.proofs.Common.{◌≡◌, ℕ, zero, suc, ◌+◌, ◌*◌, ◌<◌, ◌≤◌, ◌^◌, true, false, List, [], ◌∷◌, ◌++◌, length, Some, None, refl, sym, ap, ◌∙◌, subst, arith, inl, inr, append_assoc, append-nil, codes}
+use Rattle.std.proofs.Common.{◌≡◌, ℕ, zero, suc, ◌+◌, ◌*◌, ◌<◌, ◌≤◌, ◌^◌, true, false, List, [], ◌∷◌, ◌++◌, length, Some, None, refl, sym, ap, ◌∙◌}
+use Rattle.std.proofs.Common.{subst, arith, inl, inr, append_assoc, append-nil, codes}
 use Rattle.std.specs.Prelude.{nat_lt}
 use Rattle.std.proofs.lemmas.Bool.{ltb-true, lt-ltb}
 use Rattle.bw_lang.specs.declared.declaration.Draft.{Draft}
@@ -12,14 +13,18 @@ use Rattle.bw_lang.specs.Drafts.{IsWritten, spell_literal, spell_draft, spell_dr
 use Rattle.bw_lang.specs.Words.{IsName, kind_word}
 use Rattle.bw_parse.specs.declared.lexemes.Meaning.{Meaning}
 use Rattle.bw_parse.specs.declared.lexemes.Meaning.TheVariants.{Truth, Function, Nothing, Other, Free}
-use Rattle.bw_parse.specs.Fronts.{Read, ◌>>=◌, where_some, behind, keyword, word, named, kind, shared_kind, meaning}
-use Rattle.bw_parse.specs.Services.{template_token, number_token, word_literal, plain_literal, literal, parse_template, parse_shared, parse_session, draft, drafts_from, parse_drafts, if_last, parse_service}
+use Rattle.bw_lang.specs.Options.{◌>>=◌, where_some}
+use Rattle.bw_parse.specs.Fronts.{Read, behind, keyword, word, named, shared_kind, meaning}
+use Rattle.bw_parse.specs.Services.{template_token, number_token, word_literal, plain_literal, literal, parse_template, parse_shared, parse_session}
+use Rattle.bw_parse.specs.Services.{draft, drafts_from, parse_drafts, if_last, parse_service}
 use Rattle.bw_parse.specs.Statements.{parse_code}
 use Rattle.bw_parse.proofs.CodeComplete.{parse_code_gives}
 use Rattle.bw_parse.proofs.CodeSound.{sound_code}
 use Rattle.bw_parse.proofs.CodeSteps.{code_longer}
-use Rattle.bw_parse.proofs.FrontLaws.{bind_some, where_cases, chosen, some, some_is, behind_is, keyword_is, named_is, shared_kind_is, truth_is, free_is, shared_kind_self, free_meaning}
-use Rattle.bw_parse.proofs.Steps.{bind_same, where_same, same_from}
+use Rattle.bw_lang.proofs.Options.{bind_some, where_cases, chosen, some_is}
+use Rattle.bw_parse.proofs.FrontLaws.{some, behind_is, keyword_is, named_is, shared_kind_is, truth_is, free_is, shared_kind_self, free_meaning}
+use Rattle.bw_parse.proofs.Stable.{bind_same, where_same}
+use Rattle.bw_parse.proofs.Steps.{same_from}
 
 -- ---- literals
 
@@ -33,7 +38,8 @@ template_token_is (t ∷ ts) x e = absurd cc
 abbrev pub ReadsLiteral : List Lexeme → Written → List Lexeme → Type 0
 ReadsLiteral ts l k = (ts ≡ spell_literal l k) × IsWritten l
 
-literal_got : (ts : List Lexeme) (l : Written) (k : List Lexeme) (x : Written × List Lexeme) → ReadsLiteral ts l k → some (l, k) ≡ some x → ReadsLiteral ts x.0 x.1
+literal_got : (ts : List Lexeme) (l : Written) (k : List Lexeme) (x : Written × List Lexeme) → ReadsLiteral ts l k → some (l, k) ≡ some x
+    → ReadsLiteral ts x.0 x.1
 literal_got ts l k x r p = subst (λ (y : Written × List Lexeme). ReadsLiteral ts y.0 y.1) (some_is (l, k) x p) r
 
 number_token_is : (ts : List Lexeme) (x : ℕ × List Lexeme) → number_token ts ≡ Some x → (ts ≡ lex.Number x.0 ∷ x.1) × (x.0 < 2 ^ 63)
@@ -41,13 +47,16 @@ unfolding number_token
 number_token_is [] x e = absurd cc
 number_token_is (lex.Number n ∷ ts) x e =
     elim (chosen (nat_lt n 9223372036854775808) (Some (n, ts)) None (Some x) e) [
-      | inl h ↦ subst (λ (y : ℕ × List Lexeme). (lex.Number n ∷ ts ≡ lex.Number y.0 ∷ y.1) × (y.0 < 2 ^ 63)) (some_is (n, ts) x h.1) (refl, ltb-true n 9223372036854775808 h.0)
+      | inl h ↦
+          subst (λ (y : ℕ × List Lexeme). (lex.Number n ∷ ts ≡ lex.Number y.0 ∷ y.1) × (y.0 < 2 ^ 63)) (some_is (n, ts) x h.1)
+          (refl, ltb-true n 9223372036854775808 h.0)
       | inr h ↦ let q = h.1 in absurd cc
     ]
 number_token_is (t ∷ ts) x e = absurd cc
 
 word_literal_is : (w : List ℕ) (m : Meaning) (l : Written) (k : List Lexeme) → meaning w ≡ m → word_literal w m ≡ Some l → ReadsLiteral (lex.Word w ∷ k) l k
-word_literal_is w (Truth b) l k i e = subst (λ l. ReadsLiteral (lex.Word w ∷ k) l k) (some_is (written.Bool b) l e) (ap (λ v. lex.Word v ∷ k) (truth_is w b i), tt)
+word_literal_is w (Truth b) l k i e =
+    subst (λ l. ReadsLiteral (lex.Word w ∷ k) l k) (some_is (written.Bool b) l e) (ap (λ v. lex.Word v ∷ k) (truth_is w b i), tt)
 word_literal_is w (Function f) l k i e = absurd cc
 word_literal_is w Nothing l k i e = absurd cc
 word_literal_is w Other l k i e = absurd cc
@@ -122,7 +131,8 @@ shared_is ts k x i e =
     let li = literal_is q.0 l.0 l.1 in
     let z = bind_some (behind (codes ";") l.0.1) (λ z. Some (drafts.Shared t.0.0 w.0.0 l.0.0, z)) x l.2 in
     draft_got ts (drafts.Shared t.0.0 w.0.0 l.0.0) z.0 x (
-      i ∙ ap (λ l. lex.Word (codes "shared") ∷ l) (ti.0 ∙ ap (λ l. lex.Word (kind_word t.0.0) ∷ l) (wi.0 ∙ ap (λ l. lex.Word w.0.0 ∷ l) (behind_is (codes "=") w.0.1 q.0 q.1
+      i ∙ ap (λ l. lex.Word (codes "shared") ∷ l)
+          (ti.0 ∙ ap (λ l. lex.Word (kind_word t.0.0) ∷ l) (wi.0 ∙ ap (λ l. lex.Word w.0.0 ∷ l) (behind_is (codes "=") w.0.1 q.0 q.1
           ∙ ap (λ l. lex.Sign (codes "=") ∷ l) (li.0 ∙ ap (spell_literal l.0.0) (behind_is (codes ";") l.0.1 z.0 z.1))))),
       (ti.1, wi.1, li.1),
     ) z.2
@@ -172,7 +182,7 @@ literal_longer (written.Bool b) k = omega arith
 literal_longer (written.Str s) k = omega arith
 literal_longer (written.Name w) k = omega arith
 
-draft_longer : (d : Draft) (k : List Lexeme) → length k < length (spell_draft d k)
+pub draft_longer : (d : Draft) (k : List Lexeme) → length k < length (spell_draft d k)
 draft_longer (drafts.Template name inside) k = omega arith
 draft_longer (drafts.Shared t name init) k = omega (arith, literal_longer init (lex.Sign (codes ";") ∷ k))
 draft_longer (drafts.Session s) k = omega (arith, code_longer s.body (lex.Sign (codes "}") ∷ k))
@@ -199,7 +209,13 @@ sound_from (suc f) front ts x e =
           let d = bind_some (draft ts) (λ d. drafts_from f (front ++ d.0 ∷ []) d.1) x h.1 in
           let i = draft_is ts d.0 d.1 in
           let r = sound_from f (front ++ d.0.0 ∷ []) d.0.1 x d.2 in
-          record { rest = d.0.0 ∷ r.rest; is = r.is ∙ append_assoc front (d.0.0 ∷ []) r.rest; formed = (i.1, r.formed); spelled = i.0 ∙ ap (spell_draft d.0.0) r.spelled }
+          record {
+            rest = d.0.0 ∷ r.rest;
+            is = r.is ∙ append_assoc front (d.0.0 ∷ []) r.rest;
+            formed = (i.1, r.formed);
+            spelled = i.0
+                ∙ ap (spell_draft d.0.0) r.spelled;
+          }
     ]
 
 stable_drafts : (f : ℕ) (front : List Draft) (ts : List Lexeme) → length ts + 1 ≤ f → drafts_from (suc f) front ts ≡ drafts_from f front ts
@@ -259,7 +275,8 @@ service_is ts x e =
     subst (λ (y : List ℕ × List Draft). ReadsService ts y.0 y.1) l.0 (
       wi.1,
       subst AreFormed (sym di.is) di.formed,
-      keyword_is (codes "service") ts k.0 k.1 ∙ ap (λ l. lex.Word (codes "service") ∷ l) (wi.0 ∙ ap (λ l. lex.Word w.0.0 ∷ l) (behind_is (codes "{") w.0.1 b.0 b.1
+      keyword_is (codes "service") ts k.0 k.1
+          ∙ ap (λ l. lex.Word (codes "service") ∷ l) (wi.0 ∙ ap (λ l. lex.Word w.0.0 ∷ l) (behind_is (codes "{") w.0.1 b.0 b.1
           ∙ ap (λ l. lex.Sign (codes "{") ∷ l) (di.spelled ∙ (λ i. spell_drafts (sym di.is i) (lex.Sign (codes "}") ∷ l.1 i))))),
     )
 

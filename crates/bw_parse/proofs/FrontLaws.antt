@@ -1,5 +1,5 @@
 -- What stands at the front of lexemes, where a step finds something there.
-use Rattle.std.proofs.Common.{◌≡◌, ℕ, Bool, true, false, cond, ◌==◌, List, [], ◌∷◌, Option, Some, None, refl, sym, ap, ◌∙◌, subst, inl, inr, ◌⊎◌, codes}
+use Rattle.std.proofs.Common.{◌≡◌, ℕ, Bool, true, false, cond, ◌==◌, List, [], ◌∷◌, Option, Some, None, refl, sym, ap, ◌∙◌, subst, inl, inr, codes}
 use Rattle.std.specs.Prelude.{if◌then◌else◌}
 use Rattle.std.proofs.lemmas.Bool.{eqb-true}
 use Rattle.std.specs.Cmp.Lexicographic.{bytes_decides}
@@ -14,28 +14,14 @@ use Rattle.bw_lang.specs.Keywords.{is, is_keyword}
 use Rattle.bw_lang.specs.Levels.{op_level}
 use Rattle.bw_lang.specs.declared.token.Lexeme.{Lexeme}
 use Rattle.bw_lang.specs.declared.token.Lexeme.TheVariants as lex
+use Rattle.bw_lang.proofs.Options.{some_is, bind_some, chosen}
 use Rattle.bw_lang.specs.Words.{op_sign, truth_word, fun_word, kind_word}
 use Rattle.bw_parse.specs.declared.lexemes.Meaning.{Meaning}
 use Rattle.bw_parse.specs.declared.lexemes.Meaning.TheVariants.{Truth, Function, Nothing, Other, Free}
-use Rattle.bw_parse.specs.Fronts.{◌>>=◌, where_some, behind, keyword, word, named, op_of, if_level, operator, meaning, kind_of, kind, is_list, shared_kind}
-
-pub bind_some : {A B : Type 0} (o : Option A) (f : A → Option B) (y : B) → (o >>= f) ≡ Some y → (x : A) × (o ≡ Some x) × (f x ≡ Some y)
-bind_some (Some x) f y e = (x, refl, e)
-bind_some None f y e = absurd cc
-
-pub where_cases : {A B : Type 0} (o : Option A) (f : A → B) (d z : B) → where_some o f d ≡ z → ((x : A) × (o ≡ Some x) × (f x ≡ z)) ⊎ ((o ≡ None) × (d ≡ z))
-where_cases (Some x) f d z e = inl (x, refl, e)
-where_cases None f d z e = inr (refl, e)
-
-pub chosen : {A : Type 0} (b : Bool) (x y z : A) → cond b x y ≡ z → ((b ≡ true) × (x ≡ z)) ⊎ ((b ≡ false) × (y ≡ z))
-chosen true x y z e = inl (refl, e)
-chosen false x y z e = inr (refl, e)
+use Rattle.bw_parse.specs.Fronts.{behind, keyword, word, named, op_of, if_level, operator, meaning, kind_of, kind, is_list, shared_kind}
 
 abbrev pub some : {A : Type 0} → A → Option A
 some x = Some x
-
-pub some_is : {A : Type 0} (x y : A) → some x ≡ some y → x ≡ y
-some_is x y e = cc
 
 -- ---- words and signs
 
@@ -93,13 +79,16 @@ named_is ts x e =
     let w = bind_some (word ts) (λ w. if is_keyword w.0 then None else Some w) x e in
     elim (chosen (is_keyword w.0.0) None (Some w.0) (Some x) w.2) [
       | inl h ↦ let q = h.1 in absurd cc
-      | inr h ↦ let p = some_is w.0 x h.1 in (word_is ts w.0 w.1 ∙ ap (λ (y : List ℕ × List Lexeme). lex.Word y.0 ∷ y.1) p, sym (ap (λ (y : List ℕ × List Lexeme). is_keyword y.0) p) ∙ h.0)
+      | inr h ↦
+          let p = some_is w.0 x h.1 in
+          (word_is ts w.0 w.1 ∙ ap (λ (y : List ℕ × List Lexeme). lex.Word y.0 ∷ y.1) p, sym (ap (λ (y : List ℕ × List Lexeme). is_keyword y.0) p) ∙ h.0)
     ]
 
 -- ---- operators
 
 -- one case of a chain of tests: where it gives something, the test holds and gives it, or the rest does
-test : {A : Type 0} (s t : List ℕ) (x : A) (rest : Option A) (y : A) (sign : A → List ℕ) → sign x ≡ t → cond (is s t) (Some x) rest ≡ Some y → (rest ≡ Some y → s ≡ sign y) → s ≡ sign y
+test : {A : Type 0} (s t : List ℕ) (x : A) (rest : Option A) (y : A) (sign : A → List ℕ) → sign x ≡ t → cond (is s t) (Some x) rest ≡ Some y
+    → (rest ≡ Some y → s ≡ sign y) → s ≡ sign y
 test s t x rest y sign p e more =
     elim (chosen (is s t) (Some x) rest (Some y) e) [
       | inl h ↦ is_same s t h.0 ∙ sym p ∙ ap sign (some_is x y h.1)
@@ -119,7 +108,9 @@ op_of_is s op e =
 if_level_is : (n : ℕ) (ts : List Lexeme) (op : Op) (x : Op × List Lexeme) → if_level n ts op ≡ Some x → (op ≡ x.0) × (ts ≡ x.1) × (op_level op ≡ n)
 if_level_is n ts op x e =
     elim (chosen (op_level op == n) (Some (op, ts)) None (Some x) e) [
-      | inl h ↦ let p : (op, ts) ≡ x = some_is (op, ts) x h.1 in (ap (λ (y : Op × List Lexeme). y.0) p, ap (λ (y : Op × List Lexeme). y.1) p, eqb-true (op_level op) n h.0)
+      | inl h ↦
+          let p : (op, ts) ≡ x = some_is (op, ts) x h.1 in
+          (ap (λ (y : Op × List Lexeme). y.0) p, ap (λ (y : Op × List Lexeme). y.1) p, eqb-true (op_level op) n h.0)
       | inr h ↦ let q = h.1 in absurd cc
     ]
 
@@ -214,7 +205,14 @@ kind_self kinds.Strs k = refl
 -- a name is no kind
 pub no_kind : (w : List ℕ) (ts : List Lexeme) → is_keyword w ≡ false → kind (lex.Word w ∷ ts) ≡ None
 unfolding kind word
-no_kind w ts n = rw (not_keyword w (codes "int") n refl, not_keyword w (codes "bool") n refl, not_keyword w (codes "string") n refl, not_keyword w (codes "html") n refl, not_keyword w (codes "strings") n refl) refl
+no_kind w ts n =
+    rw (
+      not_keyword w (codes "int") n refl,
+      not_keyword w (codes "bool") n refl,
+      not_keyword w (codes "string") n refl,
+      not_keyword w (codes "html") n refl,
+      not_keyword w (codes "strings") n refl,
+    ) refl
 
 -- a kind that is no list
 pub shareable : (t : Kind) → is_list t ≡ false → IsShareable t
@@ -227,7 +225,9 @@ shared_kind_is ts x e =
     let t = bind_some (kind ts) _ x e in
     elim (chosen (is_list t.0.0) None (Some t.0) (Some x) t.2) [
       | inl h ↦ let q = h.1 in absurd cc
-      | inr h ↦ subst (λ (y : Kind × List Lexeme). (ts ≡ lex.Word (kind_word y.0) ∷ y.1) × IsShareable y.0) (some_is t.0 x h.1) (kind_is ts t.0 t.1, shareable t.0.0 h.0)
+      | inr h ↦
+          subst (λ (y : Kind × List Lexeme). (ts ≡ lex.Word (kind_word y.0) ∷ y.1) × IsShareable y.0) (some_is t.0 x h.1)
+          (kind_is ts t.0 t.1, shareable t.0.0 h.0)
     ]
 
 pub shared_kind_self : (t : Kind) (k : List Lexeme) → IsShareable t → shared_kind (lex.Word (kind_word t) ∷ k) ≡ Some (t, k)

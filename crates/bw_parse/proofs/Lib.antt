@@ -1,6 +1,9 @@
+pub mod Answered
 pub mod CodeComplete
 pub mod CodeSound
 pub mod CodeSteps
+pub mod Comes
+pub mod Ways
 pub mod Complete
 pub mod Drafts
 pub mod DraftSteps
@@ -8,5 +11,7 @@ pub mod FrontLaws
 pub mod Receives
 pub mod ReceiveSteps
 pub mod Sound
+pub mod Shorter
+pub mod Stable
 pub mod Steps
 pub mod Whole

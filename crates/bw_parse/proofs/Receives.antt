@@ -1,15 +1,20 @@
 -- Receives: what is parsed is spelled so, and what is spelled so is parsed.
-use Rattle.std.proofs.Common.{◌≡◌, ℕ, zero, suc, ◌+◌, ◌<◌, ◌≤◌, List, [], ◌∷◌, ◌++◌, length, Some, refl, sym, ap, ◌∙◌, subst, arith, inl, inr, append_assoc, codes}
+use Rattle.std.proofs.Common.{◌≡◌, ℕ, zero, suc, ◌+◌, ◌<◌, ◌≤◌, List, [], ◌∷◌, ◌++◌, length, Some, refl, sym, ap, ◌∙◌, subst, arith, inl, inr}
+use Rattle.std.proofs.Common.{append_assoc, codes}
 use Rattle.bw_lang.specs.declared.stmt.Receive.{Receive}
 use Rattle.bw_lang.specs.declared.token.Lexeme.{Lexeme}
 use Rattle.bw_lang.specs.declared.token.Lexeme.TheVariants as lex
 use Rattle.bw_lang.specs.Spelling.{spell_each, spell_receives, HaveTargets}
 use Rattle.bw_lang.specs.Words.{IsName}
 use Rattle.bw_parse.specs.Follow.{binds}
-use Rattle.bw_parse.specs.Fronts.{◌>>=◌, where_some, behind, keyword, word, named}
+use Rattle.bw_lang.specs.Options.{◌>>=◌, where_some}
+use Rattle.bw_parse.specs.Fronts.{behind, keyword, word, named}
 use Rattle.bw_parse.specs.Statements.{receive, receives_from, parse_list, parse_receives}
-use Rattle.bw_parse.proofs.FrontLaws.{bind_some, where_cases, some_is, behind_is, keyword_is, named_is, word_is}
-use Rattle.bw_parse.proofs.Steps.{bind_same, where_same, same_from, behind_shorter}
+use Rattle.bw_lang.proofs.Options.{bind_some, where_cases, some_is}
+use Rattle.bw_parse.proofs.FrontLaws.{behind_is, keyword_is, named_is, word_is}
+use Rattle.bw_parse.proofs.Stable.{bind_same, where_same}
+use Rattle.bw_parse.proofs.Steps.{same_from}
+use Rattle.bw_parse.proofs.Shorter.{behind_shorter}
 
 -- the lexemes are those of a receive, and then the rest
 abbrev pub ReadsReceive : List Lexeme → Receive → List Lexeme → Type 0
@@ -90,7 +95,8 @@ stable_list zero front ts le = absurd (omega arith)
 stable_list (suc f) front ts le =
     bind_same (receive ts) (receive ts) _ _ refl
     (λ r p. let s = receive_shorter ts r p in
-    where_same (behind (codes ",") r.1) _ _ _ _ (λ k q. let t = behind_shorter (codes ",") r.1 k q in stable_list f (front ++ r.0 ∷ []) k (omega arith)) (λ q. refl))
+    where_same (behind (codes ",") r.1) _ _ _ _
+    (λ k q. let t = behind_shorter (codes ",") r.1 k q in stable_list f (front ++ r.0 ∷ []) k (omega arith)) (λ q. refl))
 
 list_is : (f : ℕ) (front : List Receive) (ts : List Lexeme) → length ts + 1 ≤ f → receives_from f front ts ≡ parse_list front ts
 unfolding parse_list
@@ -104,7 +110,8 @@ parse_list_is front ts =
     sym (list_is (suc f) front ts (omega arith))
     ∙ bind_same (receive ts) (receive ts) _ _ refl
     (λ r p. let s = receive_shorter ts r p in
-    where_same (behind (codes ",") r.1) _ _ _ _ (λ k q. let t = behind_shorter (codes ",") r.1 k q in list_is f (front ++ r.0 ∷ []) k (omega arith)) (λ q. refl))
+    where_same (behind (codes ",") r.1) _ _ _ _ (λ k q. let t = behind_shorter (codes ",") r.1 k q in list_is f (front ++ r.0 ∷ []) k (omega arith))
+    (λ q. refl))
 
 -- ---- what is spelled so is parsed
 
@@ -113,7 +120,8 @@ unfolding receive named word behind
 receive_gives r k n = rw n refl
 
 list_gives : (r : Receive) (rs front : List Receive) (k : List Lexeme) → HaveTargets (r ∷ rs) →
-    parse_list front (lex.Word r.target ∷ lex.Sign (codes "=") ∷ lex.Word r.field ∷ spell_each (codes ",") rs (lex.Sign (codes "]") ∷ k)) ≡ Some (front ++ r ∷ rs, lex.Sign (codes "]") ∷ k)
+    parse_list front (lex.Word r.target ∷ lex.Sign (codes "=") ∷ lex.Word r.field ∷ spell_each (codes ",") rs (lex.Sign (codes "]") ∷ k))
+    ≡ Some (front ++ r ∷ rs, lex.Sign (codes "]") ∷ k)
 unfolding behind
 list_gives r [] front k n = parse_list_is front _ ∙ rw (receive_gives r (lex.Sign (codes "]") ∷ k) n.0) refl
 list_gives r (q ∷ rs) front k n =
@@ -121,7 +129,8 @@ list_gives r (q ∷ rs) front k n =
     ∙ rw (receive_gives r (spell_each (codes ",") (q ∷ rs) (lex.Sign (codes "]") ∷ k)) n.0)
     (list_gives q rs (front ++ r ∷ []) k n.1 ∙ ap (λ l. Some (l, lex.Sign (codes "]") ∷ k)) (append_assoc front (r ∷ []) (q ∷ rs)))
 
-pub receives_give : (rs : List Receive) (k : List Lexeme) → HaveTargets rs → parse_receives (spell_receives rs (lex.Sign (codes ";") ∷ k)) ≡ Some (rs, lex.Sign (codes ";") ∷ k)
+pub receives_give : (rs : List Receive) (k : List Lexeme) → HaveTargets rs
+    → parse_receives (spell_receives rs (lex.Sign (codes ";") ∷ k)) ≡ Some (rs, lex.Sign (codes ";") ∷ k)
 unfolding parse_receives keyword behind
 receives_give [] k n = refl
 receives_give (r ∷ rs) k n = rw (list_gives r rs [] (lex.Sign (codes ";") ∷ k) n) refl

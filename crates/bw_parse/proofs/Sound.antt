@@ -12,9 +12,11 @@ use Rattle.bw_lang.specs.Words.{op_sign}
 use Rattle.bw_lang.proofs.Terms.{append_fillings_assoc}
 use Rattle.bw_parse.specs.declared.lexemes.Meaning.{Meaning}
 use Rattle.bw_parse.specs.declared.lexemes.Meaning.TheVariants.{Truth, Function, Nothing, Other, Free}
-use Rattle.bw_parse.specs.Fronts.{◌>>=◌, behind, word, operator, meaning}
+use Rattle.bw_lang.specs.Options.{◌>>=◌}
+use Rattle.bw_parse.specs.Fronts.{behind, word, operator, meaning}
 use Rattle.bw_parse.specs.Expressions.{expr, more, prefix, plugs, pairs, atom, inside, by_meaning}
-use Rattle.bw_parse.proofs.FrontLaws.{bind_some, where_cases, chosen, some, some_is, behind_is, word_is, operator_is, truth_is, function_is, nothing_is, free_is}
+use Rattle.bw_lang.proofs.Options.{bind_some, where_cases, chosen, some_is}
+use Rattle.bw_parse.proofs.FrontLaws.{some, behind_is, word_is, operator_is, truth_is, function_is, nothing_is, free_is}
 
 -- the tokens are those of the expression, of the level, and then the rest
 pub record Reads (n : ℕ) (ts : List Lexeme) (e : Term) (k : List Lexeme) : Type 0 where
@@ -45,15 +47,19 @@ mutual
   pub sound_expr : (f n : ℕ) (ts : List Lexeme) (x : Term × List Lexeme) → n ≤ 8 → expr f n ts ≡ Some x → Reads n ts x.0 x.1
   sound_expr zero n ts x b e = absurd cc
   sound_expr (suc f) n ts x b e =
-      elim (chosen (nat_lt n 7) (expr f (n + 1) ts >>= λ y. more f n y.0 y.1) (if n == 7 then prefix f ts else (atom f ts >>= λ y. plugs f y.0 y.1)) (Some x) e) [
+      elim (chosen (nat_lt n 7) (expr f (n + 1) ts >>= λ y. more f n y.0 y.1) (if n == 7 then prefix f ts else (atom f ts >>= λ y. plugs f y.0 y.1))
+      (Some x) e) [
         | inl h ↦
             let lt = ltb-true n 7 h.0 in
             let q = bind_some (expr f (n + 1) ts) (λ y. more f n y.0 y.1) x h.1 in
             let r = sound_expr f (n + 1) ts q.0 (omega arith) q.1 in
-            sound_more f n ts q.0.0 q.0.1 x (omega arith) (omega (arith, left_le n, r.level)) (record { spelled = r.spelled; levelled = r.levelled; level = omega (arith, r.level) }) q.2
+            sound_more f n ts q.0.0 q.0.1 x (omega arith) (omega (arith, left_le n, r.level))
+            (record { spelled = r.spelled; levelled = r.levelled; level = omega (arith, r.level) }) q.2
         | inr h ↦
             elim (chosen (n == 7) (prefix f ts) (atom f ts >>= λ y. plugs f y.0 y.1) (Some x) h.1) [
-              | inl g ↦ let seven = eqb-true n 7 g.0 in let r = sound_prefix f ts x g.1 in record { spelled = r.spelled; levelled = r.levelled; level = omega (arith, r.level) }
+              | inl g ↦
+                  let seven = eqb-true n 7 g.0 in let r = sound_prefix f ts x g.1 in
+                  record { spelled = r.spelled; levelled = r.levelled; level = omega (arith, r.level) }
               | inr g ↦
                   let q = bind_some (atom f ts) (λ y. plugs f y.0 y.1) x g.1 in
                   let a = sound_atom f ts q.0 q.1 in
@@ -62,7 +68,8 @@ mutual
             ]
       ]
 
-  pub sound_more : (f n : ℕ) (ts : List Lexeme) (left : Term) (k : List Lexeme) (x : Term × List Lexeme) → n < 7 → left_level n ≤ level left → Reads n ts left k → more f n left k ≡ Some x → Reads n ts x.0 x.1
+  pub sound_more : (f n : ℕ) (ts : List Lexeme) (left : Term) (k : List Lexeme) (x : Term × List Lexeme) → n < 7 → left_level n ≤ level left
+      → Reads n ts left k → more f n left k ≡ Some x → Reads n ts x.0 x.1
   sound_more zero n ts left k x b l r e = absurd cc
   sound_more (suc f) n ts left k x b l r e =
       elim (where_cases (operator n k)
@@ -70,7 +77,9 @@ mutual
       (Some (left, k)) (Some x) e) [
         | inl h ↦
             let o = operator_is n k h.0 h.1 in
-            let q = bind_some (expr f (n + 1) h.0.1) (λ y. if left_level n == n then more f n (binary h.0.0 left y.0) y.1 else Some (binary h.0.0 left y.0, y.1)) x h.2 in
+            let q =
+            bind_some (expr f (n + 1) h.0.1) (λ y. if left_level n == n then more f n (binary h.0.0 left y.0) y.1 else Some
+            (binary h.0.0 left y.0, y.1)) x h.2 in
             let right = sound_expr f (n + 1) h.0.1 q.0 (omega arith) q.1 in
             let all : Reads n ts (binary h.0.0 left q.0.0) q.0.1 =
             record {
@@ -93,22 +102,34 @@ mutual
             let p = behind_is (codes "!") ts h.0 h.1 in
             let q = bind_some (expr f 7 h.0) (λ y. Some (not y.0, y.1)) x h.2 in
             let r = sound_expr f 7 h.0 q.0 (omega arith) q.1 in
-            got (not q.0.0) q.0.1 x (record { spelled = p ∙ ap (λ t. lex.Sign (codes "!") ∷ t) r.spelled; levelled = (r.level, r.levelled); level = omega arith }) q.2
+            got (not q.0.0) q.0.1 x (record {
+              spelled = p
+                  ∙ ap (λ t. lex.Sign (codes "!") ∷ t) r.spelled;
+              levelled = (r.level, r.levelled);
+              level = omega arith;
+            }) q.2
         | inr h ↦
             elim (where_cases (behind (codes "-") ts) (λ k. expr f 7 k >>= λ y. Some (neg y.0, y.1)) (expr f 8 ts) (Some x) h.1) [
               | inl g ↦
                   let p = behind_is (codes "-") ts g.0 g.1 in
                   let q = bind_some (expr f 7 g.0) (λ y. Some (neg y.0, y.1)) x g.2 in
                   let r = sound_expr f 7 g.0 q.0 (omega arith) q.1 in
-                  got (neg q.0.0) q.0.1 x (record { spelled = p ∙ ap (λ t. lex.Sign (codes "-") ∷ t) r.spelled; levelled = (r.level, r.levelled); level = omega arith }) q.2
+                  got (neg q.0.0) q.0.1 x (record {
+                    spelled = p
+                        ∙ ap (λ t. lex.Sign (codes "-") ∷ t) r.spelled;
+                    levelled = (r.level, r.levelled);
+                    level = omega arith;
+                  }) q.2
               | inr g ↦ let r = sound_expr f 8 ts x (omega arith) g.1 in record { spelled = r.spelled; levelled = r.levelled; level = omega (arith, r.level) }
             ]
       ]
 
-  pub sound_plugs : (f : ℕ) (ts : List Lexeme) (base : Term) (k : List Lexeme) (x : Term × List Lexeme) → Reads 8 ts base k → plugs f base k ≡ Some x → Reads 8 ts x.0 x.1
+  pub sound_plugs : (f : ℕ) (ts : List Lexeme) (base : Term) (k : List Lexeme) (x : Term × List Lexeme) → Reads 8 ts base k → plugs f base k ≡ Some x
+      → Reads 8 ts x.0 x.1
   sound_plugs zero ts base k x r e = absurd cc
   sound_plugs (suc f) ts base k x r e =
-      elim (where_cases (behind (codes "<[") k) (λ j. pairs f no_more j >>= λ ps. behind (codes "]") ps.1 >>= λ i. plugs f (plug base ps.0) i) (Some (base, k)) (Some x) e) [
+      elim (where_cases (behind (codes "<[") k) (λ j. pairs f no_more j >>= λ ps. behind (codes "]") ps.1 >>= λ i. plugs f (plug base ps.0) i)
+      (Some (base, k)) (Some x) e) [
         | inl h ↦
             let p = behind_is (codes "<[") k h.0 h.1 in
             let q = bind_some (pairs f no_more h.0) (λ ps. behind (codes "]") ps.1 >>= λ i. plugs f (plug base ps.0) i) x h.2 in
@@ -178,11 +199,14 @@ mutual
       let c = bind_some (behind (codes ")") q.0.1) (λ r. Some (q.0.0, r)) x q.2 in
       let z = behind_is (codes ")") q.0.1 c.0 c.1 in
       let r = sound_expr f 1 ts q.0 (omega arith) q.1 in
-      subst (λ (y : Term × List Lexeme). (ts ≡ spell y.0 (lex.Sign (codes ")") ∷ y.1)) × Levelled y.0) (some_is (q.0.0, c.0) x c.2) (r.spelled ∙ ap (spell q.0.0) z, r.levelled)
+      subst (λ (y : Term × List Lexeme). (ts ≡ spell y.0 (lex.Sign (codes ")") ∷ y.1)) × Levelled y.0) (some_is (q.0.0, c.0) x c.2)
+      (r.spelled ∙ ap (spell q.0.0) z, r.levelled)
 
-  pub sound_meaning : (f : ℕ) (w : List ℕ) (m : Meaning) (ts : List Lexeme) (x : Term × List Lexeme) → meaning w ≡ m → by_meaning f w m ts ≡ Some x → Reads 9 (lex.Word w ∷ ts) x.0 x.1
+  pub sound_meaning : (f : ℕ) (w : List ℕ) (m : Meaning) (ts : List Lexeme) (x : Term × List Lexeme) → meaning w ≡ m → by_meaning f w m ts ≡ Some x
+      → Reads 9 (lex.Word w ∷ ts) x.0 x.1
   sound_meaning zero w m ts x i e = absurd cc
-  sound_meaning (suc f) w (Truth b) ts x i e = got (truth b) ts x (record { spelled = ap (λ v. lex.Word v ∷ ts) (truth_is w b i); levelled = tt; level = omega arith }) e
+  sound_meaning (suc f) w (Truth b) ts x i e =
+      got (truth b) ts x (record { spelled = ap (λ v. lex.Word v ∷ ts) (truth_is w b i); levelled = tt; level = omega arith }) e
   sound_meaning (suc f) w (Function g) ts x i e =
       let h = bind_some (behind (codes "(") ts) (λ k. inside f k >>= λ y. Some (call g y.0, y.1)) x e in
       let p = behind_is (codes "(") ts h.0 h.1 in
@@ -191,6 +215,7 @@ mutual
       let n = function_is w g i in
       let t = p ∙ ap (λ t. lex.Sign (codes "(") ∷ t) r.0 in
       got (call g q.0.0) q.0.1 x (record { spelled = λ j. lex.Word (n j) ∷ t j; levelled = r.1; level = omega arith }) q.2
-  sound_meaning (suc f) w Nothing ts x i e = got nothing ts x (record { spelled = ap (λ v. lex.Word v ∷ ts) (nothing_is w i); levelled = tt; level = omega arith }) e
+  sound_meaning (suc f) w Nothing ts x i e =
+      got nothing ts x (record { spelled = ap (λ v. lex.Word v ∷ ts) (nothing_is w i); levelled = tt; level = omega arith }) e
   sound_meaning (suc f) w Other ts x i e = absurd cc
   sound_meaning (suc f) w Free ts x i e = got (name w) ts x (record { spelled = refl; levelled = free_is w i; level = omega arith }) e

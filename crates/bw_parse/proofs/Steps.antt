@@ -1,173 +1,22 @@
--- More steps than can be needed change nothing, so the parser meets its own equations.
-use Rattle.std.proofs.Common.{◌≡◌, ℕ, zero, suc, ◌+◌, ◌*◌, ◌<◌, ◌≤◌, Bool, true, false, cond, ◌==◌, List, [], ◌∷◌, length, Option, Some, None, refl, sym, ap, ◌∙◌, arith, inl, inr}
-use Rattle.std.specs.Prelude.{if◌then◌else◌, nat_lt, codes}
-use Rattle.std.proofs.lemmas.Bool.{eqb-true, eqb-false, ltb-true, ltb-false, lt-ltb, cases_lt}
+-- The parser meets its own equations.
+use Rattle.std.proofs.Common.{◌≡◌, ℕ, zero, suc, ◌+◌, ◌*◌, ◌<◌, ◌≤◌, Bool, ◌==◌, List, [], ◌∷◌, length, Some, None, refl}
+use Rattle.std.proofs.Common.{sym, ap, ◌∙◌, arith, inl, inr}
+use Rattle.std.specs.Prelude.{if◌then◌else◌, codes}
+use Rattle.std.proofs.lemmas.Bool.{lt-ltb, cases_lt}
 use Rattle.std.proofs.Common.{◌-◌}
-use Rattle.bw_lang.specs.declared.expr.Op.{Op}
 use Rattle.bw_lang.specs.declared.expr.Fun.{Fun}
 use Rattle.bw_lang.specs.declared.token.Lexeme.{Lexeme}
 use Rattle.bw_lang.specs.declared.token.Lexeme.TheVariants as lex
-use Rattle.bw_lang.specs.Levels.{left_level, IsSome}
-use Rattle.bw_lang.specs.Spelling.{spell, spell_pairs}
-use Rattle.bw_lang.specs.Term.{Term, int, truth, string, name, paren, not, neg, binary, call, plug, nothing, Fillings, no_more, filling, append_fillings}
-use Rattle.bw_lang.specs.Words.{op_sign}
+use Rattle.bw_lang.specs.Levels.{left_level}
+use Rattle.bw_lang.specs.Term.{Term, truth, string, name, paren, not, neg, binary, call, plug, nothing, Fillings, no_more, filling, append_fillings}
 use Rattle.bw_parse.specs.declared.lexemes.Meaning.{Meaning}
 use Rattle.bw_parse.specs.declared.lexemes.Meaning.TheVariants.{Truth, Function, Nothing, Other, Free}
-use Rattle.bw_parse.specs.Fronts.{Read, ◌>>=◌, where_some, behind, word, operator, meaning}
+use Rattle.bw_lang.specs.Options.{◌>>=◌, where_some}
+use Rattle.bw_parse.specs.Fronts.{Read, behind, word, operator, meaning}
 use Rattle.bw_parse.specs.Expressions.{number_at, expr, more, prefix, plugs, pairs, atom, inside, by_meaning}
 use Rattle.bw_parse.specs.Expressions.{steps, parse, parse_more, parse_prefix, parse_plugs, parse_pairs, parse_atom, parse_inside, parse_word}
-use Rattle.bw_parse.proofs.FrontLaws.{behind_is, word_is, operator_is}
-use Rattle.bw_parse.proofs.Sound.{sound_expr, sound_atom, sound_pairs, sound_inside}
-
--- ---- an expression has tokens of its own
-
-mutual
-  pub longer : (e : Term) (k : List Lexeme) → length k < length (spell e k)
-  longer (int n) k = omega arith
-  longer (truth b) k = omega arith
-  longer (string s) k = omega arith
-  longer (name w) k = omega arith
-  longer (paren e) k = omega (arith, longer e (lex.Sign (codes ")") ∷ k))
-  longer (not e) k = omega (arith, longer e k)
-  longer (neg e) k = omega (arith, longer e k)
-  longer (binary op l r) k = omega (arith, longer l (lex.Sign (op_sign op) ∷ spell r k), longer r k)
-  longer (call f e) k = omega (arith, longer e (lex.Sign (codes ")") ∷ k))
-  longer nothing k = omega arith
-  longer (plug base ps) k = omega (arith, longer base (spell_pairs (codes "<[") ps (lex.Sign (codes "]") ∷ k)), pairs_longer (codes "<[") ps (lex.Sign (codes "]") ∷ k))
-
-  pub pairs_longer : (s : List ℕ) (ps : Fillings) (k : List Lexeme) → length k ≤ length (spell_pairs s ps k)
-  pairs_longer s no_more k = omega arith
-  pairs_longer s (filling w e ps) k = omega (arith, longer e (spell_pairs (codes ",") ps k), pairs_longer (codes ",") ps k)
-
-some_pairs : (s : List ℕ) (ps : Fillings) (k : List Lexeme) → IsSome ps → length k + 2 ≤ length (spell_pairs s ps k)
-some_pairs s no_more k h = absurd h
-some_pairs s (filling w e ps) k h = omega (arith, longer e (spell_pairs (codes ",") ps k), pairs_longer (codes ",") ps k)
-
-pub expr_shorter : (f n : ℕ) (ts : List Lexeme) (x : Term × List Lexeme) → n ≤ 8 → expr f n ts ≡ Some x → length x.1 < length ts
-expr_shorter f n ts x b e = omega (arith, longer x.0 x.1, ap length (sound_expr f n ts x b e).spelled)
-
-atom_shorter : (f : ℕ) (ts : List Lexeme) (x : Term × List Lexeme) → atom f ts ≡ Some x → length x.1 < length ts
-atom_shorter f ts x e = omega (arith, longer x.0 x.1, ap length (sound_atom f ts x e).spelled)
-
-pairs_shorter : (f : ℕ) (front : Fillings) (ts : List Lexeme) (x : Fillings × List Lexeme) → pairs f front ts ≡ Some x → length x.1 < length ts
-pairs_shorter f front ts x e =
-    let r = sound_pairs f front ts x e in
-    omega (arith, some_pairs (codes ",") r.rest x.1 r.some, ap length (r.spelled (codes ",")))
-
-pub inside_shorter : (f : ℕ) (ts : List Lexeme) (x : Term × List Lexeme) → inside f ts ≡ Some x → length x.1 < length ts
-inside_shorter f ts x e = let r = sound_inside f ts x e in omega (arith, longer x.0 (lex.Sign (codes ")") ∷ x.1), ap length r.0)
-
-pub behind_shorter : (s : List ℕ) (ts k : List Lexeme) → behind s ts ≡ Some k → length k + 1 ≡ length ts
-behind_shorter s ts k e = omega (arith, ap length (behind_is s ts k e))
-
-pub word_shorter : (ts : List Lexeme) (x : List ℕ × List Lexeme) → word ts ≡ Some x → length x.1 + 1 ≡ length ts
-word_shorter ts x e = omega (arith, ap length (word_is ts x e))
-
-operator_shorter : (n : ℕ) (ts : List Lexeme) (x : Op × List Lexeme) → operator n ts ≡ Some x → length x.1 + 1 ≡ length ts
-operator_shorter n ts x e = omega (arith, ap length (operator_is n ts x e).0)
-
--- ---- equal parts
-
-pub bind_same : {A B : Type 0} (o p : Option A) (q r : A → Option B) → o ≡ p → ((x : A) → p ≡ Some x → q x ≡ r x) → (o >>= q) ≡ (p >>= r)
-bind_same {B = B} o p q r e h = ap (λ (y : Option _). y >>= q) e ∙ go p h
-  where
-    go : (p : Option _) → ((x : _) → p ≡ Some x → q x ≡ r x) → (p >>= q) ≡ (p >>= r)
-    go (Some x) h = h x refl
-    go None h = refl
-
-pub where_same : {A B : Type 0} (o : Option A) (q r : A → B) (d c : B) → ((x : A) → o ≡ Some x → q x ≡ r x) → (o ≡ None → d ≡ c) → where_some o q d ≡ where_some o r c
-where_same (Some x) q r d c h e = h x refl
-where_same None q r d c h e = e refl
-
-if_same : {A : Type 0} (b : Bool) (x y z w : A) → (b ≡ true → x ≡ z) → (b ≡ false → y ≡ w) → cond b x y ≡ cond b z w
-if_same true x y z w p q = p refl
-if_same false x y z w p q = q refl
-
--- ---- one step more changes nothing
-
-mutual
-  unfolding expr
-
-  stable_expr : (f n : ℕ) (ts : List Lexeme) → n ≤ 8 → 20 * length ts + 20 ≤ f + 2 * n → expr (suc f) n ts ≡ expr f n ts
-  stable_expr zero n ts b le = absurd (omega arith)
-  stable_expr (suc f) n ts b le =
-      if_same (nat_lt n 7) _ _ _ _
-      (λ h. let lt = ltb-true n 7 h in
-      bind_same (expr (suc f) (n + 1) ts) (expr f (n + 1) ts) _ _ (stable_expr f (n + 1) ts (omega arith) (omega arith))
-      (λ x e. stable_more f n x.0 x.1 lt (let s = expr_shorter f (n + 1) ts x (omega arith) e in omega arith)))
-      (λ h. let ge = ltb-false n 7 h in
-      if_same (n == 7) _ _ _ _
-      (λ i. let seven = eqb-true n 7 i in stable_prefix f ts (omega arith))
-      (λ i. bind_same (atom (suc f) ts) (atom f ts) _ _ (stable_atom f ts (let ne = eqb-false n 7 i in omega arith))
-      (λ x e. let s = atom_shorter f ts x e in stable_plugs f x.0 x.1 (omega arith))))
-
-  stable_more : (f n : ℕ) (left : Term) (ts : List Lexeme) → n < 7 → 20 * length ts + 1 ≤ f → more (suc f) n left ts ≡ more f n left ts
-  stable_more zero n left ts b le = absurd (omega arith)
-  stable_more (suc f) n left ts b le =
-      where_same (operator n ts) _ _ _ _
-      (λ o p. let s = operator_shorter n ts o p in
-      bind_same (expr (suc f) (n + 1) o.1) (expr f (n + 1) o.1) _ _ (stable_expr f (n + 1) o.1 (omega arith) (omega arith))
-      (λ x e. let t = expr_shorter f (n + 1) o.1 x (omega arith) e in
-      if_same (left_level n == n) _ _ _ _ (λ i. stable_more f n (binary o.0 left x.0) x.1 b (omega arith)) (λ i. refl)))
-      (λ p. refl)
-
-  stable_prefix : (f : ℕ) (ts : List Lexeme) → 20 * length ts + 5 ≤ f → prefix (suc f) ts ≡ prefix f ts
-  stable_prefix zero ts le = absurd (omega arith)
-  stable_prefix (suc f) ts le =
-      where_same (behind (codes "!") ts) _ _ _ _
-      (λ k p. let s = behind_shorter (codes "!") ts k p in ap (λ o. o >>= λ x. Some (not x.0, x.1)) (stable_expr f 7 k (omega arith) (omega arith)))
-      (λ p. where_same (behind (codes "-") ts) _ _ _ _
-      (λ k p. let s = behind_shorter (codes "-") ts k p in ap (λ o. o >>= λ x. Some (neg x.0, x.1)) (stable_expr f 7 k (omega arith) (omega arith)))
-      (λ p. stable_expr f 8 ts (omega arith) (omega arith)))
-
-  stable_plugs : (f : ℕ) (base : Term) (ts : List Lexeme) → 20 * length ts + 1 ≤ f → plugs (suc f) base ts ≡ plugs f base ts
-  stable_plugs zero base ts le = absurd (omega arith)
-  stable_plugs (suc f) base ts le =
-      where_same (behind (codes "<[") ts) _ _ _ _
-      (λ k p. let s = behind_shorter (codes "<[") ts k p in
-      bind_same (pairs (suc f) no_more k) (pairs f no_more k) _ _ (stable_pairs f no_more k (omega arith))
-      (λ x e. let t = pairs_shorter f no_more k x e in
-      bind_same (behind (codes "]") x.1) (behind (codes "]") x.1) _ _ refl
-      (λ r q. let u = behind_shorter (codes "]") x.1 r q in stable_plugs f (plug base x.0) r (omega arith))))
-      (λ p. refl)
-
-  stable_pairs : (f : ℕ) (front : Fillings) (ts : List Lexeme) → 20 * length ts + 1 ≤ f → pairs (suc f) front ts ≡ pairs f front ts
-  stable_pairs zero front ts le = absurd (omega arith)
-  stable_pairs (suc f) front ts le =
-      bind_same (word ts) (word ts) _ _ refl
-      (λ w p. let s = word_shorter ts w p in
-      bind_same (behind (codes "=") w.1) (behind (codes "=") w.1) _ _ refl
-      (λ k q. let t = behind_shorter (codes "=") w.1 k q in
-      bind_same (expr (suc f) 1 k) (expr f 1 k) _ _ (stable_expr f 1 k (omega arith) (omega arith))
-      (λ x e. let u = expr_shorter f 1 k x (omega arith) e in
-      where_same (behind (codes ",") x.1) _ _ _ _
-      (λ r v. let y = behind_shorter (codes ",") x.1 r v in stable_pairs f (append_fillings front (filling w.0 x.0 no_more)) r (omega arith))
-      (λ v. refl))))
-
-  stable_atom : (f : ℕ) (ts : List Lexeme) → 20 * length ts + 3 ≤ f → atom (suc f) ts ≡ atom f ts
-  stable_atom zero ts le = absurd (omega arith)
-  stable_atom (suc f) [] le = refl
-  stable_atom (suc f) (lex.Number n ∷ ts) le = refl
-  stable_atom (suc f) (lex.Str n ∷ ts) le = refl
-  stable_atom (suc f) (lex.Template t ∷ ts) le = refl
-  stable_atom (suc f) (lex.Word w ∷ ts) le = stable_word f w (meaning w) ts (omega arith)
-  stable_atom (suc f) (lex.Sign s ∷ ts) le =
-      bind_same (behind (codes "(") (lex.Sign s ∷ ts)) _ _ _ refl
-      (λ k p. let t = behind_shorter (codes "(") (lex.Sign s ∷ ts) k p in ap (λ o. o >>= λ x. Some (paren x.0, x.1)) (stable_inside f k (omega arith)))
-
-  stable_inside : (f : ℕ) (ts : List Lexeme) → 20 * length ts + 19 ≤ f → inside (suc f) ts ≡ inside f ts
-  stable_inside zero ts le = absurd (omega arith)
-  stable_inside (suc f) ts le = ap (λ o. o >>= λ x. behind (codes ")") x.1 >>= λ r. Some (x.0, r)) (stable_expr f 1 ts (omega arith) (omega arith))
-
-  stable_word : (f : ℕ) (w : List ℕ) (m : Meaning) (ts : List Lexeme) → 20 * length ts + 1 ≤ f → by_meaning (suc f) w m ts ≡ by_meaning f w m ts
-  stable_word zero w m ts le = absurd (omega arith)
-  stable_word (suc f) w (Truth b) ts le = refl
-  stable_word (suc f) w (Function g) ts le =
-      bind_same (behind (codes "(") ts) _ _ _ refl
-      (λ k p. let t = behind_shorter (codes "(") ts k p in ap (λ o. o >>= λ x. Some (call g x.0, x.1)) (stable_inside f k (omega arith)))
-  stable_word (suc f) w Nothing ts le = refl
-  stable_word (suc f) w Other ts le = refl
-  stable_word (suc f) w Free ts le = refl
+use Rattle.bw_parse.proofs.Shorter.{expr_shorter, atom_shorter, pairs_shorter, behind_shorter, word_shorter, operator_shorter}
+use Rattle.bw_parse.proofs.Stable.{bind_same, where_same, if_same, stable_expr, stable_more, stable_prefix, stable_plugs, stable_pairs, stable_atom, stable_inside, stable_word}
 
 -- ---- the equations of the parser
 
@@ -185,7 +34,8 @@ same_from p b h f g lf lg = constant_from p b h f lf ∙ sym (constant_from p b 
 
 pub expr_is : (f n : ℕ) (ts : List Lexeme) → n ≤ 8 → 20 * length ts + 20 ≤ f + 2 * n → expr f n ts ≡ parse n ts
 unfolding parse
-expr_is f n ts b le = same_from (λ f. expr f n ts) (20 * length ts + (20 - 2 * n)) (λ f h. stable_expr f n ts b (omega arith)) f (steps ts) (omega arith) (omega arith)
+expr_is f n ts b le =
+    same_from (λ f. expr f n ts) (20 * length ts + (20 - 2 * n)) (λ f h. stable_expr f n ts b (omega arith)) f (steps ts) (omega arith) (omega arith)
 
 more_is : (f n : ℕ) (left : Term) (ts : List Lexeme) → n < 7 → 20 * length ts + 1 ≤ f → more f n left ts ≡ parse_more n left ts
 unfolding parse_more
@@ -222,7 +72,8 @@ parse_loose n ts lt =
     sym (expr_is (suc f) n ts (omega arith) (omega arith))
     ∙ rw (lt-ltb n 7 lt)
     (bind_same (expr f (n + 1) ts) (parse (n + 1) ts) _ _ (expr_is f (n + 1) ts (omega arith) (omega arith))
-    (λ x e. let s = expr_shorter (20 * length ts + 20) (n + 1) ts x (omega arith) (expr_is (20 * length ts + 20) (n + 1) ts (omega arith) (omega arith) ∙ e) in more_is f n x.0 x.1 lt (omega arith)))
+    (λ x e. let s = expr_shorter (20 * length ts + 20) (n + 1) ts x (omega arith)
+    (expr_is (20 * length ts + 20) (n + 1) ts (omega arith) (omega arith) ∙ e) in more_is f n x.0 x.1 lt (omega arith)))
 
 pub parse_seven : (ts : List Lexeme) → parse 7 ts ≡ parse_prefix ts
 unfolding expr
@@ -239,7 +90,8 @@ parse_eight ts =
     (λ x e. let s = atom_shorter f ts x (atom_is f ts (omega arith) ∙ e) in plugs_is f x.0 x.1 (omega arith))
 
 pub parse_more_is : (n : ℕ) (left : Term) (ts : List Lexeme) → n < 7 → parse_more n left ts ≡
-    where_some (operator n ts) (λ o. parse (n + 1) o.1 >>= λ x. if left_level n == n then parse_more n (binary o.0 left x.0) x.1 else Some (binary o.0 left x.0, x.1)) (Some (left, ts))
+    where_some (operator n ts) (λ o. parse (n + 1) o.1 >>= λ x. if left_level n == n then parse_more n (binary o.0 left x.0) x.1 else Some
+    (binary o.0 left x.0, x.1)) (Some (left, ts))
 unfolding expr
 parse_more_is n left ts lt =
     let f = 20 * length ts + 30 in
@@ -282,7 +134,8 @@ parse_plugs_is base ts =
 
 pub parse_pairs_is : (front : Fillings) (ts : List Lexeme) → parse_pairs front ts ≡
     (word ts >>= λ w. behind (codes "=") w.1 >>= λ k. parse 1 k >>= λ x.
-    where_some (behind (codes ",") x.1) (λ r. parse_pairs (append_fillings front (filling w.0 x.0 no_more)) r) (Some (append_fillings front (filling w.0 x.0 no_more), x.1)))
+    where_some (behind (codes ",") x.1) (λ r. parse_pairs (append_fillings front (filling w.0 x.0 no_more)) r)
+    (Some (append_fillings front (filling w.0 x.0 no_more), x.1)))
 unfolding expr
 parse_pairs_is front ts =
     let f = 20 * length ts + 30 in
@@ -324,7 +177,8 @@ parse_atom_is ts = sym (atom_is (suc (20 * length ts + 30)) ts (omega arith)) �
     go (lex.Word w ∷ ts) = word_is_by (20 * suc (length ts) + 30) w (meaning w) ts (omega arith)
     go (lex.Sign s ∷ ts) =
         bind_same (behind (codes "(") (lex.Sign s ∷ ts)) _ _ _ refl
-        (λ k p. let t = behind_shorter (codes "(") (lex.Sign s ∷ ts) k p in ap (λ o. o >>= λ x. Some (paren x.0, x.1)) (inside_is (20 * suc (length ts) + 30) k (omega arith)))
+        (λ k p. let t = behind_shorter (codes "(") (lex.Sign s ∷ ts) k p in
+        ap (λ o. o >>= λ x. Some (paren x.0, x.1)) (inside_is (20 * suc (length ts) + 30) k (omega arith)))
 
 pub parse_truth : (w : List ℕ) (b : Bool) (ts : List Lexeme) → parse_word w (Truth b) ts ≡ Some (truth b, ts)
 unfolding expr
@@ -342,7 +196,8 @@ pub parse_free : (w : List ℕ) (ts : List Lexeme) → parse_word w Free ts ≡ 
 unfolding expr
 parse_free w ts = sym (word_is_by (suc (20 * length ts + 30)) w Free ts (omega arith))
 
-pub parse_function : (w : List ℕ) (g : Fun) (ts : List Lexeme) → parse_word w (Function g) ts ≡ (behind (codes "(") ts >>= λ k. parse_inside k >>= λ x. Some (call g x.0, x.1))
+pub parse_function : (w : List ℕ) (g : Fun) (ts : List Lexeme)
+    → parse_word w (Function g) ts ≡ (behind (codes "(") ts >>= λ k. parse_inside k >>= λ x. Some (call g x.0, x.1))
 unfolding expr
 parse_function w g ts =
     sym (word_is_by (suc (20 * length ts + 30)) w (Function g) ts (omega arith))
@@ -358,7 +213,8 @@ parse_number n ts = parse_atom_is (lex.Number n ∷ ts)
 pub parse_str : (s : List ℕ) (ts : List Lexeme) → parse_atom (lex.Str s ∷ ts) ≡ Some (string s, ts)
 parse_str s ts = parse_atom_is (lex.Str s ∷ ts)
 
-pub parse_sign : (s : List ℕ) (ts : List Lexeme) → parse_atom (lex.Sign s ∷ ts) ≡ (behind (codes "(") (lex.Sign s ∷ ts) >>= λ k. parse_inside k >>= λ x. Some (paren x.0, x.1))
+pub parse_sign : (s : List ℕ) (ts : List Lexeme)
+    → parse_atom (lex.Sign s ∷ ts) ≡ (behind (codes "(") (lex.Sign s ∷ ts) >>= λ k. parse_inside k >>= λ x. Some (paren x.0, x.1))
 parse_sign s ts = parse_atom_is (lex.Sign s ∷ ts)
 
 pub parse_word_is : (w : List ℕ) (ts : List Lexeme) → parse_atom (lex.Word w ∷ ts) ≡ parse_word w (meaning w) ts
@@ -370,4 +226,26 @@ parse_none = parse_atom_is []
 pub parse_template : (t : List ℕ) (ts : List Lexeme) → parse_atom (lex.Template t ∷ ts) ≡ None
 parse_template t ts = parse_atom_is (lex.Template t ∷ ts)
 
-pub ruleset equations = (parse_none, parse_template, parse_tight, parse_number, parse_str, parse_sign, parse_word_is, parse_loose, parse_seven, parse_eight, parse_more_is, parse_prefix_is, parse_plugs_is, parse_pairs_is, parse_inside_is, parse_atom_is, parse_truth, parse_nothing, parse_other, parse_free, parse_function)
+pub ruleset equations = (
+  parse_none,
+  parse_template,
+  parse_tight,
+  parse_number,
+  parse_str,
+  parse_sign,
+  parse_word_is,
+  parse_loose,
+  parse_seven,
+  parse_eight,
+  parse_more_is,
+  parse_prefix_is,
+  parse_plugs_is,
+  parse_pairs_is,
+  parse_inside_is,
+  parse_atom_is,
+  parse_truth,
+  parse_nothing,
+  parse_other,
+  parse_free,
+  parse_function,
+)

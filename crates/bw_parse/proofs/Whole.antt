@@ -7,7 +7,8 @@ use Rattle.bw_lang.specs.Term.{Term}
 use Rattle.bw_parse.specs.Expressions.{parse, steps}
 use Rattle.bw_parse.specs.Follow.{binds}
 use Rattle.bw_parse.proofs.Sound.{Reads, sound_expr}
-use Rattle.bw_parse.proofs.Complete.{AtLevel, complete, one_le}
+use Rattle.bw_parse.proofs.Ways.{AtLevel}
+use Rattle.bw_parse.proofs.Complete.{complete, one_le}
 use Rattle.bw_parse.proofs.Steps.{expr_is}
 
 pub parse_sound : (ts : List Lexeme) (x : Term × List Lexeme) → parse 1 ts ≡ Some x → Reads 1 ts x.0 x.1

@@ -6,7 +6,8 @@ use Rattle.bw_lang.specs.Levels.{left_level}
 use Rattle.bw_lang.specs.Term.{Term, int, truth, string, name, paren, not, neg, binary, call, plug, nothing, Fillings, no_more, filling, append_fillings}
 use Rattle.bw_parse.specs.declared.lexemes.Meaning.{Meaning}
 use Rattle.bw_parse.specs.declared.lexemes.Meaning.TheVariants.{Truth, Function, Nothing, Other, Free}
-use Rattle.bw_parse.specs.Fronts.{Read, ◌>>=◌, where_some, behind, word, operator, meaning}
+use Rattle.bw_lang.specs.Options.{◌>>=◌, where_some}
+use Rattle.bw_parse.specs.Fronts.{Read, behind, word, operator, meaning}
 
 -- a number that a text may have
 abbrev pub number_at : ℕ → List Lexeme → Read Term

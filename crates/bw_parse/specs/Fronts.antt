@@ -7,6 +7,7 @@ use Rattle.bw_lang.specs.declared.stmt.Kind.{Kind}
 use Rattle.bw_lang.specs.declared.stmt.Kind.TheVariants as kinds
 use Rattle.bw_lang.specs.Keywords.{is, is_keyword}
 use Rattle.bw_lang.specs.Levels.{op_level}
+use Rattle.bw_lang.specs.Options.{◌>>=◌}
 use Rattle.bw_lang.specs.declared.token.Lexeme.{Lexeme}
 use Rattle.bw_lang.specs.declared.token.Lexeme.TheVariants as lex
 use Rattle.bw_parse.specs.declared.lexemes.Meaning.{Meaning}
@@ -15,16 +16,6 @@ use Rattle.bw_parse.specs.declared.lexemes.Meaning.TheVariants.{Truth, Function,
 -- what was read at the front, and what follows it
 abbrev pub Read : Type 0 → Type 0
 Read A = Option (A × List Lexeme)
-
-infixl 10 ◌>>=◌
-abbrev pub ◌>>=◌ : {A B : Type 0} → Option A → (A → Option B) → Option B
-(Some x) >>= f = f x
-None >>= f = None
-
--- what comes of it where there is one, and else the other
-abbrev pub where_some : {A B : Type 0} → Option A → (A → B) → B → B
-where_some (Some x) f d = f x
-where_some None f d = d
 
 -- what follows this sign
 unfoldable pub behind : List ℕ → List Lexeme → Option (List Lexeme)

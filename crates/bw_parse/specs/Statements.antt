@@ -6,7 +6,8 @@ use Rattle.bw_lang.specs.Code.{Code, done, declare, assign, if_then, if_else, wh
 use Rattle.bw_lang.specs.declared.token.Lexeme.{Lexeme}
 use Rattle.bw_lang.specs.Term.{Term}
 use Rattle.bw_parse.specs.Expressions.{parse, parse_inside}
-use Rattle.bw_parse.specs.Fronts.{Read, ◌>>=◌, where_some, behind, keyword, word, named, kind}
+use Rattle.bw_lang.specs.Options.{◌>>=◌, where_some}
+use Rattle.bw_parse.specs.Fronts.{Read, behind, keyword, word, named, kind}
 
 -- TARGET = FIELD
 unfoldable pub receive : List Lexeme → Read Receive

@@ -1,6 +1,5 @@
 //! What tokens say, and what stands at the front of a list of them.
 ghost use Rattle.std.specs.Prelude.{◌≡◌, ◌<◌, ◌∷◌, [], length, IfSome, MatchOption};
-ghost use Rattle.bw_lang.specs.Keywords.{is};
 ghost use Rattle.bw_lang.specs.Words.{op_sign};
 ghost use Rattle.bw_lang.specs.Levels.{op_level};
 ghost use Rattle.bw_parse.specs.Fronts as front;
@@ -21,49 +20,24 @@ pub enum Meaning {
     Free,
 }
 
-fn is_word(word: &str, other: &str) -> bool
-    ensures { result ≡ is word.now other.now }
-{
-    word == other
-}
-
-fn is_sign(sign: &[u8], other: &[u8]) -> bool
-    ensures { result ≡ is sign.now other.now }
-{
-    sign == other
-}
-
 fn op_of(sign: &[u8]) -> Option<Op>
     ensures { result ≡ front.op_of sign.now }
 {
-    if is_sign(sign, b"||") {
-        Some(Op::Or)
-    } else if is_sign(sign, b"&&") {
-        Some(Op::And)
-    } else if is_sign(sign, b"==") {
-        Some(Op::Eq)
-    } else if is_sign(sign, b"!=") {
-        Some(Op::Ne)
-    } else if is_sign(sign, b"<") {
-        Some(Op::Lt)
-    } else if is_sign(sign, b"<=") {
-        Some(Op::Le)
-    } else if is_sign(sign, b">") {
-        Some(Op::Gt)
-    } else if is_sign(sign, b">=") {
-        Some(Op::Ge)
-    } else if is_sign(sign, b"+") {
-        Some(Op::Add)
-    } else if is_sign(sign, b"-") {
-        Some(Op::Sub)
-    } else if is_sign(sign, b"*") {
-        Some(Op::Mul)
-    } else if is_sign(sign, b"/") {
-        Some(Op::Div)
-    } else if is_sign(sign, b"%") {
-        Some(Op::Rem)
-    } else {
-        None
+    match sign {
+        b"||" => Some(Op::Or),
+        b"&&" => Some(Op::And),
+        b"==" => Some(Op::Eq),
+        b"!=" => Some(Op::Ne),
+        b"<" => Some(Op::Lt),
+        b"<=" => Some(Op::Le),
+        b">" => Some(Op::Gt),
+        b">=" => Some(Op::Ge),
+        b"+" => Some(Op::Add),
+        b"-" => Some(Op::Sub),
+        b"*" => Some(Op::Mul),
+        b"/" => Some(Op::Div),
+        b"%" => Some(Op::Rem),
+        _ => None,
     }
 }
 
@@ -84,42 +58,34 @@ fn level_of(op: Op) -> u8
 pub(crate) fn meaning_of(word: &str) -> Meaning
     ensures { result ≡ front.meaning word.now }
 {
-    if is_word(word, "true") {
-        Meaning::Truth(true)
-    } else if is_word(word, "false") {
-        Meaning::Truth(false)
-    } else if is_word(word, "text") {
-        Meaning::Function(Fun::Text)
-    } else if is_word(word, "number") {
-        Meaning::Function(Fun::Number)
-    } else if is_word(word, "isnumber") {
-        Meaning::Function(Fun::IsNumber)
-    } else if is_word(word, "count") {
-        Meaning::Function(Fun::Count)
-    } else if is_word(word, "none") {
-        Meaning::Nothing
-    } else if is_keyword(word) {
-        Meaning::Other
-    } else {
-        Meaning::Free
+    match word {
+        "true" => Meaning::Truth(true),
+        "false" => Meaning::Truth(false),
+        "text" => Meaning::Function(Fun::Text),
+        "number" => Meaning::Function(Fun::Number),
+        "isnumber" => Meaning::Function(Fun::IsNumber),
+        "count" => Meaning::Function(Fun::Count),
+        "none" => Meaning::Nothing,
+        _ => {
+            if is_keyword(word) {
+                Meaning::Other
+            } else {
+                Meaning::Free
+            }
+        }
     }
 }
 
 fn kind_of(word: &str) -> Option<Kind>
     ensures { result ≡ front.kind_of word.now }
 {
-    if is_word(word, "int") {
-        Some(Kind::Int)
-    } else if is_word(word, "bool") {
-        Some(Kind::Bool)
-    } else if is_word(word, "string") {
-        Some(Kind::Str)
-    } else if is_word(word, "html") {
-        Some(Kind::Html)
-    } else if is_word(word, "strings") {
-        Some(Kind::Strs)
-    } else {
-        None
+    match word {
+        "int" => Some(Kind::Int),
+        "bool" => Some(Kind::Bool),
+        "string" => Some(Kind::Str),
+        "html" => Some(Kind::Html),
+        "strings" => Some(Kind::Strs),
+        _ => None,
     }
 }
 
@@ -141,7 +107,7 @@ pub(crate) fn after<'a>(sign: &[u8], lexemes: &'a [Lexeme]) -> Option<&'a [Lexem
 {
     match lexemes {
         [Lexeme::Sign(other), rest @ ..] => {
-            if is_sign(other.as_slice(), sign) {
+            if other.as_slice() == sign {
                 Some(rest)
             } else {
                 None
@@ -159,7 +125,7 @@ pub(crate) fn keyword<'a>(word: &str, lexemes: &'a [Lexeme]) -> Option<&'a [Lexe
 {
     match lexemes {
         [Lexeme::Word(other), rest @ ..] => {
-            if is_word(other.as_str(), word) {
+            if other.as_str() == word {
                 Some(rest)
             } else {
                 None

@@ -4,9 +4,10 @@
 
 mod expressions;
 mod fault;
+pub mod laws;
 mod lexemes;
 mod services;
 mod statements;
 
 pub use fault::ParseFault;
-pub use services::{ServiceDraft, one_spelling, parse_service};
+pub use services::{ServiceDraft, parse_service};

@@ -4,7 +4,6 @@ ghost use Rattle.bw_lang.specs.declared.declaration.Draft.{Draft as Draft_};
 ghost use Rattle.bw_lang.specs.Drafts.{AreFormed, spell_service};
 ghost use Rattle.bw_lang.specs.Words.{IsName};
 ghost use Rattle.bw_parse.specs.Gives.{Gives, Finds};
-ghost use Rattle.bw_parse.specs.Laws.{OneSpelling, SpelledOrNot};
 ghost use Rattle.bw_parse.specs.Services as spec;
 
 use crate::fault::ParseFault;
@@ -239,13 +238,3 @@ pub fn parse_service(alloc: Global, lexemes: &[Lexeme]) -> Result<ServiceDraft, 
 {
     whole_service(alloc, lexemes)
 }
-
-/// No two services that are formed are written with the same lexemes.
-pub fn one_spelling()
-    ensures { OneSpelling }
-{}
-
-/// Lexemes are those of a service, or of none.
-pub fn spelled_or_not()
-    ensures { SpelledOrNot }
-{}

@@ -5,21 +5,20 @@ use Rattle.std.specs.List.{slice_range}
 use Rattle.std.proofs.lemmas.List.{length-drop}
 use Rattle.bw_lang.specs.declared.declaration.Draft.{Draft}
 use Rattle.bw_lang.specs.declared.declaration.Draft.TheVariants as drafts
-use Rattle.bw_lang.specs.declared.declaration.Written.{Written}
-use Rattle.bw_lang.specs.declared.declaration.Written.TheVariants as written
 use Rattle.bw_lang.specs.declared.token.Lexeme.{Lexeme}
 use Rattle.bw_lang.specs.declared.token.Lexeme.TheVariants as lex
 use Rattle.bw_lang.specs.declared.token.Token.{Token}
 use Rattle.bw_lang.specs.declared.token.TokenKind.{TokenKind}
 use Rattle.bw_lang.specs.declared.token.TokenKind.TheVariants as kinds
-use Rattle.bw_lang.specs.Code.{Code, done, declare, assign, if_then, if_else, while_loop, block, show, exit}
+use Rattle.bw_lang.specs.Code.{Code, done, declare, assign, if_then, if_else, while_loop, block, for_each, show, exit}
 use Rattle.bw_lang.specs.CodeNames.{local_names}
-use Rattle.bw_lang.specs.Drafts.{spell_literal, spell_draft, spell_drafts, spell_service}
+use Rattle.bw_lang.specs.Drafts.{spell_draft, spell_drafts, spell_service}
 use Rattle.bw_lang.specs.Lexemes.{lexeme, lexeme_of}
 use Rattle.bw_lang.specs.Reads.{IsText}
 use Rattle.bw_lang.specs.Spelling.{spell_code}
 use Rattle.bw_parse.proofs.CodeSteps.{code_longer}
-use Rattle.bw_parse.proofs.Steps.{longer}
+use Rattle.bw_parse.proofs.Drafts.{draft_longer}
+use Rattle.bw_parse.proofs.Shorter.{longer}
 use Rattle.bw_syntax.specs.Stages.{IsBounded, AreBounded}
 use Rattle.bw_syntax.proofs.Rests.{Fits, AllFit, draft_rest}
 
@@ -51,7 +50,13 @@ locals_within (declare t w e r) k = omega (arith, longer e (lex.Sign (codes ";")
 locals_within (assign w e r) k = omega (arith, longer e (lex.Sign (codes ";") ∷ spell_code r k), locals_within r k)
 locals_within (if_then t y r) k =
     let a = lex.Sign (codes "}") ∷ spell_code r k in
-    omega (arith, length-append (local_names y) (local_names r), longer t (lex.Sign (codes ")") ∷ lex.Sign (codes "{") ∷ spell_code y a), locals_within y a, locals_within r k)
+    omega (
+      arith,
+      length-append (local_names y) (local_names r),
+      longer t (lex.Sign (codes ")") ∷ lex.Sign (codes "{") ∷ spell_code y a),
+      locals_within y a,
+      locals_within r k,
+    )
 locals_within (if_else t y n r) k =
     let b = lex.Sign (codes "}") ∷ spell_code r k in
     let a = lex.Sign (codes "}") ∷ lex.Word (codes "else") ∷ lex.Sign (codes "{") ∷ spell_code n b in
@@ -66,7 +71,22 @@ locals_within (if_else t y n r) k =
     )
 locals_within (while_loop t b r) k =
     let a = lex.Sign (codes "}") ∷ spell_code r k in
-    omega (arith, length-append (local_names b) (local_names r), longer t (lex.Sign (codes ")") ∷ lex.Sign (codes "{") ∷ spell_code b a), locals_within b a, locals_within r k)
+    omega (
+      arith,
+      length-append (local_names b) (local_names r),
+      longer t (lex.Sign (codes ")") ∷ lex.Sign (codes "{") ∷ spell_code b a),
+      locals_within b a,
+      locals_within r k,
+    )
+locals_within (for_each w e b r) k =
+    let a = lex.Sign (codes "}") ∷ spell_code r k in
+    omega (
+      arith,
+      length-append (local_names b) (local_names r),
+      longer e (lex.Sign (codes ")") ∷ lex.Sign (codes "{") ∷ spell_code b a),
+      locals_within b a,
+      locals_within r k,
+    )
 locals_within (block b r) k =
     let a = lex.Sign (codes "}") ∷ spell_code r k in omega (arith, length-append (local_names b) (local_names r), locals_within b a, locals_within r k)
 locals_within (show p rs r) k = omega (arith, code_longer (show p rs r) k, code_longer (show p rs done) (spell_code r k), locals_within r k)
@@ -79,26 +99,15 @@ draft_bounded (drafts.Template name inside) k h l = h.1.1.1.0
 draft_bounded (drafts.Shared t name init) k h l = tt
 draft_bounded (drafts.Session s) k h l = omega (arith, locals_within s.body (lex.Sign (codes "}") ∷ k))
 
-literal_longer : (l : Written) (k : List Lexeme) → length k ≤ length (spell_literal l k)
-literal_longer (written.Plus n) k = omega arith
-literal_longer (written.Minus n) k = omega arith
-literal_longer (written.Bool b) k = omega arith
-literal_longer (written.Str s) k = omega arith
-literal_longer (written.Name w) k = omega arith
-
-draft_shorter : (d : Draft) (k : List Lexeme) → length k ≤ length (spell_draft d k)
-draft_shorter (drafts.Template name inside) k = omega arith
-draft_shorter (drafts.Shared t name init) k = omega (arith, literal_longer init (lex.Sign (codes ";") ∷ k))
-draft_shorter (drafts.Session s) k = omega (arith, code_longer s.body (lex.Sign (codes "}") ∷ k))
-
 drafts_bounded : (ds : List Draft) (k : List Lexeme) → AllFit 1048576 (spell_drafts ds k) → length (spell_drafts ds k) < 2 ^ 64 → AreBounded ds
 drafts_bounded [] k h l = tt
 drafts_bounded (d ∷ ds) k h l = (
   draft_bounded d (spell_drafts ds k) h l,
-  drafts_bounded ds k (draft_rest 1048576 d (spell_drafts ds k) h) (omega (arith, draft_shorter d (spell_drafts ds k))),
+  drafts_bounded ds k (draft_rest 1048576 d (spell_drafts ds k) h) (omega (arith, draft_longer d (spell_drafts ds k))),
 )
 
-pub service_bounded : (bytes : List ℕ) (ls : List Lexeme) (name : List ℕ) (ds : List Draft) → IsText bytes ls → ls ≡ spell_service name ds → length ls < 2 ^ 64 → AreBounded ds
+pub service_bounded : (bytes : List ℕ) (ls : List Lexeme) (name : List ℕ) (ds : List Draft) → IsText bytes ls → ls ≡ spell_service name ds
+    → length ls < 2 ^ 64 → AreBounded ds
 service_bounded bytes ls name ds t e l =
     let fit = subst (AllFit 1048576) e (text_fits bytes ls t) in
     drafts_bounded ds _ fit.1.1.1 (omega (arith, ap length e))

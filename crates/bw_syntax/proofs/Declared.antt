@@ -15,17 +15,20 @@ use Rattle.bw_syntax.specs.declared.fault.SyntaxFault.{SyntaxFault}
 use Rattle.bw_syntax.specs.declared.fault.SyntaxFault.TheVariants as faults
 use Rattle.bw_syntax.specs.Refusals.{IsUnread, IsFirstUnread}
 
-pub inside_read : (before after : List (List ℕ)) (inside : List ℕ) (items : Forest) → IsTemplate after 64 inside items → ((ps : List Piece) → SpellsPieces ps inside → after ≡ with_names before (gap_names ps)) → IsInside before inside items after
+pub inside_read : (before after : List (List ℕ)) (inside : List ℕ) (items : Forest) → IsTemplate after 64 inside items
+    → ((ps : List Piece) → SpellsPieces ps inside → after ≡ with_names before (gap_names ps)) → IsInside before inside items after
 inside_read before after inside items r names = record { read = r; names = names r.pieces r.spelled }
 
 -- one declaration more
-pub one_more : (first middle last : List (List ℕ)) (ds : List Draft) (rs : List Declaration) (d : Draft) (r : Declaration) → AreRead first ds rs middle → IsRead middle d r last → AreRead first (ds ++ d ∷ []) (rs ++ r ∷ []) last
+pub one_more : (first middle last : List (List ℕ)) (ds : List Draft) (rs : List Declaration) (d : Draft) (r : Declaration)
+    → AreRead first ds rs middle → IsRead middle d r last → AreRead first (ds ++ d ∷ []) (rs ++ r ∷ []) last
 one_more first middle last [] [] d r p q = (last, subst (λ g. IsRead g d r last) p q, refl)
 one_more first middle last (c ∷ ds) (s ∷ rs) d r p q = (p.0, p.1, one_more p.0 middle last ds rs d r p.2 q)
 one_more first middle last ds rs d r p q = absurd p
 
 -- one declaration that is refused
-pub one_unread : (first middle : List (List ℕ)) (ds more : List Draft) (rs : List Declaration) (d : Draft) (fault : SyntaxFault) → AreRead first ds rs middle → IsUnread d fault → IsFirstUnread first (ds ++ d ∷ more) fault
+pub one_unread : (first middle : List (List ℕ)) (ds more : List Draft) (rs : List Declaration) (d : Draft) (fault : SyntaxFault)
+    → AreRead first ds rs middle → IsUnread d fault → IsFirstUnread first (ds ++ d ∷ more) fault
 one_unread first middle [] more [] d fault p q = inl q
 one_unread first middle (c ∷ ds) more (s ∷ rs) d fault p q = inr (s, p.0, p.1, one_unread p.0 middle ds more rs d fault p.2 q)
 one_unread first middle ds more rs d fault p q = absurd p

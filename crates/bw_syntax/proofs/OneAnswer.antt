@@ -45,7 +45,8 @@ one_draft bytes n m ds es d e =
     (ap parse_service (one_text bytes d.lexemes e.lexemes d.text e.text ∙ e.spelled) ∙ service_gives m es e.named e.formed) in
     (ap (λ x. x.0) same, ap (λ x. x.1) same)
 
-one_inside : (gaps next last : List (List ℕ)) (inside : List ℕ) (f g : Forest) → IsInside gaps inside f next → IsInside gaps inside g last → (f ≡ g) × (next ≡ last)
+one_inside : (gaps next last : List (List ℕ)) (inside : List ℕ) (f g : Forest) → IsInside gaps inside f next → IsInside gaps inside g last
+    → (f ≡ g) × (next ≡ last)
 one_inside gaps next last inside f g r s =
     let pieces = spelled_once r.read.pieces s.read.pieces inside r.read.spelled s.read.spelled in
     let names : next ≡ last = r.names ∙ ap (λ ps. with_names gaps (gap_names ps)) pieces ∙ sym s.names in
@@ -55,14 +56,16 @@ one_read : (gaps next last : List (List ℕ)) (d : Draft) (r s : Declaration) �
 one_read gaps next last (drafts.Template name inside) (declarations.Template t) (declarations.Template u) p q =
     let same = one_inside gaps next last inside t.items u.items p.1 q.1 in
     ((λ i. declarations.Template (record { name = (p.0 ∙ sym q.0) i; items = same.0 i })), same.1)
-one_read gaps next last (drafts.Shared kind name init) (declarations.Shared v) (declarations.Shared w) p q = (ap declarations.Shared (p.0 ∙ sym q.0), p.1 ∙ sym q.1)
+one_read gaps next last (drafts.Shared kind name init) (declarations.Shared v) (declarations.Shared w) p q =
+    (ap declarations.Shared (p.0 ∙ sym q.0), p.1 ∙ sym q.1)
 one_read gaps next last (drafts.Session s) (declarations.Session t) (declarations.Session u) p q = (ap declarations.Session (p.0 ∙ sym q.0), p.1 ∙ sym q.1)
 one_read gaps next last (drafts.Template name inside) (declarations.Template t) s p q = absurd q
 one_read gaps next last (drafts.Shared kind name init) (declarations.Shared v) s p q = absurd q
 one_read gaps next last (drafts.Session s) (declarations.Session t) u p q = absurd q
 one_read gaps next last d r s p q = absurd p
 
-are_one : (gaps last end : List (List ℕ)) (ds : List Draft) (rs ss : List Declaration) → AreRead gaps ds rs last → AreRead gaps ds ss end → (rs ≡ ss) × (last ≡ end)
+are_one : (gaps last end : List (List ℕ)) (ds : List Draft) (rs ss : List Declaration) → AreRead gaps ds rs last → AreRead gaps ds ss end
+    → (rs ≡ ss) × (last ≡ end)
 are_one gaps last end [] [] [] p q = (refl, p ∙ sym q)
 are_one gaps last end (d ∷ ds) (r ∷ rs) (s ∷ ss) p q =
     let same = one_read gaps p.0 q.0 d r s p.1 q.1 in
@@ -75,14 +78,16 @@ are_one gaps last end ds rs ss p q = absurd p
 -- ---- templates that are refused
 
 -- what is read isn't refused
-read_or_unread : (gaps next : List (List ℕ)) (d : Draft) (r : Declaration) (fault : SyntaxFault) → IsRead gaps d r next → IsUnread d fault → fault ≡ faults.Memory
+read_or_unread : (gaps next : List (List ℕ)) (d : Draft) (r : Declaration) (fault : SyntaxFault) → IsRead gaps d r next → IsUnread d fault
+    → fault ≡ faults.Memory
 read_or_unread gaps next (drafts.Template name inside) (declarations.Template t) (faults.Template n f) p q =
     absurd (q.2 (not_both next 64 inside t.items f p.1.read q.1))
 read_or_unread gaps next (drafts.Template name inside) r (faults.Template n f) p q = absurd p
 read_or_unread gaps next d r faults.Memory p q = refl
 read_or_unread gaps next d r fault p q = absurd q
 
-all_read : (gaps last : List (List ℕ)) (ds : List Draft) (rs : List Declaration) (fault : SyntaxFault) → AreRead gaps ds rs last → IsFirstUnread gaps ds fault → fault ≡ faults.Memory
+all_read : (gaps last : List (List ℕ)) (ds : List Draft) (rs : List Declaration) (fault : SyntaxFault) → AreRead gaps ds rs last
+    → IsFirstUnread gaps ds fault → fault ≡ faults.Memory
 all_read gaps last [] [] fault p q = q
 all_read gaps last (d ∷ ds) (r ∷ rs) fault p q =
     elim q [
@@ -99,7 +104,8 @@ one_unread d f faults.Memory p q a b = absurd (b refl)
 one_unread (drafts.Template name inside) (faults.Template n f) g p q a b = absurd q
 one_unread d f g p q a b = absurd p
 
-first_unread : (gaps : List (List ℕ)) (ds : List Draft) (f g : SyntaxFault) → IsFirstUnread gaps ds f → IsFirstUnread gaps ds g → f ≢ faults.Memory → g ≢ faults.Memory → f ≡ g
+first_unread : (gaps : List (List ℕ)) (ds : List Draft) (f g : SyntaxFault) → IsFirstUnread gaps ds f → IsFirstUnread gaps ds g → f ≢ faults.Memory
+    → g ≢ faults.Memory → f ≡ g
 first_unread gaps [] f g p q a b = absurd (a p)
 first_unread gaps (d ∷ ds) f g p q a b =
     elim p [
@@ -124,7 +130,8 @@ no_tokens bytes ls fault t u = let o = (read_exactly bytes t.tokens).0 t.cut in 
 lex_once : (bytes : List ℕ) (f g : LexFault) → IsUntokened bytes f → IsUntokened bytes g → f ≡ g
 lex_once bytes f g p q = let d = (refused_exactly bytes f).0 p in let e = (refused_exactly bytes g).0 q in cc
 
-great_is : (bytes name : List ℕ) (ds : List Draft) (rs : List Declaration) (gaps : List (List ℕ)) (limit : Limit) (n : ℕ) → IsDraft bytes name ds → AreRead [] ds rs gaps → IsGreat bytes limit n → too_many name gaps rs ≡ Some (limit, n)
+great_is : (bytes name : List ℕ) (ds : List Draft) (rs : List Declaration) (gaps : List (List ℕ)) (limit : Limit) (n : ℕ) → IsDraft bytes name ds
+    → AreRead [] ds rs gaps → IsGreat bytes limit n → too_many name gaps rs ≡ Some (limit, n)
 great_is bytes name ds rs gaps limit n d r g =
     let same = one_draft bytes name g.name ds g.drafts d g.drafted in
     let read = are_one [] gaps g.gaps g.drafts rs g.declarations (subst (λ ds. AreRead [] ds rs gaps) same.1 r) g.read in
@@ -142,7 +149,8 @@ unread_is bytes name ds fault d u = subst (λ ds. IsFirstUnread [] ds fault) (sy
 pub read_or_refused : NotBoth
 read_or_refused bytes s faults.TooLong r p = absurd (omega (arith, r.drafted.text.short))
 read_or_refused bytes s (faults.Lex fault) r p = absurd (no_tokens bytes r.drafted.lexemes fault r.drafted.text p.1)
-read_or_refused bytes s (faults.TooMany limit n) r (inl d) = not_some (limit, n) (too_deep r.drafted.lexemes) (deep_is bytes r.drafted.lexemes limit n r.drafted.text d) r.drafted.shallow
+read_or_refused bytes s (faults.TooMany limit n) r (inl d) =
+    not_some (limit, n) (too_deep r.drafted.lexemes) (deep_is bytes r.drafted.lexemes limit n r.drafted.text d) r.drafted.shallow
 read_or_refused bytes s (faults.TooMany limit n) r (inr g) =
     not_some (limit, n) (too_many s.name s.gaps r.declarations) (great_is bytes s.name r.drafts r.declarations s.gaps limit n r.drafted r.read g) r.within
 read_or_refused bytes s (faults.Syntax at) r p = absurd (no_service bytes s.name r.drafts at r.drafted p)
@@ -185,13 +193,15 @@ many_once : (bytes : List ℕ) (x y : Passed) → IsDeep bytes x.0 x.1 ⊎ IsGre
 many_once bytes x y (inl d) (inl e) = some_is x y (too_deep d.lexemes) d.passed (deep_is bytes d.lexemes y.0 y.1 d.text e)
 many_once bytes x y (inl d) (inr e) = absurd (deep_not_draft bytes e.name e.drafts x.0 x.1 d e.drafted)
 many_once bytes x y (inr d) (inl e) = absurd (deep_not_draft bytes d.name d.drafts y.0 y.1 e d.drafted)
-many_once bytes x y (inr d) (inr e) = some_is x y (too_many d.name d.gaps d.declarations) d.passed (great_is bytes d.name d.drafts d.declarations d.gaps y.0 y.1 d.drafted d.read e)
+many_once bytes x y (inr d) (inr e) =
+    some_is x y (too_many d.name d.gaps d.declarations) d.passed (great_is bytes d.name d.drafts d.declarations d.gaps y.0 y.1 d.drafted d.read e)
 
 many_not_syntax : (bytes : List ℕ) (limit : Limit) (n at : ℕ) → IsDeep bytes limit n ⊎ IsGreat bytes limit n → IsNoService bytes at → ⊥
 many_not_syntax bytes limit n at (inl d) s = not_some (limit, n) (too_deep s.lexemes) (deep_is bytes s.lexemes limit n s.text d) s.shallow
 many_not_syntax bytes limit n at (inr g) s = no_service bytes g.name g.drafts at g.drafted s
 
-many_not_template : (bytes : List ℕ) (limit : Limit) (m : ℕ) (fault : SyntaxFault) → IsDeep bytes limit m ⊎ IsGreat bytes limit m → IsUnreadDraft bytes fault → fault ≡ faults.Memory
+many_not_template : (bytes : List ℕ) (limit : Limit) (m : ℕ) (fault : SyntaxFault) → IsDeep bytes limit m ⊎ IsGreat bytes limit m
+    → IsUnreadDraft bytes fault → fault ≡ faults.Memory
 many_not_template bytes limit m fault (inl d) u = absurd (deep_not_draft bytes u.name u.drafts limit m d u.drafted)
 many_not_template bytes limit m fault (inr g) u = great_not_unread bytes limit m fault g u
 

@@ -8,10 +8,10 @@ use Rattle.bw_lang.specs.declared.declaration.Written.TheVariants as written
 use Rattle.bw_lang.specs.declared.stmt.Receive.{Receive}
 use Rattle.bw_lang.specs.declared.token.Lexeme.{Lexeme}
 use Rattle.bw_lang.specs.declared.token.Lexeme.TheVariants as lex
-use Rattle.bw_lang.specs.Code.{Code, done, declare, assign, if_then, if_else, while_loop, block, show, exit}
+use Rattle.bw_lang.specs.Code.{Code, done, declare, assign, if_then, if_else, while_loop, block, for_each, show, exit}
 use Rattle.bw_lang.specs.Drafts.{spell_literal, spell_draft}
 use Rattle.bw_lang.specs.Spelling.{spell, spell_pairs, spell_each, spell_receives, spell_test, spell_code}
-use Rattle.bw_lang.specs.Term.{Term, int, truth, string, name, paren, not, neg, binary, call, plug, Fillings, no_more, filling}
+use Rattle.bw_lang.specs.Term.{Term, int, truth, string, name, paren, not, neg, binary, call, plug, nothing, Fillings, no_more, filling}
 
 -- a template's inside has at most so many bytes
 abbrev pub Fits : ℕ → Lexeme → Type 0
@@ -30,6 +30,7 @@ mutual
   term_rest most (truth b) k h = h.1
   term_rest most (string s) k h = h.1
   term_rest most (name w) k h = h.1
+  term_rest most nothing k h = h.1
   term_rest most (paren e) k h = (term_rest most e (lex.Sign (codes ")") ∷ k) h.1).1
   term_rest most (not e) k h = term_rest most e k h.1
   term_rest most (neg e) k h = term_rest most e k h.1
@@ -59,6 +60,7 @@ code_rest most (assign w e r) k h = code_rest most r k (term_rest most e _ h.1.1
 code_rest most (if_then t y r) k h = code_rest most r k (code_rest most y _ (test_rest most t _ h.1).1).1
 code_rest most (if_else t y n r) k h = code_rest most r k (code_rest most n _ (code_rest most y _ (test_rest most t _ h.1).1).1.1.1).1
 code_rest most (while_loop t b r) k h = code_rest most r k (code_rest most b _ (test_rest most t _ h.1).1).1
+code_rest most (for_each w e b r) k h = code_rest most r k (code_rest most b _ (term_rest most e _ h.1.1.1.1).1.1).1
 code_rest most (block b r) k h = code_rest most r k (code_rest most b _ h.1).1
 code_rest most (show p rs r) k h = code_rest most r k (receives_rest most rs _ (term_rest most p _ h.1)).1
 code_rest most (exit p r) k h = code_rest most r k (term_rest most p _ h.1).1

@@ -9,7 +9,7 @@ use Rattle.bw_lang.specs.declared.declaration.Draft.TheVariants as drafts
 use Rattle.bw_lang.specs.declared.service.Session.{Session}
 use Rattle.bw_lang.specs.declared.service.Template.{Template}
 use Rattle.bw_lang.specs.CodeNames.{local_names}
-use Rattle.bw_lang.specs.Limits.{templates_of, sessions_of}
+use Rattle.bw_lang.specs.Sorted.{templates_of, sessions_of}
 use Rattle.bw_lang.specs.Measures.{constant_weight}
 use Rattle.bw_lang.specs.Reads.{AreRead}
 use Rattle.bw_tmpl.proofs.Weights.{items_bounded}
@@ -30,7 +30,11 @@ pub read_small : (before after : List (List ℕ)) (ds : List Draft) (rs : List D
 read_small before after [] [] p b = record { templates = All-nil IsLight; sessions = All-nil HasFewLocals }
 read_small before after (drafts.Template name inside ∷ ds) (declarations.Template t ∷ rs) p b =
     let rest = read_small p.0 after ds rs p.2 b.1 in
-    record { templates = All-cons IsLight t (templates_of rs) (omega (arith, items_bounded p.0 64 inside t.items p.1.1.read)) rest.templates; sessions = rest.sessions }
+    record {
+      templates = All-cons IsLight t (templates_of rs) (omega (arith, items_bounded p.0 64 inside t.items p.1.1.read))
+          rest.templates;
+      sessions = rest.sessions;
+    }
 read_small before after (drafts.Shared kind name init ∷ ds) (declarations.Shared v ∷ rs) p b =
     let rest = read_small p.0 after ds rs p.2 b.1 in record { templates = rest.templates; sessions = rest.sessions }
 read_small before after (drafts.Session s ∷ ds) (declarations.Session t ∷ rs) p b =

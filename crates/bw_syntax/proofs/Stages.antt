@@ -51,9 +51,10 @@ unparsed_refuses bytes ls fault t u = absurd u
 pub drafted : (bytes : List ℕ) (ls : List Lexeme) (name : List ℕ) (ds : List Draft) → IsText bytes ls → IsParsed ls name ds → IsDraft bytes name ds
 drafted bytes ls name ds t p = record { lexemes = ls; text = t; shallow = p.shallow; named = p.named; formed = p.formed; spelled = p.spelled }
 
-draft_refuses : (bytes name : List ℕ) (ds : List Draft) (fault : SyntaxFault) → IsDraft bytes name ds → IsRefusedDraft name ds fault → Refuses bytes fault
+pub draft_refuses : (bytes name : List ℕ) (ds : List Draft) (fault : SyntaxFault) → IsDraft bytes name ds → IsRefusedDraft name ds fault → Refuses bytes fault
 draft_refuses bytes name ds (faults.Template n f) d u = record { name = name; drafts = ds; drafted = d; unread = u }
-draft_refuses bytes name ds (faults.TooMany limit n) d u = inr (record { name = name; drafts = ds; drafted = d; declarations = u.0; gaps = u.1; read = u.2; passed = u.3 })
+draft_refuses bytes name ds (faults.TooMany limit n) d u =
+    inr (record { name = name; drafts = ds; drafted = d; declarations = u.0; gaps = u.1; read = u.2; passed = u.3 })
 draft_refuses bytes name ds faults.Memory d u = tt
 draft_refuses bytes name ds fault d u = absurd u
 
@@ -61,17 +62,20 @@ draft_reads : (bytes name : List ℕ) (ds : List Draft) (service : Service) → 
 draft_reads bytes name ds service d s =
     subst (Reads bytes) (sym s.whole) (record { drafts = ds; drafted = d; declarations = s.declarations; read = s.read; within = s.within; whole = refl })
 
-pub finish_reads : (answer : Result Service SyntaxFault) (bytes name : List ℕ) (ds : List Draft) → IsDraft bytes name ds → IfOk answer (IsServiceOf name ds) → IfOk answer (Reads bytes)
+pub finish_reads : (answer : Result Service SyntaxFault) (bytes name : List ℕ) (ds : List Draft) → IsDraft bytes name ds
+    → IfOk answer (IsServiceOf name ds) → IfOk answer (Reads bytes)
 finish_reads (Ok s) bytes name ds d h = draft_reads bytes name ds s d h
 finish_reads (Err e) bytes name ds d h = tt
 
-pub finish_refuses : (answer : Result Service SyntaxFault) (bytes name : List ℕ) (ds : List Draft) → IsDraft bytes name ds → IfErr answer (IsRefusedDraft name ds) → IfErr answer (Refuses bytes)
+pub finish_refuses : (answer : Result Service SyntaxFault) (bytes name : List ℕ) (ds : List Draft) → IsDraft bytes name ds
+    → IfErr answer (IsRefusedDraft name ds) → IfErr answer (Refuses bytes)
 finish_refuses (Ok s) bytes name ds d h = tt
 finish_refuses (Err e) bytes name ds d h = draft_refuses bytes name ds e d h
 
 -- ---- the answer is the only one
 
-pub only_read : (answer : Result Service SyntaxFault) (bytes : List ℕ) → IfOk answer (Reads bytes) → IfErr answer (Refuses bytes) → (service : Service) → Reads bytes service → (answer ≡ Err faults.Memory) ⊎ (answer ≡ Ok service)
+pub only_read : (answer : Result Service SyntaxFault) (bytes : List ℕ) → IfOk answer (Reads bytes) → IfErr answer (Refuses bytes)
+    → (service : Service) → Reads bytes service → (answer ≡ Err faults.Memory) ⊎ (answer ≡ Ok service)
 only_read (Ok s) bytes r n service q = inr (ap Ok (reads_once bytes s service r q))
 only_read (Err e) bytes r n service q = inl (ap Err (read_or_refused bytes service e q n))
 
@@ -97,7 +101,8 @@ memory_or (faults.TooMany l n) = inr (λ e. cc)
 memory_or (faults.Syntax at) = inr (λ e. cc)
 memory_or (faults.Template n f) = inr (λ e. cc)
 
-pub only_refused : (answer : Result Service SyntaxFault) (bytes : List ℕ) → IfOk answer (Reads bytes) → IfErr answer (Refuses bytes) → (fault : SyntaxFault) → Refuses bytes fault → IsSameAnswer answer fault
+pub only_refused : (answer : Result Service SyntaxFault) (bytes : List ℕ) → IfOk answer (Reads bytes) → IfErr answer (Refuses bytes)
+    → (fault : SyntaxFault) → Refuses bytes fault → IsSameAnswer answer fault
 only_refused (Ok s) bytes r n fault q = read_or_refused bytes s fault r q
 only_refused (Err e) bytes r n fault q =
     same_answer e fault (elim (memory_or e) [

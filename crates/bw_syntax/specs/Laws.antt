@@ -1,5 +1,5 @@
 -- Laws of reading.
-use Rattle.std.specs.Prelude.{◌≡◌, ◌≢◌, ℕ, List}
+use Rattle.std.specs.Prelude.{◌≡◌, ◌≢◌, ◌⊎◌, ℕ, List}
 use Rattle.bw_lang.specs.declared.service.Service.{Service}
 use Rattle.bw_lang.specs.Reads.{Reads}
 use Rattle.bw_syntax.specs.declared.fault.SyntaxFault.{SyntaxFault}
@@ -19,3 +19,8 @@ abbrev pub OneReason : Type 0
 OneReason =
     (bytes : List ℕ) (fault other : SyntaxFault) → Refuses bytes fault → Refuses bytes other → fault ≢ Memory → other ≢ Memory →
     IsSameFault fault other
+
+-- bytes read as a service, or there is a reason beside want of memory
+abbrev pub ReadOrRefused : Type 0
+ReadOrRefused =
+    (bytes : List ℕ) → ((service : Service) × Reads bytes service) ⊎ ((fault : SyntaxFault) × (fault ≢ Memory) × Refuses bytes fault)

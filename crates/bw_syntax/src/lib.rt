@@ -9,5 +9,5 @@ mod reading;
 mod templates;
 
 pub use fault::SyntaxFault;
-pub use laws::one_answer;
+pub use laws::{always_an_answer, one_answer};
 pub use reading::read_service;

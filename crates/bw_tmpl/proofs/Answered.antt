@@ -1,5 +1,5 @@
 -- Bytes are a template, or there is a reason why not.
-use Rattle.std.proofs.Common.{◌≡◌, ◌≢◌, ℕ, ◌<◌, ◌≤◌, Bool, true, false, ◌⊎◌, inl, inr, List, [], ◌∷◌, Option, Some, None, refl, arith}
+use Rattle.std.proofs.Common.{◌≡◌, ◌≢◌, ℕ, Bool, true, false, ◌⊎◌, inl, inr, List, [], ◌∷◌, Option, Some, None, refl, arith}
 use Rattle.std.proofs.lemmas.Bool.{cases_lt}
 use Rattle.bw_lang.specs.Forest.{Forest}
 use Rattle.bw_lang.specs.declared.pieces.Piece.{Piece}
@@ -15,7 +15,7 @@ use Rattle.bw_tmpl.specs.Reading.{pieces_of}
 use Rattle.bw_tmpl.specs.Refusals.{RefusedBy}
 use Rattle.bw_tmpl.proofs.Depths.{depth_reads}
 use Rattle.bw_tmpl.proofs.Refusals.{unread, refused, has_gap}
-use Rattle.bw_tmpl.proofs.Spelled.{pieces_spelled}
+use Rattle.bw_tmpl.proofs.SpelledPieces.{pieces_spelled}
 
 abbrev Answer : (List Piece → List ℕ → Type 0) → List (List ℕ) → ℕ → List ℕ → Type 0
 Answer S names most bytes = ((f : Forest) × ReadsBy S names most bytes f) ⊎ ((e : TmplFault) × (e ≢ fault.Memory) × RefusedBy S most bytes e)

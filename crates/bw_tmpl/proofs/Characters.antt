@@ -5,7 +5,8 @@ use Rattle.std.proofs.lemmas.Bool.Decides.{nat_tests}
 use Rattle.std.proofs.lemmas.List.{length-append}
 use Rattle.bw_tmpl.specs.Reading.{stripped, as_char, ref_at, char_at, each}
 use Rattle.bw_lang.specs.Pieces.{IsRef, IsChar}
-use Rattle.bw_tmpl.proofs.Many.{map_or_some, cond_none, some_is, stripped_is, Shrinks, onto, onto_more, onto_none}
+use Rattle.bw_lang.proofs.Options.{where_cases, cond_none, some_is}
+use Rattle.bw_tmpl.proofs.Many.{stripped_is, Shrinks, onto, onto_more, onto_none}
 
 abbrev Written : ℕ → List ℕ → List ℕ → Type 0
 Written c bytes rest = (w : List ℕ) × IsRef c w × (bytes ≡ w ++ rest)
@@ -15,21 +16,22 @@ as_char_is c rest x h = let e = some_is (c, rest) x h in (sym (ap (λ (p : ℕ �
 
 ref_is : (bytes : List ℕ) (x : ℕ × List ℕ) → ref_at bytes ≡ Some x → Written x.0 bytes x.1
 ref_is bytes x h =
-    elim (map_or_some (stripped (codes "&amp;") bytes) (as_char 38) _ x h) [
+    elim (where_cases (stripped (codes "&amp;") bytes) (as_char 38) _ (Some x) h) [
       | inl a ↦
           let e = as_char_is 38 a.0 x a.2 in (codes "&amp;", inl (e.0, refl), stripped_is (codes "&amp;") bytes x.1 (a.1 ∙ ap Some e.1))
       | inr n ↦
-          elim (map_or_some (stripped (codes "&lt;") bytes) (as_char 60) _ x n.1) [
+          elim (where_cases (stripped (codes "&lt;") bytes) (as_char 60) _ (Some x) n.1) [
             | inl a ↦
                 let e = as_char_is 60 a.0 x a.2 in (codes "&lt;", inr (inl (e.0, refl)), stripped_is (codes "&lt;") bytes x.1 (a.1 ∙ ap Some e.1))
             | inr m ↦
-                elim (map_or_some (stripped (codes "&gt;") bytes) (as_char 62) _ x m.1) [
+                elim (where_cases (stripped (codes "&gt;") bytes) (as_char 62) _ (Some x) m.1) [
                   | inl a ↦
                       let e = as_char_is 62 a.0 x a.2 in (codes "&gt;", inr (inr (inl (e.0, refl))), stripped_is (codes "&gt;") bytes x.1 (a.1 ∙ ap Some e.1))
                   | inr k ↦
-                      elim (map_or_some (stripped (codes "&quot;") bytes) (as_char 34) _ x k.1) [
+                      elim (where_cases (stripped (codes "&quot;") bytes) (as_char 34) _ (Some x) k.1) [
                         | inl a ↦
-                            let e = as_char_is 34 a.0 x a.2 in (codes "&quot;", inr (inr (inr (e.0, refl))), stripped_is (codes "&quot;") bytes x.1 (a.1 ∙ ap Some e.1))
+                            let e = as_char_is 34 a.0 x a.2 in
+                            (codes "&quot;", inr (inr (inr (e.0, refl))), stripped_is (codes "&quot;") bytes x.1 (a.1 ∙ ap Some e.1))
                         | inr z ↦ absurd (none_is x z.1)
                       ]
                 ]
@@ -39,7 +41,8 @@ ref_is bytes x h =
     none_is : (x : ℕ × List ℕ) → None ≡ Some x → ⊥
     none_is x h = cc
 
-plain_is : (stop b : ℕ) (bs : List ℕ) (x : ℕ × List ℕ) (v : Bool) → nat_eq b 38 ≡ v → (if v then ref_at (b ∷ bs) else if b == 60 || b == stop then None else Some (b, bs)) ≡ Some x → IsChar stop x.0 (b ∷ bs) x.1
+plain_is : (stop b : ℕ) (bs : List ℕ) (x : ℕ × List ℕ) (v : Bool) → nat_eq b 38 ≡ v
+    → (if v then ref_at (b ∷ bs) else if b == 60 || b == stop then None else Some (b, bs)) ≡ Some x → IsChar stop x.0 (b ∷ bs) x.1
 plain_is stop b bs x true e h = inr (ref_is (b ∷ bs) x h)
 plain_is stop b bs x false e h =
     let n = cond_none (b == 60 || b == stop) (Some (b, bs)) x h in
@@ -75,18 +78,24 @@ char_written stop c bytes rest (inr h) = ap (char_at stop) h.2 ∙ ref_written s
 
 char_shorter : (stop c : ℕ) (bytes rest : List ℕ) → IsChar stop c bytes rest → length rest < length bytes
 char_shorter stop c bytes rest (inl h) = let e = ap length h.0 in omega arith
-char_shorter stop c bytes rest (inr (w, inl h, p)) = let e : length bytes ≡ length (w ++ rest) = ap length p in let k = length-append w rest in let m : length w ≡ 5 = ap length h.1 in omega arith
-char_shorter stop c bytes rest (inr (w, inr (inl h), p)) = let e : length bytes ≡ length (w ++ rest) = ap length p in let k = length-append w rest in let m : length w ≡ 4 = ap length h.1 in omega arith
-char_shorter stop c bytes rest (inr (w, inr (inr (inl h)), p)) = let e : length bytes ≡ length (w ++ rest) = ap length p in let k = length-append w rest in let m : length w ≡ 4 = ap length h.1 in omega arith
-char_shorter stop c bytes rest (inr (w, inr (inr (inr h)), p)) = let e : length bytes ≡ length (w ++ rest) = ap length p in let k = length-append w rest in let m : length w ≡ 6 = ap length h.1 in omega arith
+char_shorter stop c bytes rest (inr (w, inl h, p)) =
+    let e : length bytes ≡ length (w ++ rest) = ap length p in let k = length-append w rest in let m : length w ≡ 5 = ap length h.1 in omega arith
+char_shorter stop c bytes rest (inr (w, inr (inl h), p)) =
+    let e : length bytes ≡ length (w ++ rest) = ap length p in let k = length-append w rest in let m : length w ≡ 4 = ap length h.1 in omega arith
+char_shorter stop c bytes rest (inr (w, inr (inr (inl h)), p)) =
+    let e : length bytes ≡ length (w ++ rest) = ap length p in let k = length-append w rest in let m : length w ≡ 4 = ap length h.1 in omega arith
+char_shorter stop c bytes rest (inr (w, inr (inr (inr h)), p)) =
+    let e : length bytes ≡ length (w ++ rest) = ap length p in let k = length-append w rest in let m : length w ≡ 6 = ap length h.1 in omega arith
 
 pub char_shrinks : (stop : ℕ) → Shrinks (char_at stop)
 char_shrinks stop = record { less = λ bytes x e. char_shorter stop x.0 bytes x.1 (char_is stop bytes x e) }
 
 -- ---- for the loop
 
-pub chars_more : (stop : ℕ) (front : List ℕ) (bytes : List ℕ) (c : ℕ) (rest : List ℕ) (total : List ℕ × List ℕ) → char_at stop bytes ≡ Some (c, rest) → onto front (each (char_at stop) bytes) ≡ total → onto (front ++ c ∷ []) (each (char_at stop) rest) ≡ total
+pub chars_more : (stop : ℕ) (front : List ℕ) (bytes : List ℕ) (c : ℕ) (rest : List ℕ) (total : List ℕ × List ℕ) → char_at stop bytes ≡ Some (c, rest)
+    → onto front (each (char_at stop) bytes) ≡ total → onto (front ++ c ∷ []) (each (char_at stop) rest) ≡ total
 chars_more stop = onto_more (char_at stop) (char_shrinks stop)
 
-pub chars_end : (stop : ℕ) (front : List ℕ) (bytes : List ℕ) (total : List ℕ × List ℕ) → char_at stop bytes ≡ None → onto front (each (char_at stop) bytes) ≡ total → total ≡ (front, bytes)
+pub chars_end : (stop : ℕ) (front : List ℕ) (bytes : List ℕ) (total : List ℕ × List ℕ) → char_at stop bytes ≡ None
+    → onto front (each (char_at stop) bytes) ≡ total → total ≡ (front, bytes)
 chars_end stop = onto_none (char_at stop) (char_shrinks stop)

@@ -1,5 +1,5 @@
 -- What reading answers is determined.
-use Rattle.std.proofs.Common.{◌≡◌, ℕ, true, false, List, [], Some, refl, sym, ap, subst, ◌∙◌, arith}
+use Rattle.std.proofs.Common.{◌≡◌, ℕ, true, false, List, [], refl, sym, ap, subst, ◌∙◌, arith}
 use Rattle.bw_lang.specs.Forest.{Forest}
 use Rattle.bw_lang.specs.declared.pieces.Piece.{Piece}
 use Rattle.bw_tmpl.specs.declared.fault.TmplFault.{TmplFault}
@@ -11,15 +11,13 @@ use Rattle.bw_lang.specs.Pieces.{SpellsPieces}
 use Rattle.bw_lang.specs.Templates.{ReadsBy, SpellsClosed}
 use Rattle.bw_tmpl.specs.Refusals.{RefusedBy}
 use Rattle.bw_tmpl.specs.Laws.{OneTemplate, NotBoth, OneReason, OneClosedTemplate, NotBothClosed, OneClosedReason}
+use Rattle.bw_lang.proofs.Options.{some_is}
 use Rattle.bw_tmpl.proofs.Inverse.{reads_once}
 use Rattle.bw_tmpl.proofs.Depths.{reads_depth}
 use Rattle.bw_tmpl.proofs.Spelled.{spelled_once}
 
 true_false : true ≡ false → ⊥
 true_false p = cc
-
-some_is : (m n : ℕ) → Some m ≡ Some n → m ≡ n
-some_is m n p = cc
 
 -- items of the same pieces stand as deep in one another, whatever the tables
 same_nesting : (ps : List Piece) (names others : List (List ℕ)) (f g : Forest) → ReadsAs names ps f → ReadsAs others ps g → nest f ≡ nest g
@@ -35,10 +33,12 @@ module _ (S : List Piece → List ℕ → Type 0) (once : (ps qs : List Piece) (
   repeats_and_not ps qs bytes p q t f = true_false (sym t ∙ ap repeats (once ps qs bytes p q) ∙ f)
 
   -- pieces can't both read as items and as none
-  reads_and_not : (ps qs : List Piece) (bytes : List ℕ) (names : List (List ℕ)) (f : Forest) → S ps bytes → S qs bytes → ReadsAs names ps f → ((table : List (List ℕ)) (g : Forest) → ReadsAs table qs g → ⊥) → ⊥
+  reads_and_not : (ps qs : List Piece) (bytes : List ℕ) (names : List (List ℕ)) (f : Forest) → S ps bytes → S qs bytes → ReadsAs names ps f
+      → ((table : List (List ℕ)) (g : Forest) → ReadsAs table qs g → ⊥) → ⊥
   reads_and_not ps qs bytes names f p q r n = n names f (subst (λ (l : List Piece). ReadsAs names l f) (once ps qs bytes p q) r)
 
-  both : (names : List (List ℕ)) (most : ℕ) (bytes : List ℕ) (f : Forest) (e : TmplFault) → ReadsBy S names most bytes f → RefusedBy S most bytes e → e ≡ fault.Memory
+  both : (names : List (List ℕ)) (most : ℕ) (bytes : List ℕ) (f : Forest) (e : TmplFault) → ReadsBy S names most bytes f → RefusedBy S most bytes e
+      → e ≡ fault.Memory
   both names most bytes f fault.Malformed p r = absurd (r p.pieces p.spelled)
   both names most bytes f fault.RepeatedAttribute p r = absurd (repeats_and_not r.pieces p.pieces bytes r.spelled p.spelled r.twice p.once)
   both names most bytes f fault.Mismatched p r = absurd (reads_and_not p.pieces r.pieces bytes names f p.spelled r.spelled p.reads r.no_items)
@@ -47,7 +47,8 @@ module _ (S : List Piece → List ℕ → Type 0) (once : (ps qs : List Piece) (
       let n = same_nesting r.pieces names r.names f r.items read r.reads in absurd (omega (arith, p.nested, r.deeper, n))
   both names most bytes f fault.Memory p r = refl
 
-  reason : (most : ℕ) (bytes : List ℕ) (d e : TmplFault) → RefusedBy S most bytes d → RefusedBy S most bytes e → (d ≡ fault.Memory → ⊥) → (e ≡ fault.Memory → ⊥) → d ≡ e
+  reason : (most : ℕ) (bytes : List ℕ) (d e : TmplFault) → RefusedBy S most bytes d → RefusedBy S most bytes e → (d ≡ fault.Memory → ⊥)
+      → (e ≡ fault.Memory → ⊥) → d ≡ e
   reason most bytes fault.Memory e p q m n = absurd (m refl)
   reason most bytes fault.Malformed fault.Memory p q m n = absurd (n refl)
   reason most bytes fault.Malformed fault.Malformed p q m n = refl
@@ -63,11 +64,13 @@ module _ (S : List Piece → List ℕ → Type 0) (once : (ps qs : List Piece) (
   reason most bytes fault.Mismatched fault.Malformed p q m n = absurd (q p.pieces p.spelled)
   reason most bytes fault.Mismatched fault.RepeatedAttribute p q m n = absurd (repeats_and_not q.pieces p.pieces bytes q.spelled p.spelled q.twice p.once)
   reason most bytes fault.Mismatched fault.Mismatched p q m n = refl
-  reason most bytes fault.Mismatched fault.Nesting p q m n = absurd (reads_and_not q.pieces p.pieces bytes q.names q.items q.spelled p.spelled q.reads p.no_items)
+  reason most bytes fault.Mismatched fault.Nesting p q m n =
+      absurd (reads_and_not q.pieces p.pieces bytes q.names q.items q.spelled p.spelled q.reads p.no_items)
   reason most bytes fault.Nesting fault.Memory p q m n = absurd (n refl)
   reason most bytes fault.Nesting fault.Malformed p q m n = absurd (q p.pieces p.spelled)
   reason most bytes fault.Nesting fault.RepeatedAttribute p q m n = absurd (repeats_and_not q.pieces p.pieces bytes q.spelled p.spelled q.twice p.once)
-  reason most bytes fault.Nesting fault.Mismatched p q m n = absurd (reads_and_not p.pieces q.pieces bytes p.names p.items p.spelled q.spelled p.reads q.no_items)
+  reason most bytes fault.Nesting fault.Mismatched p q m n =
+      absurd (reads_and_not p.pieces q.pieces bytes p.names p.items p.spelled q.spelled p.reads q.no_items)
   reason most bytes fault.Nesting fault.Nesting p q m n = refl
 
 closed_once : (ps qs : List Piece) (bytes : List ℕ) → SpellsClosed ps bytes → SpellsClosed qs bytes → ps ≡ qs

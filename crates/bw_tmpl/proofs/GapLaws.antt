@@ -1,5 +1,6 @@
 -- Laws of the gaps of pieces.
-use Rattle.std.proofs.Common.{◌≡◌, ◌<◌, ◌≤◌, ◌+◌, ℕ, suc, true, false, cond, ◌⊎◌, inl, inr, List, [], ◌∷◌, ◌++◌, map, length, refl, sym, ap, subst, ◌∙◌, arith, count_by, append_assoc, get_or, drop, drop-cons}
+use Rattle.std.proofs.Common.{◌≡◌, ◌<◌, ◌≤◌, ◌+◌, ℕ, suc, true, false, cond, ◌⊎◌, inl, inr, List, [], ◌∷◌, ◌++◌, map, length, refl, sym, ap, subst}
+use Rattle.std.proofs.Common.{◌∙◌, arith, count_by, append_assoc, get_or, drop, drop-cons}
 use Rattle.std.specs.Prelude.{◌==◌}
 use Rattle.std.specs.List.{All}
 use Rattle.std.proofs.lemmas.Bool.Decides.{nat_tests}
@@ -22,7 +23,8 @@ use Rattle.bw_lang.specs.PieceItems.{ReadsPieces, ReadsAs}
 
 pub gap_names_append : (ps qs : List Piece) → gap_names (ps ++ qs) ≡ gap_names ps ++ gap_names qs
 gap_names_append [] qs = refl
-gap_names_append (p ∷ ps) qs = ap (λ (l : List (List ℕ)). piece_gaps p ++ l) (gap_names_append ps qs) ∙ sym (append_assoc (piece_gaps p) (gap_names ps) (gap_names qs))
+gap_names_append (p ∷ ps) qs =
+    ap (λ (l : List (List ℕ)). piece_gaps p ++ l) (gap_names_append ps qs) ∙ sym (append_assoc (piece_gaps p) (gap_names ps) (gap_names qs))
 
 -- taking in the names of a front, and then those behind it
 pub with_more : (names front behind : List (List ℕ)) → with_names (with_names names front) behind ≡ with_names names (front ++ behind)
@@ -42,11 +44,13 @@ numbers_cons names g n ns = sum_by-cons (λ (m : List ℕ). cond (number names m
 numbers_append : (names : List (List ℕ)) (g : ℕ) (a b : List (List ℕ)) → numbers names g (a ++ b) ≡ numbers names g a + numbers names g b
 numbers_append names g a b = sum_by-append (λ (m : List ℕ). cond (number names m == g) 1 0) a b
 
-value_counted : (names : List (List ℕ)) (g : ℕ) (v : RawValue) (rest : List (List ℕ)) → one_if (is_hole g (numbered_value names v)) + numbers names g rest ≡ numbers names g (value_gaps v ++ rest)
+value_counted : (names : List (List ℕ)) (g : ℕ) (v : RawValue) (rest : List (List ℕ))
+    → one_if (is_hole g (numbered_value names v)) + numbers names g rest ≡ numbers names g (value_gaps v ++ rest)
 value_counted names g (raw.Fixed v) rest = omega arith
 value_counted names g (raw.Hole n) rest = sym (numbers_cons names g n rest)
 
-attrs_counted : (names : List (List ℕ)) (g : ℕ) (attrs : List RawAttr) → count_by (λ a. is_hole g a.value) (map (numbered names) attrs) ≡ numbers names g (attr_gaps attrs)
+attrs_counted : (names : List (List ℕ)) (g : ℕ) (attrs : List RawAttr)
+    → count_by (λ a. is_hole g a.value) (map (numbered names) attrs) ≡ numbers names g (attr_gaps attrs)
 attrs_counted names g [] = refl
 attrs_counted names g (a ∷ attrs) =
     sum_by-cons (λ (b : Attr). cond (is_hole g b.value) 1 0) (numbered names a) (map (numbered names) attrs)
@@ -55,19 +59,29 @@ attrs_counted names g (a ∷ attrs) =
 abbrev Counted : List (List ℕ) → ℕ → Forest → Type 0
 Counted names g f = (ps rest : List Piece) → ReadsPieces names f ps rest → numbers names g (gap_names ps) ≡ count g f + numbers names g (gap_names rest)
 
-tag_counted : (names : List (List ℕ)) (g : ℕ) (attrs : List Attr) (t : Tag) (rest : List Piece) → attrs ≡ map (numbered names) t.attrs → numbers names g (attr_gaps t.attrs ++ gap_names rest) ≡ count_by (λ a. is_hole g a.value) attrs + numbers names g (gap_names rest)
+tag_counted : (names : List (List ℕ)) (g : ℕ) (attrs : List Attr) (t : Tag) (rest : List Piece) → attrs ≡ map (numbered names) t.attrs
+    → numbers names g (attr_gaps t.attrs ++ gap_names rest) ≡ count_by (λ a. is_hole g a.value) attrs + numbers names g (gap_names rest)
 tag_counted names g attrs t rest e =
-    omega (arith, numbers_append names g (attr_gaps t.attrs) (gap_names rest), attrs_counted names g t.attrs, ap (λ (l : List Attr). count_by (λ a. is_hole g a.value) l) e)
+    omega (
+      arith,
+      numbers_append names g (attr_gaps t.attrs) (gap_names rest),
+      attrs_counted names g t.attrs,
+      ap (λ (l : List Attr). count_by (λ a. is_hole g a.value) l) e,
+    )
 
-element_counted : (names : List (List ℕ)) (g : ℕ) (attrs : List Attr) (inner : Forest) (ps qs : List Piece) (t : Tag) → Counted names g inner → attrs ≡ map (numbered names) t.attrs
-    → (((ps ≡ piece.Whole t ∷ qs) × (inner ≡ none)) ⊎ (((ps ≡ piece.Start t ∷ qs) × (is_void t.name ≡ true) × (inner ≡ none)) ⊎ ((mid : List Piece) × (ps ≡ piece.Start t ∷ mid) × (is_void t.name ≡ false) × ReadsPieces names inner mid (piece.End t.name ∷ qs))))
+element_counted : (names : List (List ℕ)) (g : ℕ) (attrs : List Attr) (inner : Forest) (ps qs : List Piece) (t : Tag) → Counted names g inner
+    → attrs ≡ map (numbered names) t.attrs
+    → (((ps ≡ piece.Whole t ∷ qs) × (inner ≡ none))
+    ⊎ (((ps ≡ piece.Start t ∷ qs) × (is_void t.name ≡ true) × (inner ≡ none))
+    ⊎ ((mid : List Piece) × (ps ≡ piece.Start t ∷ mid) × (is_void t.name ≡ false) × ReadsPieces names inner mid (piece.End t.name ∷ qs))))
     → numbers names g (gap_names ps) ≡ count_by (λ a. is_hole g a.value) attrs + count g inner + numbers names g (gap_names qs)
 element_counted names g attrs inner ps qs t ih e (inl w) =
     let p = ap (λ (l : List Piece). numbers names g (gap_names l)) w.0 in omega (arith, p, tag_counted names g attrs t qs e, ap (count g) w.1)
 element_counted names g attrs inner ps qs t ih e (inr (inl w)) =
     let p = ap (λ (l : List Piece). numbers names g (gap_names l)) w.0 in omega (arith, p, tag_counted names g attrs t qs e, ap (count g) w.2)
 element_counted names g attrs inner ps qs t ih e (inr (inr w)) =
-    let p = ap (λ (l : List Piece). numbers names g (gap_names l)) w.1 in omega (arith, p, tag_counted names g attrs t w.0 e, ih w.0 (piece.End t.name ∷ qs) w.3)
+    let p = ap (λ (l : List Piece). numbers names g (gap_names l)) w.1 in
+    omega (arith, p, tag_counted names g attrs t w.0 e, ih w.0 (piece.End t.name ∷ qs) w.3)
 
 -- as many gaps of a number are open as there are names with this number
 pub reads_counted : (names : List (List ℕ)) (g : ℕ) (f : Forest) → Counted names g f
@@ -90,9 +104,11 @@ none_beyond names g (n ∷ ns) le all =
     let rest : numbers names g ns ≡ 0 = none_beyond names g ns le (λ (k : ℕ) (d : List ℕ) (h : k < length ns). all (suc k) d (omega arith)) in
     omega (arith, numbers_cons names g n ns, ap one_if other, rest)
 
-pub none_unknown : (old names : List (List ℕ)) (ps : List Piece) (f : Forest) → names ≡ with_names old (gap_names ps) → ReadsAs names ps f → (g : ℕ) → length names ≤ g → count g f ≡ 0
+pub none_unknown : (old names : List (List ℕ)) (ps : List Piece) (f : Forest) → names ≡ with_names old (gap_names ps) → ReadsAs names ps f → (g : ℕ)
+    → length names ≤ g → count g f ≡ 0
 none_unknown old names ps f e r g le =
-    let all : All (λ n. number names n < length names) (gap_names ps) = subst (λ (t : List (List ℕ)). All (λ n. number t n < length t) (gap_names ps)) (sym e) (added_are_there old (gap_names ps)) in
+    let all : All (λ n. number names n < length names) (gap_names ps) =
+    subst (λ (t : List (List ℕ)). All (λ n. number t n < length t) (gap_names ps)) (sym e) (added_are_there old (gap_names ps)) in
     omega (arith, reads_counted names g f ps [] r, none_beyond names g (gap_names ps) le all)
 
 pub none_open : (names : List (List ℕ)) (ps : List Piece) (f : Forest) → gap_names ps ≡ [] → ReadsAs names ps f → (g : ℕ) → count g f ≡ 0
@@ -128,11 +144,16 @@ abbrev Alike : List (List ℕ) → List (List ℕ) → Forest → Type 0
 Alike names others f = (ps rest : List Piece) → gap_names ps ≡ [] → ReadsPieces names f ps rest → ReadsPieces others f ps rest × (gap_names rest ≡ [])
 
 abbrev pub Ways : List (List ℕ) → Forest → Tag → List Piece → List Piece → Type 0
-Ways names inner t ps qs = ((ps ≡ piece.Whole t ∷ qs) × (inner ≡ none)) ⊎ (((ps ≡ piece.Start t ∷ qs) × (is_void t.name ≡ true) × (inner ≡ none)) ⊎ ((mid : List Piece) × (ps ≡ piece.Start t ∷ mid) × (is_void t.name ≡ false) × ReadsPieces names inner mid (piece.End t.name ∷ qs)))
+Ways names inner t ps qs =
+    ((ps ≡ piece.Whole t ∷ qs) × (inner ≡ none))
+    ⊎ (((ps ≡ piece.Start t ∷ qs) × (is_void t.name ≡ true) × (inner ≡ none))
+    ⊎ ((mid : List Piece) × (ps ≡ piece.Start t ∷ mid) × (is_void t.name ≡ false) × ReadsPieces names inner mid (piece.End t.name ∷ qs)))
 
-element_alike : (names others : List (List ℕ)) (inner : Forest) (ps qs : List Piece) (t : Tag) → Alike names others inner → gap_names ps ≡ [] → Ways names inner t ps qs → Ways others inner t ps qs × (attr_gaps t.attrs ≡ []) × (gap_names qs ≡ [])
+element_alike : (names others : List (List ℕ)) (inner : Forest) (ps qs : List Piece) (t : Tag) → Alike names others inner → gap_names ps ≡ []
+    → Ways names inner t ps qs → Ways others inner t ps qs × (attr_gaps t.attrs ≡ []) × (gap_names qs ≡ [])
 element_alike names others inner ps qs t ih e (inl w) = let k = both_empty (attr_gaps t.attrs) (gap_names qs) (sym (ap gap_names w.0) ∙ e) in (inl w, k.0, k.1)
-element_alike names others inner ps qs t ih e (inr (inl w)) = let k = both_empty (attr_gaps t.attrs) (gap_names qs) (sym (ap gap_names w.0) ∙ e) in (inr (inl w), k.0, k.1)
+element_alike names others inner ps qs t ih e (inr (inl w)) =
+    let k = both_empty (attr_gaps t.attrs) (gap_names qs) (sym (ap gap_names w.0) ∙ e) in (inr (inl w), k.0, k.1)
 element_alike names others inner ps qs t ih e (inr (inr w)) =
     let k = both_empty (attr_gaps t.attrs) (gap_names w.0) (sym (ap gap_names w.1) ∙ e) in
     let i = ih w.0 (piece.End t.name ∷ qs) k.1 w.3 in (inr (inr (w.0, w.1, w.2, i.0)), k.0, i.1)

@@ -29,7 +29,8 @@ pub plug_markup : PlugsMarkup
 plug_markup g e none p q = tt
 plug_markup g e (text s f) p q = (q.0, plug_markup g e f p q.1)
 plug_markup g e (gap h f) p q = gap_plugged (h == g) e (plug g e f) h p (plug_markup g e f p q.1)
-plug_markup g e (element tag attrs inner f) p q = (q.0, q.1, q.2, λ (v : is_void tag ≡ true). ap (plug g e) (q.3 v), plug_markup g e inner p q.4, plug_markup g e f p q.5)
+plug_markup g e (element tag attrs inner f) p q =
+    (q.0, q.1, q.2, λ (v : is_void tag ≡ true). ap (plug g e) (q.3 v), plug_markup g e inner p q.4, plug_markup g e f p q.5)
 
 -- ---- strings
 
@@ -72,19 +73,22 @@ neither : (b c : Bool) → (b || c) ≡ false → (b ≡ false) × (c ≡ false)
 neither true c h = absurd (cc)
 neither false c h = (refl, h)
 
-keep_absent : (n : List ℕ) (a : Attr) (v : AttrValue) (rest : List Attr) → same n a.name ≡ false → list_any (same n) (names_of rest) ≡ false → list_any (same n) (names_of (keep_fixed a v rest)) ≡ false
+keep_absent : (n : List ℕ) (a : Attr) (v : AttrValue) (rest : List Attr) → same n a.name ≡ false → list_any (same n) (names_of rest) ≡ false
+    → list_any (same n) (names_of (keep_fixed a v rest)) ≡ false
 keep_absent n a (value.Fixed v) rest h k = ap (λ (b : Bool). b || list_any (same n) (names_of rest)) h ∙ k
 keep_absent n a (value.Hole g) rest h k = k
 
 closed_absent : (n : List ℕ) (attrs : List Attr) → list_any (same n) (names_of attrs) ≡ false → list_any (same n) (names_of (closed_attrs attrs)) ≡ false
 closed_absent n [] h = refl
-closed_absent n (a ∷ attrs) h = let k = neither (same n a.name) (list_any (same n) (names_of attrs)) h in keep_absent n a a.value (closed_attrs attrs) k.0 (closed_absent n attrs k.1)
+closed_absent n (a ∷ attrs) h =
+    let k = neither (same n a.name) (list_any (same n) (names_of attrs)) h in keep_absent n a a.value (closed_attrs attrs) k.0 (closed_absent n attrs k.1)
 
 record Closed (attrs : List Attr) : Type 0 where
   fixed : AreAttrs ⊥ attrs
   once : repeated (names_of attrs) ≡ false
 
-keep_closed : (a : Attr) (v : AttrValue) (rest : List Attr) → a.value ≡ v → IsName class.Attr a.name → IsValueOf (Unit {0}) a.value → list_any (same a.name) (names_of rest) ≡ false → Closed rest → Closed (keep_fixed a v rest)
+keep_closed : (a : Attr) (v : AttrValue) (rest : List Attr) → a.value ≡ v → IsName class.Attr a.name → IsValueOf (Unit {0}) a.value
+    → list_any (same a.name) (names_of rest) ≡ false → Closed rest → Closed (keep_fixed a v rest)
 keep_closed a (value.Fixed v) rest e n u h c = record {
   fixed = (n, subst (IsValueOf ⊥) (sym e) (subst (IsValueOf (Unit {0})) e u), c.fixed);
   once = ap (λ (b : Bool). b || repeated (names_of rest)) h ∙ c.once;
@@ -101,4 +105,5 @@ pub close_markup : ClosesMarkup
 close_markup none q = tt
 close_markup (text s f) q = (q.0, close_markup f q.1)
 close_markup (gap g f) q = close_markup f q.1
-close_markup (element tag attrs inner f) q = let c = closed_are attrs q.1 q.2 in (q.0, c.fixed, c.once, λ (v : is_void tag ≡ true). ap close (q.3 v), close_markup inner q.4, close_markup f q.5)
+close_markup (element tag attrs inner f) q =
+    let c = closed_are attrs q.1 q.2 in (q.0, c.fixed, c.once, λ (v : is_void tag ≡ true). ap close (q.3 v), close_markup inner q.4, close_markup f q.5)

@@ -4,10 +4,15 @@ pub mod Runs
 pub mod Many
 pub mod Characters
 pub mod Shrinking
+pub mod SpelledNames
+pub mod SpelledValues
+pub mod SpelledTags
+pub mod SpelledPieces
 pub mod Spelled
 pub mod GapLaws
 pub mod Repeating
 pub mod Refusals
+pub mod BackPieces
 pub mod Back
 pub mod Keeping
 pub mod Made

@@ -87,9 +87,20 @@ names_numbered names (a ∷ attrs) = ap (λ (l : List (List ℕ)). a.name ∷ l)
 abbrev Both : Forest → List Piece → Type 0
 Both f rest = IsMarkup f × AllGood rest
 
-element_kept : (names : List (List ℕ)) (tag : List ℕ) (attrs : List Attr) (inner f : Forest) (t : Tag) (rest : List Piece) → tag ≡ t.name → attrs ≡ map (numbered names) t.attrs → GoodTag t → (is_void t.name ≡ true → inner ≡ none) → IsMarkup inner → Both f rest → Both (element tag attrs inner f) rest
-element_kept names tag attrs inner f t rest p q g v k b =
-    ((subst (IsName class.Tag) (sym p) g.name, subst (AreAttrs (Unit {0})) (sym q) (numbered_attrs names t.attrs g.attrs), ap (λ (l : List Attr). repeated (names_of l)) q ∙ ap repeated (names_numbered names t.attrs) ∙ g.once, λ (h : is_void tag ≡ true). v (ap is_void (sym p) ∙ h), k, b.0), b.1)
+element_kept : (names : List (List ℕ)) (tag : List ℕ) (attrs : List Attr) (inner f : Forest) (t : Tag) (rest : List Piece) → tag ≡ t.name
+    → attrs ≡ map (numbered names) t.attrs → GoodTag t → (is_void t.name ≡ true → inner ≡ none) → IsMarkup inner → Both f rest
+    → Both (element tag attrs inner f) rest
+element_kept names tag attrs inner f t rest p q g v k b = (
+  (
+    subst (IsName class.Tag) (sym p) g.name,
+    subst (AreAttrs (Unit {0})) (sym q) (numbered_attrs names t.attrs g.attrs),
+    ap (λ (l : List Attr). repeated (names_of l)) q ∙ ap repeated (names_numbered names t.attrs) ∙ g.once,
+    λ (h : is_void tag ≡ true). v (ap is_void (sym p) ∙ h),
+    k,
+    b.0,
+  ),
+  b.1,
+)
 
 none_kept : (inner : Forest) → inner ≡ none → IsMarkup inner
 none_kept inner e = subst IsMarkup (sym e) tt
@@ -103,22 +114,31 @@ not_void t inner a b = absurd (true_false (sym b ∙ a))
 abbrev BothRead : List (List ℕ) → Forest → Type 0
 BothRead names f = (ps rest : List Piece) → AllGood ps → ReadsPieces names f ps rest → Both f rest
 
-by_case : (names : List (List ℕ)) (tag : List ℕ) (attrs : List Attr) (inner f : Forest) (t : Tag) (ps qs rest : List Piece) → BothRead names inner → BothRead names f → AllGood ps → ReadsPieces names f qs rest → tag ≡ t.name → attrs ≡ map (numbered names) t.attrs
-    → (((ps ≡ piece.Whole t ∷ qs) × (inner ≡ none)) ⊎ (((ps ≡ piece.Start t ∷ qs) × (is_void t.name ≡ true) × (inner ≡ none)) ⊎ ((mid : List Piece) × (ps ≡ piece.Start t ∷ mid) × (is_void t.name ≡ false) × ReadsPieces names inner mid (piece.End t.name ∷ qs))))
+by_case : (names : List (List ℕ)) (tag : List ℕ) (attrs : List Attr) (inner f : Forest) (t : Tag) (ps qs rest : List Piece) → BothRead names inner
+    → BothRead names f → AllGood ps → ReadsPieces names f qs rest → tag ≡ t.name → attrs ≡ map (numbered names) t.attrs
+    → (((ps ≡ piece.Whole t ∷ qs) × (inner ≡ none))
+    ⊎ (((ps ≡ piece.Start t ∷ qs) × (is_void t.name ≡ true) × (inner ≡ none))
+    ⊎ ((mid : List Piece) × (ps ≡ piece.Start t ∷ mid) × (is_void t.name ≡ false) × ReadsPieces names inner mid (piece.End t.name ∷ qs))))
     → Both (element tag attrs inner f) rest
 by_case names tag attrs inner f t ps qs rest hi hf g r p q (inl w) =
-    let a : AllGood (piece.Whole t ∷ qs) = subst AllGood w.0 g in element_kept names tag attrs inner f t rest p q a.0 (λ (v : is_void t.name ≡ true). w.1) (none_kept inner w.1) (hf qs rest a.1 r)
+    let a : AllGood (piece.Whole t ∷ qs) = subst AllGood w.0 g in
+    element_kept names tag attrs inner f t rest p q a.0 (λ (v : is_void t.name ≡ true). w.1) (none_kept inner w.1) (hf qs rest a.1 r)
 by_case names tag attrs inner f t ps qs rest hi hf g r p q (inr (inl w)) =
-    let a : AllGood (piece.Start t ∷ qs) = subst AllGood w.0 g in element_kept names tag attrs inner f t rest p q a.0 (λ (v : is_void t.name ≡ true). w.2) (none_kept inner w.2) (hf qs rest a.1 r)
+    let a : AllGood (piece.Start t ∷ qs) = subst AllGood w.0 g in
+    element_kept names tag attrs inner f t rest p q a.0 (λ (v : is_void t.name ≡ true). w.2) (none_kept inner w.2) (hf qs rest a.1 r)
 by_case names tag attrs inner f t ps qs rest hi hf g r p q (inr (inr w)) =
     let a : AllGood (piece.Start t ∷ w.0) = subst AllGood w.1 g in
-    let i : Both inner (piece.End t.name ∷ qs) = hi w.0 (piece.End t.name ∷ qs) a.1 w.3 in element_kept names tag attrs inner f t rest p q a.0 (not_void t inner w.2) i.0 (hf qs rest i.1.1 r)
+    let i : Both inner (piece.End t.name ∷ qs) = hi w.0 (piece.End t.name ∷ qs) a.1 w.3 in
+    element_kept names tag attrs inner f t rest p q a.0 (not_void t inner w.2) i.0 (hf qs rest i.1.1 r)
 
 reads_both : (names : List (List ℕ)) (f : Forest) → BothRead names f
 reads_both names none ps rest g h = (tt, subst AllGood h g)
-reads_both names (text s f) ps rest g h = let a : AllGood (piece.Text s ∷ h.0) = subst AllGood h.1 g in let b = reads_both names f h.0 rest a.1 h.2 in ((a.0, b.0), b.1)
-reads_both names (gap k f) ps rest g h = let a : AllGood (piece.Gap h.1.0 ∷ h.0) = subst AllGood h.1.1 g in let b = reads_both names f h.0 rest a.1 h.2 in ((tt, b.0), b.1)
-reads_both names (element tag attrs inner f) ps rest g h = by_case names tag attrs inner f h.1.0 ps h.0 rest (reads_both names inner) (reads_both names f) g h.2 h.1.1 h.1.2 h.1.3
+reads_both names (text s f) ps rest g h =
+    let a : AllGood (piece.Text s ∷ h.0) = subst AllGood h.1 g in let b = reads_both names f h.0 rest a.1 h.2 in ((a.0, b.0), b.1)
+reads_both names (gap k f) ps rest g h =
+    let a : AllGood (piece.Gap h.1.0 ∷ h.0) = subst AllGood h.1.1 g in let b = reads_both names f h.0 rest a.1 h.2 in ((tt, b.0), b.1)
+reads_both names (element tag attrs inner f) ps rest g h =
+    by_case names tag attrs inner f h.1.0 ps h.0 rest (reads_both names inner) (reads_both names f) g h.2 h.1.1 h.1.2 h.1.3
 
 pub reads_markup : ReadsMarkup
 reads_markup names most bytes f h = (reads_both names f h.pieces [] (all_good h.pieces bytes [] h.spelled.pieces h.once) h.reads).0

@@ -15,7 +15,8 @@ later_below class.Tag c h = grind (arith, nat_tests)
 later_below class.Attr c h = grind (arith, nat_tests)
 later_below class.Word c h = grind (arith, nat_tests)
 
-leading_ascii_one : (p : ℕ → Bool) (b : ℕ) (bs : List ℕ) (v : Bool) → ((c : ℕ) → p c ≡ true → c < 128) → p b ≡ v → IsAscii (take (leading p bs) bs) → IsAscii (take (if v then suc (leading p bs) else 0) (b ∷ bs))
+leading_ascii_one : (p : ℕ → Bool) (b : ℕ) (bs : List ℕ) (v : Bool) → ((c : ℕ) → p c ≡ true → c < 128) → p b ≡ v → IsAscii (take (leading p bs) bs)
+    → IsAscii (take (if v then suc (leading p bs) else 0) (b ∷ bs))
 leading_ascii_one p b bs true h e ih = IsAscii-cons b (take (leading p bs) bs) (h b e) ih
 leading_ascii_one p b bs false h e ih = IsAscii-nil
 

@@ -1,6 +1,7 @@
 -- Each thing that is read takes a byte at least.
-use Rattle.std.proofs.Common.{◌≡◌, ℕ, zero, suc, ◌+◌, ◌<◌, ◌≤◌, Bool, true, false, List, [], ◌∷◌, ◌++◌, length, take, drop, Option, Some, None, refl, sym, ap, ◌∙◌, arith, inl, inr}
-use Rattle.std.specs.Prelude.{if◌then◌else◌, ◌==◌, codes}
+use Rattle.std.proofs.Common.{◌≡◌, ℕ, zero, suc, ◌+◌, ◌<◌, ◌≤◌, true, false, List, [], ◌∷◌, ◌++◌, length, take, drop, Option, Some, None, refl}
+use Rattle.std.proofs.Common.{sym, ap, ◌∙◌, arith, inl, inr}
+use Rattle.std.specs.Prelude.{◌==◌, codes}
 use Rattle.std.proofs.lemmas.List.{length-append, length-drop}
 use Rattle.bw_lang.specs.declared.pieces.NameClass.{NameClass}
 use Rattle.bw_lang.specs.declared.pieces.NameClass.TheVariants as class
@@ -10,15 +11,20 @@ use Rattle.bw_lang.specs.declared.pieces.RawValue.TheVariants as raw
 use Rattle.bw_lang.specs.declared.pieces.Tag.{Tag}
 use Rattle.bw_lang.specs.declared.pieces.Piece.{Piece}
 use Rattle.bw_lang.specs.declared.pieces.Piece.TheVariants as piece
-use Rattle.bw_tmpl.specs.Reading.{◌>>=◌, map_or, stripped, leading, past_blanks, name_at, char_at, many, many_next, each, checked, quoted_at, hole_at, value_at, attr_at, tag_at, whole_at, end_at, gap_at, text_at, piece_at}
-use Rattle.bw_lang.specs.MarkupNames.{begins, first_of, later_of, is_blank}
-use Rattle.bw_tmpl.proofs.Many.{bind_some, map_or_some, cond_some, cond_none, some_is, stripped_is, Shrinks, each_more, each_none}
+use Rattle.bw_lang.specs.Options.{◌>>=◌, where_some}
+use Rattle.bw_tmpl.specs.Reading.{stripped, leading, past_blanks, name_at, char_at, many, many_next, each, checked, quoted_at, hole_at, value_at}
+use Rattle.bw_tmpl.specs.Reading.{attr_at, tag_at, whole_at, end_at, gap_at, text_at, piece_at}
+use Rattle.bw_lang.specs.Bytes.{is_blank}
+use Rattle.bw_lang.specs.MarkupNames.{begins, first_of, later_of}
+use Rattle.bw_lang.proofs.Options.{if_some, bind_some, where_cases, cond_some, cond_none, some_is}
+use Rattle.bw_tmpl.proofs.Many.{stripped_is, Shrinks, each_more, each_none}
 use Rattle.bw_tmpl.proofs.Characters.{char_shrinks}
 
 -- ---- what is behind is not longer
 
 stripped_le : (front bytes rest : List ℕ) → stripped front bytes ≡ Some rest → length rest + length front ≡ length bytes
-stripped_le front bytes rest h = let e : length bytes ≡ length (front ++ rest) = ap length (stripped_is front bytes rest h) in let k = length-append front rest in omega arith
+stripped_le front bytes rest h =
+    let e : length bytes ≡ length (front ++ rest) = ap length (stripped_is front bytes rest h) in let k = length-append front rest in omega arith
 
 name_le : (k : NameClass) (bytes : List ℕ) (x : List ℕ × List ℕ) → name_at k bytes ≡ Some x → length x.1 ≤ length bytes
 name_le k bytes x h =
@@ -33,7 +39,8 @@ unfolding many
 many_le step s zero bytes = omega arith
 many_le {A} step s (suc n) bytes = one (step bytes) refl (many_le step s n)
   where
-    one : (o : Option (A × List ℕ)) → step bytes ≡ o → ((bs : List ℕ) → length (many step n bs).1 ≤ length bs) → length (many_next o bytes (many step n)).1 ≤ length bytes
+    one : (o : Option (A × List ℕ)) → step bytes ≡ o → ((bs : List ℕ) → length (many step n bs).1 ≤ length bs)
+        → length (many_next o bytes (many step n)).1 ≤ length bytes
     one None e ih = omega arith
     one (Some x) e ih = omega (arith, s.less bytes x e, ih x.1)
 
@@ -62,13 +69,13 @@ hole_le bytes x h =
 value_le : (bytes : List ℕ) (x : RawValue × List ℕ) → value_at bytes ≡ Some x → length x.1 ≤ length bytes
 unfolding value_at
 value_le bytes x h =
-    elim (map_or_some (stripped (codes "\"") bytes) (quoted_at 34) _ x h) [
+    elim (where_cases (stripped (codes "\"") bytes) (quoted_at 34) _ (Some x) h) [
       | inl a ↦ omega (arith, stripped_le (codes "\"") bytes a.0 a.1, quoted_le 34 a.0 x a.2)
       | inr n ↦
-          elim (map_or_some (stripped (codes "'") bytes) (quoted_at 39) _ x n.1) [
+          elim (where_cases (stripped (codes "'") bytes) (quoted_at 39) _ (Some x) n.1) [
             | inl a ↦ omega (arith, stripped_le (codes "'") bytes a.0 a.1, quoted_le 39 a.0 x a.2)
             | inr m ↦
-                elim (map_or_some (stripped (codes "[") bytes) hole_at None x m.1) [
+                elim (where_cases (stripped (codes "[") bytes) hole_at None (Some x) m.1) [
                   | inl a ↦ omega (arith, stripped_le (codes "[") bytes a.0 a.1, hole_le a.0 x a.2)
                   | inr z ↦ absurd (none_is x z.1)
                 ]
@@ -89,11 +96,13 @@ attr_less bytes x h =
     let b = bind_some (stripped (codes "=") a.0.1) (λ m. value_at m >>= λ v. Some (record { name = a.0.0; value = v.0 }, v.1)) x a.2 in
     let c = bind_some (value_at b.0) (λ v. Some (record { name = a.0.0; value = v.0 }, v.1)) x b.2 in
     let e : length c.0.1 ≡ length x.1 = ap (λ (p : RawAttr × List ℕ). length p.1) (some_is (record { name = a.0.0; value = c.0.0 }, c.0.1) x c.2) in
-    omega (arith, length-drop (leading is_blank bytes) bytes, name_le class.Attr (past_blanks bytes) a.0 a.1, stripped_le (codes "=") a.0.1 b.0 b.1, value_le b.0 c.0 c.1)
-  where
-    if_some : {A : Type 0} (b : Bool) (o : Option A) (y : A) → (if b then o else None) ≡ Some y → (b ≡ true) × (o ≡ Some y)
-    if_some true o y h = (refl, h)
-    if_some false o y h = absurd (cc)
+    omega (
+      arith,
+      length-drop (leading is_blank bytes) bytes,
+      name_le class.Attr (past_blanks bytes) a.0 a.1,
+      stripped_le (codes "=") a.0.1 b.0 b.1,
+      value_le b.0 c.0 c.1,
+    )
 
 pub attr_shrinks : Shrinks attr_at
 attr_shrinks = record { less = attr_less }
@@ -103,21 +112,26 @@ unfolding tag_at
 tag_le bytes x h =
     let a = bind_some (name_at class.Tag bytes) (λ n. Some (record { name = n.0; attrs = (each attr_at n.1).0 }, past_blanks (each attr_at n.1).1)) x h in
     let k = (each attr_at a.0.1).1 in
-    let e : length (past_blanks k) ≡ length x.1 = ap (λ (p : Tag × List ℕ). length p.1) (some_is (record { name = a.0.0; attrs = (each attr_at a.0.1).0 }, past_blanks k) x a.2) in
+    let e : length (past_blanks k) ≡ length x.1 =
+    ap (λ (p : Tag × List ℕ). length p.1) (some_is (record { name = a.0.0; attrs = (each attr_at a.0.1).0 }, past_blanks k) x a.2) in
     omega (arith, name_le class.Tag bytes a.0 a.1, each_le attr_at attr_shrinks a.0.1, length-drop (leading is_blank k) k)
 
 whole_le : (bytes : List ℕ) (x : Piece × List ℕ) → whole_at bytes ≡ Some x → length x.1 ≤ length bytes
 unfolding whole_at
 whole_le bytes x h =
-    let a = bind_some (tag_at bytes) (λ t. map_or (stripped (codes "/>") t.1) (λ rest. Some (piece.Whole t.0, rest)) (map_or (stripped (codes ">") t.1) (λ rest. Some (piece.Start t.0, rest)) None)) x h in
+    let a =
+    bind_some (tag_at bytes) (λ t. where_some (stripped (codes "/>") t.1) (λ rest. Some (piece.Whole t.0, rest))
+    (where_some (stripped (codes ">") t.1) (λ rest. Some (piece.Start t.0, rest)) None)) x h in
     let l = tag_le bytes a.0 a.1 in
-    elim (map_or_some (stripped (codes "/>") a.0.1) (λ rest. Some (piece.Whole a.0.0, rest)) _ x a.2) [
+    elim (where_cases (stripped (codes "/>") a.0.1) (λ rest. Some (piece.Whole a.0.0, rest)) _ (Some x) a.2) [
       | inl b ↦
-          let e : length b.0 ≡ length x.1 = ap (λ (p : Piece × List ℕ). length p.1) (some_is (piece.Whole a.0.0, b.0) x b.2) in omega (arith, stripped_le (codes "/>") a.0.1 b.0 b.1)
+          let e : length b.0 ≡ length x.1 = ap (λ (p : Piece × List ℕ). length p.1) (some_is (piece.Whole a.0.0, b.0) x b.2) in
+          omega (arith, stripped_le (codes "/>") a.0.1 b.0 b.1)
       | inr n ↦
-          elim (map_or_some (stripped (codes ">") a.0.1) (λ rest. Some (piece.Start a.0.0, rest)) None x n.1) [
+          elim (where_cases (stripped (codes ">") a.0.1) (λ rest. Some (piece.Start a.0.0, rest)) None (Some x) n.1) [
             | inl b ↦
-                let e : length b.0 ≡ length x.1 = ap (λ (p : Piece × List ℕ). length p.1) (some_is (piece.Start a.0.0, b.0) x b.2) in omega (arith, stripped_le (codes ">") a.0.1 b.0 b.1)
+                let e : length b.0 ≡ length x.1 = ap (λ (p : Piece × List ℕ). length p.1) (some_is (piece.Start a.0.0, b.0) x b.2) in
+                omega (arith, stripped_le (codes ">") a.0.1 b.0 b.1)
             | inr z ↦ absurd (none_is x z.1)
           ]
     ]
@@ -141,7 +155,8 @@ gap_le bytes x h =
     let e : length b.0 ≡ length x.1 = ap (λ (p : Piece × List ℕ). length p.1) (some_is (piece.Gap a.0.0, b.0) x b.2) in
     omega (arith, name_le class.Word bytes a.0 a.1, stripped_le (codes "]>") a.0.1 b.0 b.1)
 
-none_left : {A : Type 0} (step : List ℕ → Option (A × List ℕ)) → Shrinks step → (bytes : List ℕ) (o : Option (A × List ℕ)) → step bytes ≡ o → (length (each step bytes).0 ≡ 0 → ⊥) → length (each step bytes).1 < length bytes
+none_left : {A : Type 0} (step : List ℕ → Option (A × List ℕ)) → Shrinks step → (bytes : List ℕ) (o : Option (A × List ℕ)) → step bytes ≡ o
+    → (length (each step bytes).0 ≡ 0 → ⊥) → length (each step bytes).1 < length bytes
 none_left {A} step s bytes None e some = absurd (some (ap (λ (p : List A × List ℕ). length p.0) (each_none step s bytes e)))
 none_left {A} step s bytes (Some x) e some =
     let m : length (each step bytes).1 ≡ length (each step x.1).1 = ap (λ (p : List A × List ℕ). length p.1) (each_more step s bytes x e) in
@@ -163,13 +178,13 @@ text_less bytes x h =
 pub piece_less : (bytes : List ℕ) (x : Piece × List ℕ) → piece_at bytes ≡ Some x → length x.1 < length bytes
 unfolding piece_at
 piece_less bytes x h =
-    elim (map_or_some (stripped (codes "<[") bytes) gap_at _ x h) [
+    elim (where_cases (stripped (codes "<[") bytes) gap_at _ (Some x) h) [
       | inl a ↦ omega (arith, stripped_le (codes "<[") bytes a.0 a.1, gap_le a.0 x a.2)
       | inr n ↦
-          elim (map_or_some (stripped (codes "</") bytes) end_at _ x n.1) [
+          elim (where_cases (stripped (codes "</") bytes) end_at _ (Some x) n.1) [
             | inl a ↦ omega (arith, stripped_le (codes "</") bytes a.0 a.1, end_le a.0 x a.2)
             | inr m ↦
-                elim (map_or_some (stripped (codes "<") bytes) whole_at (text_at bytes) x m.1) [
+                elim (where_cases (stripped (codes "<") bytes) whole_at (text_at bytes) (Some x) m.1) [
                   | inl a ↦ omega (arith, stripped_le (codes "<") bytes a.0 a.1, whole_le a.0 x a.2)
                   | inr z ↦ text_less bytes x z.1
                 ]

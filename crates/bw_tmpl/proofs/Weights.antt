@@ -48,20 +48,29 @@ chars_length : (stop : ℕ) (s bytes rest : List ℕ) → Each (IsChar stop) s b
 chars_length stop [] bytes rest h = omega (arith, ap length h)
 chars_length stop (c ∷ s) bytes rest h = omega (arith, char_length stop c bytes h.0 h.1, chars_length stop s h.0 rest h.2)
 
-value_length : (names : List (List ℕ)) (v : RawValue) (bytes rest : List ℕ) → IsValue v bytes rest → value_bytes (numbered_value names v) + length rest ≤ length bytes
+value_length : (names : List (List ℕ)) (v : RawValue) (bytes rest : List ℕ) → IsValue v bytes rest
+    → value_bytes (numbered_value names v) + length rest ≤ length bytes
 value_length names (raw.Fixed v) bytes rest h = omega (arith, ap length h.3, chars_length h.0 v h.2 (h.0 ∷ rest) h.4)
 value_length names (raw.Hole n) bytes rest h = omega (arith, length-append {A = ℕ}, ap length h.1)
 
-attr_bounded : (names : List (List ℕ)) (a : RawAttr) (bytes rest : List ℕ) → IsAttr a bytes rest → 64 + value_bytes (numbered_value names a.value) + 65 * length rest ≤ 65 * length bytes
+attr_bounded : (names : List (List ℕ)) (a : RawAttr) (bytes rest : List ℕ) → IsAttr a bytes rest
+    → 64 + value_bytes (numbered_value names a.value) + 65 * length rest ≤ 65 * length bytes
 attr_bounded names a bytes rest h =
     omega (arith, length-append {A = ℕ}, ap length h.parts, value_length names a.value h.behind rest h.value)
 
-attrs_bounded : (names : List (List ℕ)) (attrs : List RawAttr) (bytes rest : List ℕ) → Each IsAttr attrs bytes rest → attrs_weight (map (numbered names) attrs) + 65 * length rest ≤ 65 * length bytes
+attrs_bounded : (names : List (List ℕ)) (attrs : List RawAttr) (bytes rest : List ℕ) → Each IsAttr attrs bytes rest
+    → attrs_weight (map (numbered names) attrs) + 65 * length rest ≤ 65 * length bytes
 attrs_bounded names [] bytes rest h = omega (arith, ap length h)
 attrs_bounded names (a ∷ attrs) bytes rest h =
-    omega (arith, sum_by-cons (λ (b : Attr). 64 + value_bytes b.value) (numbered names a) (map (numbered names) attrs), attr_bounded names a bytes h.0 h.1, attrs_bounded names attrs h.0 rest h.2)
+    omega (
+      arith,
+      sum_by-cons (λ (b : Attr). 64 + value_bytes b.value) (numbered names a) (map (numbered names) attrs),
+      attr_bounded names a bytes h.0 h.1,
+      attrs_bounded names attrs h.0 rest h.2,
+    )
 
-tag_bounded : (names : List (List ℕ)) (t : Tag) (bytes rest : List ℕ) → IsTag t bytes rest → attrs_weight (map (numbered names) t.attrs) + 65 * length rest ≤ 65 * length bytes
+tag_bounded : (names : List (List ℕ)) (t : Tag) (bytes rest : List ℕ) → IsTag t bytes rest
+    → attrs_weight (map (numbered names) t.attrs) + 65 * length rest ≤ 65 * length bytes
 tag_bounded names t bytes rest h =
     omega (arith, length-append {A = ℕ}, ap length h.parts, attrs_bounded names t.attrs h.behind h.after_attrs h.attrs, ap length h.end)
 
@@ -73,7 +82,8 @@ piece_bounded names (piece.Start t) bytes rest h = omega (arith, ap length h.1, 
 piece_bounded names (piece.Whole t) bytes rest h = omega (arith, ap length h.1, tag_bounded names t h.0 (47 ∷ 62 ∷ rest) h.2)
 piece_bounded names (piece.End n) bytes rest h = omega (arith, length-append {A = ℕ}, ap length h.3)
 
-pieces_bounded : (names : List (List ℕ)) (ps : List Piece) (bytes rest : List ℕ) → Each IsPiece ps bytes rest → pieces_weight names ps + 65 * length rest ≤ 65 * length bytes
+pieces_bounded : (names : List (List ℕ)) (ps : List Piece) (bytes rest : List ℕ) → Each IsPiece ps bytes rest
+    → pieces_weight names ps + 65 * length rest ≤ 65 * length bytes
 pieces_bounded names [] bytes rest h = omega (arith, ap length h)
 pieces_bounded names (p ∷ ps) bytes rest h = omega (arith, piece_bounded names p bytes h.0 h.1, pieces_bounded names ps h.0 rest h.2)
 

@@ -44,7 +44,8 @@ element_begun names b t = record { items = none; parents = record { tag = t.name
 -- an end tag of the innermost open element's name closes it, with the items in it
 abbrev pub element_ended : Forest → List OpenElement → List ℕ → Option Draft
 element_ended items [] n = None
-element_ended items (l ∷ parents) n = if same l.tag n then Some (record { items = append l.front (element l.tag l.attrs items none); parents = parents }) else None
+element_ended items (l ∷ parents) n =
+    if same l.tag n then Some (record { items = append l.front (element l.tag l.attrs items none); parents = parents }) else None
 
 -- what each kind of piece does
 abbrev pub draft_after : List (List ℕ) → Draft → Piece → Option Draft

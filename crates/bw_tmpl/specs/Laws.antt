@@ -28,11 +28,13 @@ OneTemplate = (names : List (List ℕ)) (most : ℕ) (bytes : List ℕ) (f g : F
 
 -- what is a template is refused for want of memory alone
 abbrev pub NotBoth : Type 0
-NotBoth = (names : List (List ℕ)) (most : ℕ) (bytes : List ℕ) (f : Forest) (e : TmplFault) → IsTemplate names most bytes f → IsRefused most bytes e → e ≡ fault.Memory
+NotBoth =
+    (names : List (List ℕ)) (most : ℕ) (bytes : List ℕ) (f : Forest) (e : TmplFault) → IsTemplate names most bytes f → IsRefused most bytes e → e ≡ fault.Memory
 
 -- there is one reason at most, beside want of memory
 abbrev pub OneReason : Type 0
-OneReason = (most : ℕ) (bytes : List ℕ) (d e : TmplFault) → IsRefused most bytes d → IsRefused most bytes e → (d ≡ fault.Memory → ⊥) → (e ≡ fault.Memory → ⊥) → d ≡ e
+OneReason =
+    (most : ℕ) (bytes : List ℕ) (d e : TmplFault) → IsRefused most bytes d → IsRefused most bytes e → (d ≡ fault.Memory → ⊥) → (e ≡ fault.Memory → ⊥) → d ≡ e
 
 -- bytes are a template, or there is a reason beside want of memory
 abbrev pub ReadOrRefused : Type 0
@@ -50,7 +52,9 @@ NotBothClosed = (most : ℕ) (bytes : List ℕ) (f : Forest) (e : TmplFault) →
 
 -- there is one reason at most, beside want of memory
 abbrev pub OneClosedReason : Type 0
-OneClosedReason = (most : ℕ) (bytes : List ℕ) (d e : TmplFault) → IsClosedRefused most bytes d → IsClosedRefused most bytes e → (d ≡ fault.Memory → ⊥) → (e ≡ fault.Memory → ⊥) → d ≡ e
+OneClosedReason =
+    (most : ℕ) (bytes : List ℕ) (d e : TmplFault) → IsClosedRefused most bytes d → IsClosedRefused most bytes e → (d ≡ fault.Memory → ⊥)
+    → (e ≡ fault.Memory → ⊥) → d ≡ e
 
 -- bytes are a template without gaps, or there is a reason beside want of memory
 abbrev pub ClosedReadOrRefused : Type 0

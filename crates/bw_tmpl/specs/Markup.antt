@@ -30,7 +30,8 @@ MarkupWith Gap none = Unit {0}
 MarkupWith Gap (text s f) = IsUtf8 s × MarkupWith Gap f
 MarkupWith Gap (gap g f) = Gap × MarkupWith Gap f
 MarkupWith Gap (element tag attrs inner f) =
-    IsName class.Tag tag × AreAttrs Gap attrs × (repeated (names_of attrs) ≡ false) × (is_void tag ≡ true → inner ≡ none) × MarkupWith Gap inner × MarkupWith Gap f
+    IsName class.Tag tag × AreAttrs Gap attrs × (repeated (names_of attrs) ≡ false) × (is_void tag ≡ true → inner ≡ none) × MarkupWith Gap inner
+    × MarkupWith Gap f
 
 -- markup that may have open gaps
 abbrev pub IsMarkup : Forest → Type 0

@@ -1,9 +1,11 @@
 -- What stands at the front of bytes, and the bytes behind it.
-use Rattle.std.specs.Prelude.{ℕ, zero, suc, Bool, ◌||◌, ◌==◌, nat_eq, if◌then◌else◌, List, [], ◌∷◌, length, take, drop, Option, Some, None, Result, MatchResult, codes, ◌≡◌}
+use Rattle.std.specs.Prelude.{ℕ, zero, suc, Bool, ◌||◌, ◌==◌, nat_eq, if◌then◌else◌, List, [], ◌∷◌, length, take, drop, Option, Some, None, Result}
+use Rattle.std.specs.Prelude.{MatchResult, codes, ◌≡◌}
 use Rattle.std.specs.Str.{is_utf8}
 use lib.Pointwise.{pointwise}
 use Rattle.bw_lang.specs.MarkupBytes.{ampersand, less_than, greater_than, double_quote, single_quote}
-use Rattle.bw_lang.specs.MarkupNames.{first_of, later_of, is_blank, begins}
+use Rattle.bw_lang.specs.Bytes.{is_blank}
+use Rattle.bw_lang.specs.MarkupNames.{first_of, later_of, begins}
 use Rattle.bw_lang.specs.declared.pieces.Tag.{Tag}
 use Rattle.bw_lang.specs.declared.pieces.Piece.{Piece}
 use Rattle.bw_lang.specs.declared.pieces.Piece.TheVariants as piece
@@ -12,16 +14,9 @@ use Rattle.bw_lang.specs.declared.pieces.RawValue.{RawValue}
 use Rattle.bw_lang.specs.declared.pieces.RawValue.TheVariants as raw
 use Rattle.bw_lang.specs.declared.pieces.NameClass.{NameClass}
 use Rattle.bw_lang.specs.declared.pieces.NameClass.TheVariants as class
+use Rattle.bw_lang.specs.Options.{◌>>=◌, where_some}
 use Rattle.bw_tmpl.specs.declared.fault.TmplFault.{TmplFault}
 use Rattle.bw_tmpl.specs.declared.fault.TmplFault.TheVariants as fault
-
--- ---- steps that may fail
-
--- the one step, and then the other
-infixl 10 ◌>>=◌
-abbrev pub ◌>>=◌ : {A B : Type 0} → Option A → (A → Option B) → Option B
-None >>= f = None
-(Some x) >>= f = f x
 
 -- there is nothing to read, and the fault says so; want of memory says nothing
 abbrev pub MalformedIfNone : {A : Type 0} → TmplFault → Option A → Type 0
@@ -34,11 +29,6 @@ MalformedIfNone fault.Nesting o = ⊥
 -- The answer is what there is to read, where view says what of it is compared, or Malformed where there is nothing; it may be Memory at any time.
 abbrev pub Gives : {A B : Type 0} → (A → B) → Result A TmplFault → Option B → Type 0
 Gives view answer o = MatchResult answer (λ x. o ≡ Some (view x)) (λ e. MalformedIfNone e o)
-
--- what f makes of the value, or d where there is none
-abbrev pub map_or : {A B : Type 0} → Option A → (A → B) → B → B
-map_or None f d = d
-map_or (Some x) f d = f x
 
 -- the bytes behind these at the front
 abbrev pub stripped : List ℕ → List ℕ → Option (List ℕ)
@@ -70,9 +60,9 @@ as_char c rest = Some (c, rest)
 -- the character that a reference at the front stands for
 abbrev pub ref_at : List ℕ → Option (ℕ × List ℕ)
 ref_at bytes =
-    map_or (stripped (codes "&amp;") bytes) (as_char ampersand)
-    (map_or (stripped (codes "&lt;") bytes) (as_char less_than)
-    (map_or (stripped (codes "&gt;") bytes) (as_char greater_than) (map_or (stripped (codes "&quot;") bytes) (as_char double_quote) None)))
+    where_some (stripped (codes "&amp;") bytes) (as_char ampersand)
+    (where_some (stripped (codes "&lt;") bytes) (as_char less_than)
+    (where_some (stripped (codes "&gt;") bytes) (as_char greater_than) (where_some (stripped (codes "&quot;") bytes) (as_char double_quote) None)))
 
 -- a character at the front that is neither `<` nor the byte that ends the text or value
 abbrev pub char_at : ℕ → List ℕ → Option (ℕ × List ℕ)
@@ -114,8 +104,8 @@ hole_at bytes = name_at class.Word bytes >>= λ n. stripped (codes "]") n.1 >>= 
 -- a value, or a gap in its place
 unfoldable pub value_at : List ℕ → Option (RawValue × List ℕ)
 value_at bytes =
-    map_or (stripped (codes "\"") bytes) (quoted_at double_quote)
-    (map_or (stripped (codes "'") bytes) (quoted_at single_quote) (map_or (stripped (codes "[") bytes) hole_at None))
+    where_some (stripped (codes "\"") bytes) (quoted_at double_quote)
+    (where_some (stripped (codes "'") bytes) (quoted_at single_quote) (where_some (stripped (codes "[") bytes) hole_at None))
 
 -- an attribute, with the blanks in front of it
 unfoldable pub attr_at : List ℕ → Option (RawAttr × List ℕ)
@@ -134,7 +124,8 @@ tag_at bytes = name_at class.Tag bytes >>= λ n. let a = each attr_at n.1 in Som
 unfoldable pub whole_at : List ℕ → Option (Piece × List ℕ)
 whole_at bytes =
     tag_at bytes >>= λ t.
-    map_or (stripped (codes "/>") t.1) (λ rest. Some (piece.Whole t.0, rest)) (map_or (stripped (codes ">") t.1) (λ rest. Some (piece.Start t.0, rest)) None)
+    where_some (stripped (codes "/>") t.1) (λ rest. Some (piece.Whole t.0, rest))
+    (where_some (stripped (codes ">") t.1) (λ rest. Some (piece.Start t.0, rest)) None)
 
 -- an end tag, behind `</`
 unfoldable pub end_at : List ℕ → Option (Piece × List ℕ)
@@ -153,8 +144,8 @@ text_at bytes =
 -- a piece of any kind
 unfoldable pub piece_at : List ℕ → Option (Piece × List ℕ)
 piece_at bytes =
-    map_or (stripped (codes "<[") bytes) gap_at
-    (map_or (stripped (codes "</") bytes) end_at (map_or (stripped (codes "<") bytes) whole_at (text_at bytes)))
+    where_some (stripped (codes "<[") bytes) gap_at
+    (where_some (stripped (codes "</") bytes) end_at (where_some (stripped (codes "<") bytes) whole_at (text_at bytes)))
 
 -- all of the bytes as pieces
 unfoldable pub pieces_of : List ℕ → Option (List Piece)

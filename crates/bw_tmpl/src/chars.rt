@@ -1,11 +1,11 @@
 //! Characters and names at the front of bytes.
 ghost use Rattle.std.specs.Prelude.{◌≡◌, length, ◌≤◌, IfOk, MatchOption};
-ghost use Rattle.bw_lang.specs.MarkupNames.{first_of, later_of, is_blank, begins};
+ghost use Rattle.bw_lang.specs.MarkupNames.{first_of, later_of, begins};
 ghost use Rattle.bw_tmpl.specs.Reading as spec;
 
 use crate::fault::TmplFault;
 use bw_lang::pieces::NameClass;
-use bw_lang::{Memory, Name, Text};
+use bw_lang::{Memory, Name, Text, is_blank};
 use std::alloc::Global;
 use std::str;
 
@@ -28,13 +28,6 @@ fn is_later(class: NameClass, c: u8) -> bool
         NameClass::Attr => c.is_ascii_lowercase() || c.is_ascii_digit() || c == b'-',
         NameClass::Word => c.is_ascii_alphanumeric() || c == b'_',
     }
-}
-
-/// Whether the byte is a space, a tab or the end of a line.
-pub fn is_blank(c: u8) -> bool
-    ensures { result ≡ is_blank c }
-{
-    c == b' ' || c == b'\t' || c == b'\r' || c == b'\n'
 }
 
 /// How many bytes at the front may stand in a name of the class.

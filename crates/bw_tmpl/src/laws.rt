@@ -1,5 +1,7 @@
 //! Laws of reading. A law is the contract of an empty function.
-ghost use Rattle.bw_tmpl.specs.Laws.{OneSpelling, OneReading, OneTemplate, NotBoth, OneReason, ReadOrRefused, OneClosedTemplate, NotBothClosed, OneClosedReason, ClosedReadOrRefused, ClosedIsTemplate, ClosedHasNoGap, ItemsBounded, ReadsMarkup, PlugsMarkup, PlugsTextMarkup, ClosesMarkup, ReadsBack};
+ghost use Rattle.bw_tmpl.specs.Laws.{OneSpelling, OneReading, OneTemplate, NotBoth, OneReason, ReadOrRefused};
+ghost use Rattle.bw_tmpl.specs.Laws.{OneClosedTemplate, NotBothClosed, OneClosedReason, ClosedReadOrRefused, ClosedIsTemplate, ClosedHasNoGap};
+ghost use Rattle.bw_tmpl.specs.Laws.{ItemsBounded, ReadsMarkup, PlugsMarkup, PlugsTextMarkup, ClosesMarkup, ReadsBack};
 
 /// Bytes are one list of pieces at most, and by a table of names pieces read as one list of items at most.
 pub fn unique()

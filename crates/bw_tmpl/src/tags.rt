@@ -1,13 +1,14 @@
 //! Attributes, tags and pieces at the front of bytes.
 ghost use Rattle.std.specs.Prelude.{◌≡◌, IfOk};
-ghost use Rattle.bw_lang.specs.MarkupNames.{is_blank, begins};
+ghost use Rattle.bw_lang.specs.Bytes.{is_blank};
+ghost use Rattle.bw_lang.specs.MarkupNames.{begins};
 ghost use Rattle.bw_tmpl.specs.Reading as spec;
 ghost use Rattle.bw_tmpl.specs.Reading.{attr_at, piece_at};
 
-use crate::chars::{chars_at, checked, is_blank, name_at, past_blanks};
+use crate::chars::{chars_at, checked, name_at, past_blanks};
 use crate::fault::TmplFault;
-use bw_lang::Memory;
 use bw_lang::pieces::{NameClass, Piece, RawAttr, RawAttrs, RawValue, Tag};
+use bw_lang::{Memory, is_blank};
 use std::alloc::Global;
 
 /// A value up to its quote, behind the first quote, and the bytes behind it.

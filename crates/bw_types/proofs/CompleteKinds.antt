@@ -1,39 +1,33 @@
 -- An expression that has a kind fails no test, and typed statements fail none.
-use Rattle.std.proofs.Common.{◌≡◌, ℕ, Bool, true, false, inl, inr, List, [], ◌∷◌, ◌++◌, suc, Option, Some, refl, ap, sym, ◌∙◌, arith}
-use Rattle.std.specs.Prelude.{◌||◌}
-use Rattle.std.specs.List.{All, Contains}
+use Rattle.std.proofs.Common.{◌≡◌, ◌⊎◌, ℕ, inl, inr, List, [], ◌∷◌, ◌++◌, Option, Some, refl, ap, sym, ◌∙◌}
+use Rattle.std.specs.Prelude.{◌||◌, flat_map}
+use Rattle.std.specs.List.{All}
 use Rattle.std.proofs.lemmas.List.Elements.{All-head, All-tail}
 use Rattle.bw_lang.specs.declared.service.Service.{Service}
 use Rattle.bw_lang.specs.declared.stmt.Kind.{Kind}
-use Rattle.bw_lang.specs.declared.stmt.Kind.TheVariants.{Int, Bool as Truth, Str, Html}
+use Rattle.bw_lang.specs.declared.stmt.Kind.TheVariants.{Int, Bool as Truth, Str, Html, Strs}
 use Rattle.bw_lang.specs.declared.stmt.Receive.{Receive}
-use Rattle.bw_lang.specs.Code.{Code, done, declare, assign, if_then, if_else, while_loop, block, show, exit}
-use Rattle.bw_lang.specs.Names.{same}
+use Rattle.bw_lang.specs.Code.{Code, done, declare, assign, if_then, if_else, while_loop, block, for_each, show, exit}
 use Rattle.bw_lang.specs.Term as t
 use Rattle.bw_lang.specs.Term.{Term, Fillings, no_more, filling}
 use Rattle.bw_types.specs.declared.fault.GapKind.{GapKind}
 use Rattle.bw_types.specs.declared.fault.GapKind.TheVariants.{Content, Attribute}
-use Rattle.bw_types.specs.declared.fault.TypeFault.{TypeFault}
 use Rattle.bw_types.specs.declared.fault.TypeFault.TheVariants as faults
 use Rattle.bw_types.specs.ExpressionFaults.{OpSort, joins_truths, tests_equality, compares, adds, computes, op_sort, op_kind, fun_takes, kind_of, demand, demand_same, demand_sum, left_demand, right_demand, gap_demand, gap_unknown, name_unknown, faults_in, faults_in_pairs, wanted}
-use Rattle.bw_types.specs.Faults.{code_faults, receive_faults, local_repeated}
+use Rattle.bw_types.specs.Faults.{code_faults, receive_fault, demand_received, local_repeated, local_faults}
 use Rattle.bw_types.specs.Gaps.{kind_of_gap}
-use Rattle.bw_types.specs.Scopes.{Scope, is_among, declared_names, name_kind, variable_kind, with_local, behind}
-use Rattle.bw_types.specs.TemplateFaults.{fault_if}
+use Rattle.bw_types.specs.Scopes.{Scope, is_among, declared_names, name_kind, variable_kind, with_local, behind, behind_each}
+use Rattle.bw_types.proofs.Elements.{passing}
+use Rattle.bw_types.proofs.Differing.{among_none}
+use Rattle.bw_types.proofs.Parts.{none_of_both}
 use Rattle.bw_types.specs.Typing.{Takes, Fits, HasKind, AreTyped, IsNew, IsReceived, IsTypedCode}
-use Rattle.bw_types.proofs.Seek.{same_is}
-
-pub none_of_both : {A : Type 0} (a b : List A) → a ≡ [] → b ≡ [] → a ++ b ≡ []
-none_of_both a b p q = rw (p, q)
-
-pub passing : (b : Bool) (fault : TypeFault) → b ≡ false → fault_if b fault ≡ []
-passing b fault h = rw h
 
 pub demanded : (kind : Kind) → demand kind (Some kind) ≡ []
 demanded Int = refl
 demanded Truth = refl
 demanded Str = refl
 demanded Html = refl
+demanded Strs = refl
 
 -- the kind that is there is the one that is demanded
 pub demand_met : (kind : Kind) (o : Option Kind) → o ≡ Some kind → demand kind o ≡ []
@@ -50,6 +44,7 @@ left_met tests_equality Int kind h = refl
 left_met tests_equality Truth kind h = refl
 left_met tests_equality Str kind h = refl
 left_met tests_equality Html kind h = absurd (h.0 refl)
+left_met tests_equality Strs kind h = absurd (h.1 refl)
 left_met compares side kind h = demand_met Int (Some side) (ap Some h.0)
 left_met adds side kind h = elim h.0 [ inl e ↦ ap (λ k. demand_sum (Some k)) e | inr e ↦ ap (λ k. demand_sum (Some k)) e ]
 left_met computes side kind h = demand_met Int (Some side) (ap Some h.0)
@@ -63,7 +58,7 @@ right_met computes side kind h = demand_met Int (Some side) (ap Some h.0)
 
 gives : (sort : OpSort) (side kind : Kind) → Takes sort side kind → op_kind sort (Some side) ≡ Some kind
 gives joins_truths side kind h = ap Some (sym h.1)
-gives tests_equality side kind h = ap Some (sym h.1)
+gives tests_equality side kind h = ap Some (sym h.2)
 gives compares side kind h = ap Some (sym h.1)
 gives adds side kind h = ap Some (sym h.1)
 gives computes side kind h = ap Some (sym h.1)
@@ -88,6 +83,7 @@ mutual
   kind_passes s k (t.int n) kind h = (refl, ap Some (sym h))
   kind_passes s k (t.truth b) kind h = (refl, ap Some (sym h))
   kind_passes s k (t.string v) kind h = (refl, ap Some (sym h))
+  kind_passes s k t.nothing kind h = (refl, ap Some (sym h))
   kind_passes s k (t.name w) kind h = (known w (name_kind s k w) kind h, h)
   kind_passes s k (t.paren e) kind h = kind_passes s k e kind h
   kind_passes s k (t.not e) kind h = let p = kind_passes s k e Truth h.0 in (none_of_both (faults_in s k e) _ p.0 (demand_met Truth (kind_of s k e) p.1), ap Some (sym h.1))
@@ -111,37 +107,25 @@ wanted_passes s k kind e h = let p = kind_passes s k e kind h in none_of_both (f
 
 -- ---- statements
 
-is_contained : (w : List ℕ) (names : List (List ℕ)) → is_among w names ≡ true → Contains names w
-is_contained w [] h = absurd (cc)
-is_contained w (m ∷ names) h = by_test (same w m) refl h (is_contained w names)
-  where
-    by_test : (b : Bool) → same w m ≡ b → (b || is_among w names) ≡ true → (is_among w names ≡ true → Contains names w) → Contains (m ∷ names) w
-    by_test true e h ih = (0, omega arith, sym (same_is w m e))
-    by_test false e h ih = let c = ih h in (suc c.0, omega (arith, c.1), c.2)
-
--- a name that these don't contain
-pub among_none : (w : List ℕ) (names : List (List ℕ)) → (¬ (Contains names w)) → is_among w names ≡ false
-among_none w names h = by_test (is_among w names) refl
-  where
-    by_test : (b : Bool) → is_among w names ≡ b → b ≡ false
-    by_test true e = absurd (h (is_contained w names e))
-    by_test false e = refl
-
 new_passes : (s : Service) (k : Scope) (w : List ℕ) → IsNew s k w → local_repeated s k w ≡ []
 new_passes s k w h =
     passing _ (faults.Repeated w) (ap (λ b. b || is_among w k.taken) (among_none w (declared_names s) h.0) ∙ among_none w k.taken h.1)
 
-receives_pass : (s : Service) (k : Scope) (rs : List Receive) → All (IsReceived s k) rs → receive_faults s k rs ≡ []
+received_passes : (w : List ℕ) (o : Option Kind) → (o ≡ Some Str) ⊎ (o ≡ Some Strs) → name_unknown w o ++ demand_received o ≡ []
+received_passes w o h = elim h [ inl e ↦ ap (λ o. name_unknown w o ++ demand_received o) e | inr e ↦ ap (λ o. name_unknown w o ++ demand_received o) e ]
+
+receives_pass : (s : Service) (k : Scope) (rs : List Receive) → All (IsReceived s k) rs → flat_map (receive_fault s k) rs ≡ []
 receives_pass s k [] h = refl
 receives_pass s k (r ∷ rs) h =
-    let v = All-head (IsReceived s k) r rs h in
-    none_of_both (name_unknown r.target (variable_kind s k r.target)) _ (known r.target (variable_kind s k r.target) Str v)
-    (none_of_both (demand Str (variable_kind s k r.target)) _ (demand_met Str (variable_kind s k r.target) v) (receives_pass s k rs (All-tail (IsReceived s k) r rs h)))
+    none_of_both (receive_fault s k r) _ (received_passes r.target (variable_kind s k r.target) (All-head (IsReceived s k) r rs h)) (receives_pass s k rs (All-tail (IsReceived s k) r rs h))
+
+local_passes : (s : Service) (k : Scope) (w : List ℕ) (kind : Kind) (e : Term) → IsNew s k w → HasKind s k e kind → local_faults s k w kind e ≡ []
+local_passes s k w kind e n h = none_of_both (local_repeated s k w) _ (new_passes s k w n) (wanted_passes s k kind e h)
 
 pub code_passes : (s : Service) (k : Scope) (a : Code) → IsTypedCode s k a → code_faults s k a ≡ []
 code_passes s k done h = refl
 code_passes s k (declare kind w e a) h =
-    none_of_both (local_repeated s k w) _ (new_passes s k w h.0) (none_of_both (wanted s k kind e) _ (wanted_passes s k kind e h.1) (code_passes s (with_local k w kind) a h.2))
+    none_of_both (local_faults s k w kind e) _ (local_passes s k w kind e h.0 h.1) (code_passes s (with_local k w kind) a h.2)
 code_passes s k (assign w e a) h =
     let p = kind_passes s k e h.0.0 h.0.2 in let v = variable_kind s k w in
     none_of_both (name_unknown w v) _ (known w v h.0.0 h.0.1)
@@ -154,6 +138,9 @@ code_passes s k (if_else e y n a) h =
 code_passes s k (while_loop e y a) h =
     none_of_both (wanted s k Truth e) _ (wanted_passes s k Truth e h.0) (none_of_both (code_faults s k y) _ (code_passes s k y h.1) (code_passes s (behind k y) a h.2))
 code_passes s k (block y a) h = none_of_both (code_faults s k y) _ (code_passes s k y h.0) (code_passes s (behind k y) a h.1)
+code_passes s k (for_each w e y a) h =
+    none_of_both (local_faults s k w Strs e) _ (local_passes s k w Strs e h.0 h.1)
+    (none_of_both (code_faults s (with_local k w Str) y) _ (code_passes s (with_local k w Str) y h.2) (code_passes s (behind_each k w y) a h.3))
 code_passes s k (show p rs a) h =
-    none_of_both (wanted s k Html p) _ (wanted_passes s k Html p h.0) (none_of_both (receive_faults s k rs) _ (receives_pass s k rs h.1) (code_passes s k a h.2))
+    none_of_both (wanted s k Html p) _ (wanted_passes s k Html p h.0) (none_of_both (flat_map (receive_fault s k) rs) _ (receives_pass s k rs h.1) (code_passes s k a h.2))
 code_passes s k (exit p a) h = none_of_both (wanted s k Html p) _ (wanted_passes s k Html p h.0) (code_passes s k a h.1)

@@ -1,7 +1,8 @@
 -- The first of several faults.
-use Rattle.std.proofs.Common.{◌≡◌, List, [], ◌∷◌, ◌++◌, Some, Result, Ok, Err, ap, ◌∙◌, inl, inr}
-use Rattle.std.specs.Result.{IsErrAnd, IfErr, OnOk}
+use Rattle.std.proofs.Common.{◌≡◌, ◌⊎◌, ℕ, suc, ◌+◌, ◌<◌, List, [], ◌∷◌, ◌++◌, length, get_or, drop, Some, Result, Ok, Err, ap, sym, ◌∙◌, inl, inr, add-one, drop-cons}
+use Rattle.std.specs.Result.{IsErrAnd, IfErr}
 use Rattle.bw_types.specs.declared.fault.TypeFault.{TypeFault}
+use Rattle.bw_types.specs.declared.fault.TypeFault.TheVariants.{Memory}
 use Rattle.bw_types.specs.Faults.{first_member}
 use Rattle.bw_types.specs.First.{IsFirst}
 
@@ -9,28 +10,35 @@ first_in : (a b : List TypeFault) (e : TypeFault) → first_member a ≡ Some e 
 first_in [] b e h = absurd (cc)
 first_in (f ∷ a) b e h = h
 
--- the first of the faults at a place is the first of all, where there is none in front
-pub is_first_in : (e : TypeFault) (done here rest whole : List TypeFault) → IsFirst e here → done ≡ [] → whole ≡ done ++ (here ++ rest) → IsFirst e whole
-is_first_in e done here rest whole h d w =
-    let at : whole ≡ here ++ rest = w ∙ ap (λ l. l ++ (here ++ rest)) d in
-    record { why = elim h.why [ inl m ↦ inl m | inr f ↦ inr (ap first_member at ∙ first_in here rest e f) ] }
+-- the first of the faults here is the first of all
+first_of : (e : TypeFault) (here rest whole : List TypeFault) → IsFirst e here → whole ≡ here ++ rest → IsFirst e whole
+first_of e here rest whole h w = record { why = elim h.why [ inl m ↦ inl m | inr f ↦ inr (ap first_member w ∙ first_in here rest e f) ] }
 
--- an exit that passes the fault at a place on
-pub exits : {X : Type 0} (r : Result X TypeFault) (e : TypeFault) (done here rest whole : List TypeFault)
-    → IsErrAnd r (λ y. y ≡ e) → IsFirst e here → done ≡ [] → whole ≡ done ++ (here ++ rest) → IfErr r (λ y. IsFirst y whole)
-exits (Ok x) e done here rest whole q h d w = tt
-exits (Err y) e done here rest whole q h d w = rw q (is_first_in e done here rest whole h d w)
+-- the fault that is answered
+pub told : {X : Type 0} (r : Result X TypeFault) (e : TypeFault) (all : List TypeFault) → IsErrAnd r (λ y. y ≡ e) → IsFirst e all → IfErr r (λ y. (y ≡ Memory) ⊎ (first_member all ≡ Some y))
+told (Ok x) e all q h = tt
+told (Err y) e all q h = rw q h.why
 
--- a place more without a fault
-pub none_more : (done here more : List TypeFault) → done ≡ [] → here ≡ [] → more ≡ done ++ here → more ≡ []
-none_more done here more d h m = cc
+pub told_memory : {X : Type 0} (r : Result X TypeFault) (all : List TypeFault) → IsErrAnd r (λ y. y ≡ Memory) → IfErr r (λ y. (y ≡ Memory) ⊎ (first_member all ≡ Some y))
+told_memory (Ok x) all q = tt
+told_memory (Err y) all q = inl q
 
--- a last call whose answer is passed on: the faults there are among all
-pub passes_first : {X : Type 0} (r : Result X TypeFault) (done here rest whole : List TypeFault)
-    → IfErr r (λ e. IsFirst e here) → done ≡ [] → whole ≡ done ++ (here ++ rest) → IfErr r (λ e. IsFirst e whole)
-passes_first (Ok x) done here rest whole h d w = tt
-passes_first (Err e) done here rest whole h d w = is_first_in e done here rest whole h d w
+-- an exit that passes the fault here on
+pub exits : {X : Type 0} (r : Result X TypeFault) (e : TypeFault) (here rest whole : List TypeFault)
+    → IsErrAnd r (λ y. y ≡ e) → IsFirst e here → whole ≡ here ++ rest → IfErr r (λ y. IsFirst y whole)
+exits (Ok x) e here rest whole q h w = tt
+exits (Err y) e here rest whole q h w = rw q (first_of e here rest whole h w)
 
-pub passes_none : {X : Type 0} (r : Result X TypeFault) (done here whole : List TypeFault) → OnOk r (here ≡ []) → done ≡ [] → whole ≡ done ++ (here ++ []) → OnOk r (whole ≡ [])
-passes_none (Ok x) done here whole h d w = cc
-passes_none (Err e) done here whole h d w = tt
+-- a place without a fault is passed
+pub passed : (whole here rest : List TypeFault) → whole ≡ here ++ rest → here ≡ [] → whole ≡ rest
+passed whole here rest w h = w ∙ ap (λ l. l ++ rest) h
+
+-- what is left of a list, one element further
+pub drop_more : {X : Type 0} (xs : List X) (i : ℕ) (x : X) → x ≡ get_or xs i x → i < length xs → drop i xs ≡ x ∷ drop (i + 1) xs
+drop_more xs i x e h = rw (add-one, drop-cons xs i x h) (ap (λ y. y ∷ drop (suc i) xs) (sym e))
+
+-- A walk over a list, whose faults are those of the first element and then those of the others.
+module _ {X : Type 0} (F : List X → List TypeFault) (f : X → List TypeFault) (step : (x : X) (xs : List X) → F (x ∷ xs) ≡ f x ++ F xs) where
+  -- at an element in front of which there is none
+  pub at_element : (xs : List X) (i : ℕ) (x : X) (whole : List TypeFault) → whole ≡ F (drop i xs) → x ≡ get_or xs i x → i < length xs → whole ≡ f x ++ F (drop (i + 1) xs)
+  at_element xs i x whole w e h = w ∙ ap F (drop_more xs i x e h) ∙ step x (drop (i + 1) xs)

@@ -7,7 +7,8 @@ use Rattle.indexmap.proofs.ReorderLemmas.{map-reverse}
 use Rattle.bw_lang.specs.declared.stmt.Kind.{Kind}
 use Rattle.bw_lang.specs.Names.{same}
 use Rattle.bw_types.specs.declared.locals.Local.{Local}
-use Rattle.bw_types.specs.Scopes.{Scope, beside}
+use Rattle.bw_lang.specs.Names.{beside}
+use Rattle.bw_types.specs.Scopes.{Scope}
 
 abbrev pub named : Local → List ℕ × Kind
 named x = (x.name, x.kind)
@@ -22,10 +23,10 @@ beside-named w (x ∷ xs) = by_test (same w x.name) (beside-named w xs)
     by_test false ih = ih
 
 -- the kind of the newest local of that name
-pub newest : (v w : List ℕ) (xs : List Local) (scope : Scope) (found : Option Local) → found ≡ find (λ x. same v x.name) (reverse xs) → v ≡ w → reverse (map named xs) ≡ scope.locals
+pub newest : (w : List ℕ) (xs : List Local) (scope : Scope) (found : Option Local) → found ≡ find (λ x. same w x.name) (reverse xs) → reverse (map named xs) ≡ scope.locals
     → option_map (λ (x : Local). x.kind) found ≡ beside w scope.locals
-newest v w xs scope found f e l =
-    ap (option_map (λ (x : Local). x.kind)) f ∙ sym (beside-named v (reverse xs)) ∙ ap (beside v) (map-reverse named xs ∙ l) ∙ ap (λ n. beside n scope.locals) e
+newest w xs scope found f l =
+    ap (option_map (λ (x : Local). x.kind)) f ∙ sym (beside-named w (reverse xs)) ∙ ap (beside w) (map-reverse named xs ∙ l)
 
 reverse_take : {A : Type 0} (n : ℕ) (xs : List A) → reverse (take n xs) ≡ drop (length (reverse xs) - n) (reverse xs)
 reverse_take {A = A} n xs =

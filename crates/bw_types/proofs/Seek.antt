@@ -11,7 +11,8 @@ use Rattle.bw_lang.specs.Names.{same, number, with_name, with_names}
 use Rattle.bw_lang.proofs.TableLaws.{known}
 use Rattle.bw_types.specs.declared.fault.GapKind.{GapKind}
 use Rattle.bw_types.specs.Gaps.{gap_kind}
-use Rattle.bw_types.specs.Scopes.{beside, is_among}
+use Rattle.bw_lang.specs.Names.{beside}
+use Rattle.bw_types.specs.Scopes.{is_among}
 use Rattle.bw_types.specs.Tables.{with_kind, with_kinds, with_use, with_uses}
 
 -- names with the same bytes are the same
@@ -77,10 +78,10 @@ pub beside-append : {V : Type 0} (w : List ℕ) (a b : List (List ℕ × V)) →
 beside-append w a b = seek-append same w a b
 
 -- the test of a gap
-abbrev is_gap : ℕ → ℕ → Bool
+abbrev pub is_gap : ℕ → ℕ → Bool
 is_gap g h = h == g
 
-same_gap : (g h : ℕ) → is_gap g h ≡ true → g ≡ h
+pub same_gap : (g h : ℕ) → is_gap g h ≡ true → g ≡ h
 same_gap g h e = sym (eqb-true h g e)
 
 -- what the table of first kinds says of a gap is what the list says

@@ -8,7 +8,7 @@ use Rattle.indexmap.specs.IndexMap.{insert_entry}
 use Rattle.bw_lang.specs.Names.{same}
 use Rattle.bw_types.specs.declared.fault.GapKind.{GapKind}
 use Rattle.bw_types.specs.Gaps.{gap_kind}
-use Rattle.bw_types.specs.Scopes.{beside}
+use Rattle.bw_lang.specs.Names.{beside}
 use Rattle.bw_types.specs.Tables.{with_kind, with_use}
 
 nat_eq_flips : (a b : ℕ) → nat_eq a b ≡ nat_eq b a

@@ -6,8 +6,8 @@ use Rattle.bw_lang.specs.declared.expr.Fun.{Fun}
 use Rattle.bw_lang.specs.declared.expr.Fun.TheVariants as funs
 use Rattle.bw_lang.specs.declared.service.Service.{Service}
 use Rattle.bw_lang.specs.declared.stmt.Kind.{Kind}
-use Rattle.bw_lang.specs.declared.stmt.Kind.TheVariants.{Int, Bool as Truth, Str, Html}
-use Rattle.bw_lang.specs.Term.{Term, int, truth, string, name, paren, not, neg, binary, call, plug, Fillings, no_more, filling}
+use Rattle.bw_lang.specs.declared.stmt.Kind.TheVariants.{Int, Bool as Truth, Str, Html, Strs}
+use Rattle.bw_lang.specs.Term.{Term, int, truth, string, name, paren, not, neg, binary, call, plug, nothing, Fillings, no_more, filling}
 use Rattle.bw_types.specs.declared.fault.GapKind.{GapKind}
 use Rattle.bw_types.specs.declared.fault.GapKind.TheVariants.{Content, Attribute}
 use Rattle.bw_types.specs.declared.fault.TypeFault.{TypeFault}
@@ -51,11 +51,13 @@ abbrev pub fun_takes : Fun → Kind
 fun_takes funs.Text = Int
 fun_takes funs.Number = Str
 fun_takes funs.IsNumber = Str
+fun_takes funs.Count = Strs
 
 abbrev pub fun_gives : Fun → Kind
 fun_gives funs.Text = Str
 fun_gives funs.Number = Int
 fun_gives funs.IsNumber = Truth
+fun_gives funs.Count = Int
 
 -- the kind of an expression; none, where a name in it stands for nothing
 abbrev pub kind_of : Service → Scope → Term → Option Kind
@@ -69,6 +71,7 @@ kind_of service scope (neg e) = Some Int
 kind_of service scope (binary op l r) = op_kind (op_sort op) (kind_of service scope l)
 kind_of service scope (call f e) = Some (fun_gives f)
 kind_of service scope (plug b ps) = Some Html
+kind_of service scope nothing = Some Strs
 
 -- this kind is demanded, and another one was found
 abbrev pub demand : Kind → Option Kind → List TypeFault
@@ -77,6 +80,7 @@ demand Int (Some Int) = []
 demand Truth (Some Truth) = []
 demand Str (Some Str) = []
 demand Html (Some Html) = []
+demand Strs (Some Strs) = []
 demand kind (Some other) = faults.Kind kind other ∷ []
 
 -- the kind of the left side is demanded
@@ -84,15 +88,17 @@ abbrev pub demand_same : Option Kind → Option Kind → List TypeFault
 demand_same None found = []
 demand_same (Some kind) found = demand kind found
 
--- what isn't a document is demanded
-abbrev pub demand_no_document : Option Kind → List TypeFault
-demand_no_document (Some Html) = faults.Kind Str Html ∷ []
-demand_no_document found = []
+-- what is no document and no list is demanded
+abbrev pub demand_plain : Option Kind → List TypeFault
+demand_plain (Some Html) = faults.Kind Str Html ∷ []
+demand_plain (Some Strs) = faults.Kind Str Strs ∷ []
+demand_plain found = []
 
 -- a number or a string is demanded
 abbrev pub demand_sum : Option Kind → List TypeFault
 demand_sum (Some Truth) = faults.Kind Int Truth ∷ []
 demand_sum (Some Html) = faults.Kind Int Html ∷ []
+demand_sum (Some Strs) = faults.Kind Int Strs ∷ []
 demand_sum found = []
 
 -- a string or a document is demanded
@@ -103,7 +109,7 @@ demand_content found = demand Html found
 -- what is demanded of the left side of an operator, and then of its right side
 abbrev pub left_demand : OpSort → Option Kind → List TypeFault
 left_demand joins_truths left = demand Truth left
-left_demand tests_equality left = demand_no_document left
+left_demand tests_equality left = demand_plain left
 left_demand compares left = demand Int left
 left_demand adds left = demand_sum left
 left_demand computes left = demand Int left
@@ -137,6 +143,7 @@ abbrev mutual
   faults_in service scope (int n) = []
   faults_in service scope (truth b) = []
   faults_in service scope (string s) = []
+  faults_in service scope nothing = []
   faults_in service scope (name w) = name_unknown w (name_kind service scope w)
   faults_in service scope (paren e) = faults_in service scope e
   faults_in service scope (not e) = faults_in service scope e ++ demand Truth (kind_of service scope e)

@@ -1,7 +1,7 @@
 -- The scopes of a session's places.
 use Rattle.std.specs.Prelude.{ℕ, ◌-◌, length, drop}
-use Rattle.bw_lang.specs.Code.{Code, done, declare, assign, if_then, if_else, while_loop, block, show, exit}
-use Rattle.bw_types.specs.Scopes.{Scope, with_local, behind}
+use Rattle.bw_lang.specs.Code.{Code, done, declare, assign, if_then, if_else, while_loop, block, for_each, show, exit}
+use Rattle.bw_types.specs.Scopes.{Scope, with_local, behind, behind_each}
 
 -- the scope behind these statements, in their block
 abbrev pub after : Scope → Code → Scope
@@ -12,6 +12,7 @@ after scope (if_then t y rest) = after (behind scope y) rest
 after scope (if_else t y n rest) = after (behind (behind scope y) n) rest
 after scope (while_loop t b rest) = after (behind scope b) rest
 after scope (block b rest) = after (behind scope b) rest
+after scope (for_each w e b rest) = after (behind_each scope w b) rest
 after scope (show p rs rest) = after scope rest
 after scope (exit p rest) = after scope rest
 

@@ -1,12 +1,8 @@
 -- Tables of kinds: each name and each gap with the kind that it was first given.
-use Rattle.std.specs.Prelude.{ℕ, if◌then◌else◌, List, [], ◌∷◌, ◌++◌, flat_map, is_some, fold}
-use Rattle.bw_lang.specs.declared.service.Template.{Template}
-use Rattle.bw_lang.specs.Controls.{fields}
-use Rattle.bw_lang.specs.declared.controls.FieldKind.{FieldKind}
+use Rattle.std.specs.Prelude.{ℕ, if◌then◌else◌, List, [], ◌∷◌, ◌++◌, is_some, fold}
+use Rattle.bw_lang.specs.Names.{beside}
 use Rattle.bw_types.specs.declared.fault.GapKind.{GapKind}
 use Rattle.bw_types.specs.Gaps.{gap_kind}
-use Rattle.bw_types.specs.Scopes.{beside}
-use Rattle.bw_types.specs.TemplateFaults.{Front}
 
 -- the table with a name and its kind behind the others, unless the name is there
 abbrev pub with_kind : {A : Type 0} → List (List ℕ × A) → List ℕ × A → List (List ℕ × A)
@@ -23,11 +19,3 @@ with_use table x = if is_some (gap_kind table x.0) then table else table ++ x �
 -- the table with each of these taken in, one after the other
 abbrev pub with_uses : List (ℕ × GapKind) → List (ℕ × GapKind) → List (ℕ × GapKind)
 with_uses table new = fold with_use table new
-
--- the tables with gaps and fields taken in
-abbrev pub noted : Front → List (ℕ × GapKind) → List (List ℕ × FieldKind) → Front
-noted front uses more = record { gaps = with_uses front.gaps uses; fields = with_kinds front.fields more }
-
--- the fields of all templates
-abbrev pub template_fields : List Template → List (List ℕ × FieldKind)
-template_fields templates = flat_map (λ t. fields t.items) templates

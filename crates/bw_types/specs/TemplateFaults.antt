@@ -1,13 +1,14 @@
--- The tests of templates that fail, in source order.
-use Rattle.std.specs.Prelude.{ℕ, Bool, true, false, not, ◌&&◌, ◌||◌, if◌then◌else◌, List, [], ◌∷◌, ◌++◌, codes, Option, Some, None}
+-- The tests of templates that fail, in source order. A gap and a field have the kinds of their first places in the
+-- templates of the service.
+use Rattle.std.specs.Prelude.{ℕ, Bool, true, false, not, ◌&&◌, ◌||◌, if◌then◌else◌, List, [], ◌∷◌, ◌++◌, flat_map, codes, Option, Some, None}
 use Rattle.std.specs.List.{list_any}
 use Rattle.bw_lang.specs.declared.items.Attr.{Attr}
 use Rattle.bw_lang.specs.declared.items.AttrValue.{AttrValue}
 use Rattle.bw_lang.specs.declared.items.AttrValue.TheVariants.{Fixed, Hole}
 use Rattle.bw_lang.specs.declared.controls.FieldKind.{FieldKind}
 use Rattle.bw_lang.specs.declared.controls.FieldKind.TheVariants.{Single, Choice, Many}
-use Rattle.bw_lang.specs.declared.service.Template.{Template}
-use Rattle.bw_lang.specs.Controls.{fixed, is_control, field_of, fields}
+use Rattle.bw_lang.specs.declared.service.Service.{Service}
+use Rattle.bw_lang.specs.Controls.{fixed, is_control, field_of}
 use Rattle.bw_lang.specs.Documents.{is_open}
 use Rattle.bw_lang.specs.Forest.{Forest, none, text, gap, element}
 use Rattle.bw_lang.specs.Names.{same}
@@ -15,25 +16,13 @@ use Rattle.bw_types.specs.declared.fault.GapKind.{GapKind}
 use Rattle.bw_types.specs.declared.fault.GapKind.TheVariants.{Content, Attribute}
 use Rattle.bw_types.specs.declared.fault.TypeFault.{TypeFault}
 use Rattle.bw_types.specs.declared.fault.TypeFault.TheVariants as faults
-use Rattle.bw_types.specs.Gaps.{gap_kind, gap_name, value_use, attr_uses, gap_uses}
-use Rattle.bw_types.specs.Scopes.{is_among, beside}
+use Rattle.bw_types.specs.Fields.{kind_of_field}
+use Rattle.bw_types.specs.Gaps.{kind_of_number, gap_name}
+use Rattle.bw_types.specs.Scopes.{is_among}
 
 -- the fault, where the test fails
 abbrev pub fault_if : Bool → TypeFault → List TypeFault
 fault_if fails fault = if fails then fault ∷ [] else []
-
--- the gaps and the fields that stand in front of a place, in all templates up to there
-pub record Front : Type 0 where
-  pub gaps : List (ℕ × GapKind)
-  pub fields : List (List ℕ × FieldKind)
-
--- where the first template begins
-abbrev pub nothing_in_front : Front
-nothing_in_front = record { gaps = []; fields = [] }
-
--- with the gaps and the fields of more in front
-abbrev pub past : Front → List (ℕ × GapKind) → List (List ℕ × FieldKind) → Front
-past front uses more = record { gaps = front.gaps ++ uses; fields = front.fields ++ more }
 
 -- there is a kind, and it is another one
 abbrev pub is_other_gap_kind : Option GapKind → GapKind → Bool
@@ -50,23 +39,21 @@ is_other_field_kind (Some Choice) Choice = false
 is_other_field_kind (Some Many) Many = false
 is_other_field_kind (Some other) kind = true
 
--- at a gap: in front it has another kind
-abbrev pub gap_fault : List (List ℕ) → List (ℕ × GapKind) → ℕ → GapKind → List TypeFault
-gap_fault names front g kind = fault_if (is_other_gap_kind (gap_kind front g) kind) (faults.GapKinds (gap_name names g))
+-- at a gap: its first place has another kind
+abbrev pub gap_fault : Service → ℕ → GapKind → List TypeFault
+gap_fault service g kind = fault_if (is_other_gap_kind (kind_of_number service g) kind) (faults.GapKinds (gap_name service.gaps g))
 
-abbrev pub value_fault : List (List ℕ) → List (ℕ × GapKind) → AttrValue → List TypeFault
-value_fault names front (Fixed v) = []
-value_fault names front (Hole g) = gap_fault names front g Attribute
+abbrev pub value_fault : Service → AttrValue → List TypeFault
+value_fault service (Fixed v) = []
+value_fault service (Hole g) = gap_fault service g Attribute
 
 -- at the gaps of attributes, in their order
-abbrev pub attr_faults : List (List ℕ) → List (ℕ × GapKind) → List Attr → List TypeFault
-attr_faults names front [] = []
-attr_faults names front (a ∷ attrs) = value_fault names front a.value ++ attr_faults names (front ++ value_use a.value) attrs
+abbrev pub attr_faults : Service → List Attr → List TypeFault
+attr_faults service attrs = flat_map (λ a. value_fault service a.value) attrs
 
--- at a control: in front its field has another kind
-abbrev pub field_faults : List (List ℕ × FieldKind) → List (List ℕ × FieldKind) → List TypeFault
-field_faults front [] = []
-field_faults front (f ∷ fs) = fault_if (is_other_field_kind (beside f.0 front) f.1) (faults.FieldKinds f.0)
+-- at a control: the first control of its field has another kind
+abbrev pub field_fault : Service → List ℕ × FieldKind → List TypeFault
+field_fault service f = fault_if (is_other_field_kind (kind_of_field service f.0) f.1) (faults.FieldKinds f.0)
 
 -- the elements that only the page around a template may have
 abbrev pub is_reserved : List ℕ → Bool
@@ -102,27 +89,17 @@ has_other_type tag attrs = same tag (codes "input") && is_none_of (fixed (codes 
 abbrev pub is_bad_control : List ℕ → List Attr → Bool
 is_bad_control tag attrs = is_control tag && (list_any is_bad_attr attrs || has_other_type tag attrs)
 
--- at an element, in front of its items
-abbrev pub element_faults : List ℕ → List (List ℕ) → Front → List ℕ → List Attr → List TypeFault
-element_faults template names front tag attrs =
+-- at an element of this template, in front of its items
+abbrev pub element_faults : Service → List ℕ → List ℕ → List Attr → List TypeFault
+element_faults service template tag attrs =
     fault_if (is_reserved tag) (faults.ReservedTag tag) ++ (fault_if (is_file_input tag attrs) (faults.FileInput template) ++
-    (fault_if (is_bad_control tag attrs) (faults.BadControl template) ++ (field_faults front.fields (field_of tag attrs) ++
-    attr_faults names front.gaps attrs)))
+    (fault_if (is_bad_control tag attrs) (faults.BadControl template) ++ (flat_map (field_fault service) (field_of tag attrs) ++
+    attr_faults service attrs)))
 
 -- the tests of a template's items that fail
-abbrev pub items_faults : List ℕ → List (List ℕ) → Front → Forest → List TypeFault
-items_faults template names front none = []
-items_faults template names front (text s rest) = items_faults template names front rest
-items_faults template names front (gap g rest) =
-    gap_fault names front.gaps g Content ++ items_faults template names (past front ((g, Content) ∷ []) []) rest
-items_faults template names front (element tag attrs inner rest) =
-    element_faults template names front tag attrs ++
-    (items_faults template names (past front (attr_uses attrs) (field_of tag attrs)) inner ++
-    items_faults template names (past (past front (attr_uses attrs) (field_of tag attrs)) (gap_uses inner) (fields inner)) rest)
-
--- those of all templates: a name that an earlier one has, and the items
-abbrev pub template_faults : List (List ℕ) → List (List ℕ) → Front → List Template → List TypeFault
-template_faults names earlier front [] = []
-template_faults names earlier front (t ∷ ts) =
-    fault_if (is_among t.name earlier) (faults.Repeated t.name) ++ (items_faults t.name names front t.items ++
-    template_faults names (earlier ++ t.name ∷ []) (past front (gap_uses t.items) (fields t.items)) ts)
+abbrev pub items_faults : Service → List ℕ → Forest → List TypeFault
+items_faults service template none = []
+items_faults service template (text s rest) = items_faults service template rest
+items_faults service template (gap g rest) = gap_fault service g Content ++ items_faults service template rest
+items_faults service template (element tag attrs inner rest) =
+    element_faults service template tag attrs ++ (items_faults service template inner ++ items_faults service template rest)

@@ -5,25 +5,25 @@ use Rattle.bw_lang.specs.declared.items.Attr.{Attr}
 use Rattle.bw_lang.specs.declared.service.Service.{Service}
 use Rattle.bw_lang.specs.declared.service.Session.{Session}
 use Rattle.bw_lang.specs.declared.stmt.Kind.{Kind}
-use Rattle.bw_lang.specs.declared.stmt.Kind.TheVariants.{Int, Bool as Truth, Str, Html}
+use Rattle.bw_lang.specs.declared.stmt.Kind.TheVariants.{Int, Bool as Truth, Str, Html, Strs}
 use Rattle.bw_lang.specs.declared.stmt.Receive.{Receive}
-use Rattle.bw_lang.specs.Code.{Code, done, declare, assign, if_then, if_else, while_loop, block, show, exit}
+use Rattle.bw_lang.specs.Code.{Code, done, declare, assign, if_then, if_else, while_loop, block, for_each, show, exit}
 use Rattle.bw_lang.specs.Forest.{Forest, none, text, gap, element}
-use Rattle.bw_lang.specs.Term.{Term, int, truth, string, name, paren, not, neg, binary, call, plug, Fillings, no_more, filling}
+use Rattle.bw_lang.specs.Term.{Term, int, truth, string, name, paren, not, neg, binary, call, plug, nothing, Fillings, no_more, filling}
 use Rattle.bw_types.specs.declared.fault.GapKind.{GapKind}
 use Rattle.bw_types.specs.declared.fault.GapKind.TheVariants.{Content, Attribute}
 use Rattle.bw_types.specs.ExpressionFaults.{OpSort, joins_truths, tests_equality, compares, adds, computes, op_sort, fun_takes, fun_gives}
 use Rattle.bw_types.specs.Faults.{literal_kind, ends_in_exit}
+use Rattle.bw_types.specs.Fields.{template_fields}
 use Rattle.bw_types.specs.Gaps.{kind_of_gap, template_uses}
-use Rattle.bw_types.specs.Scopes.{Scope, no_locals, declared_names, name_kind, variable_kind, with_local, behind}
-use Rattle.bw_types.specs.Tables.{template_fields}
+use Rattle.bw_types.specs.Scopes.{Scope, no_locals, declared_names, name_kind, variable_kind, with_local, behind, behind_each}
 use Rattle.bw_types.specs.TemplateFaults.{is_reserved, is_file_input, is_bad_control}
 
--- An operator of this sort takes two sides of the first kind and gives the second: equality is of all but documents, and
--- + is of numbers or of strings.
+-- An operator of this sort takes two sides of the first kind and gives the second: equality is of all but documents and
+-- lists, and + is of numbers or of strings.
 abbrev pub Takes : OpSort → Kind → Kind → Type 0
 Takes joins_truths side kind = (side ≡ Truth) × (kind ≡ Truth)
-Takes tests_equality side kind = (side ≢ Html) × (kind ≡ Truth)
+Takes tests_equality side kind = (side ≢ Html) × (side ≢ Strs) × (kind ≡ Truth)
 Takes compares side kind = (side ≡ Int) × (kind ≡ Truth)
 Takes adds side kind = ((side ≡ Int) ⊎ (side ≡ Str)) × (kind ≡ side)
 Takes computes side kind = (side ≡ Int) × (kind ≡ Int)
@@ -46,6 +46,7 @@ abbrev mutual
   HasKind service scope (binary op l r) kind = (side : Kind) × HasKind service scope l side × HasKind service scope r side × Takes (op_sort op) side kind
   HasKind service scope (call f e) kind = HasKind service scope e (fun_takes f) × (kind ≡ fun_gives f)
   HasKind service scope (plug b ps) kind = HasKind service scope b Html × AreTyped service scope ps × (kind ≡ Html)
+  HasKind service scope nothing kind = kind ≡ Strs
 
   -- each pair's gap stands in a template, and takes the kind of the value
   pub AreTyped : Service → Scope → Fillings → Type 0
@@ -57,9 +58,9 @@ abbrev mutual
 abbrev pub IsNew : Service → Scope → List ℕ → Type 0
 IsNew service scope w = (¬ (Contains (declared_names service) w)) × (¬ (Contains scope.taken w))
 
--- the receive's target is a string variable
+-- the receive's target is a variable for a string or for a list
 abbrev pub IsReceived : Service → Scope → Receive → Type 0
-IsReceived service scope r = variable_kind service scope r.target ≡ Some Str
+IsReceived service scope r = (variable_kind service scope r.target ≡ Some Str) ⊎ (variable_kind service scope r.target ≡ Some Strs)
 
 -- the statements are typed
 abbrev pub IsTypedCode : Service → Scope → Code → Type 0
@@ -72,6 +73,8 @@ IsTypedCode service scope (if_else t y n rest) =
     HasKind service scope t Truth × IsTypedCode service scope y × IsTypedCode service (behind scope y) n × IsTypedCode service (behind (behind scope y) n) rest
 IsTypedCode service scope (while_loop t b rest) = HasKind service scope t Truth × IsTypedCode service scope b × IsTypedCode service (behind scope b) rest
 IsTypedCode service scope (block b rest) = IsTypedCode service scope b × IsTypedCode service (behind scope b) rest
+IsTypedCode service scope (for_each w e b rest) =
+    IsNew service scope w × HasKind service scope e Strs × IsTypedCode service (with_local scope w Str) b × IsTypedCode service (behind_each scope w b) rest
 IsTypedCode service scope (show p rs rest) = HasKind service scope p Html × All (IsReceived service scope) rs × IsTypedCode service scope rest
 IsTypedCode service scope (exit p rest) = HasKind service scope p Html × IsTypedCode service scope rest
 

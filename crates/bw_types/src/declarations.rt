@@ -1,82 +1,38 @@
 //! The tests of a service, in one walk over its declarations.
-ghost use Rattle.std.specs.Prelude.{◌≡◌, Some, None, IfOk, IfErr, OnOk, [], ◌∷◌, ◌++◌, map};
+ghost use Rattle.std.specs.Prelude.{◌≡◌, Some, IfOk, IfErr, OnOk, [], ◌∷◌, ◌++◌, map};
+ghost use Rattle.bw_lang.specs.Order.{seen};
+ghost use Rattle.bw_lang.specs.Reads.{IsReadable};
+ghost use Rattle.bw_lang.specs.declared.declaration.Declaration.TheVariants as declarations;
 ghost use Rattle.bw_types.specs.declared.fault.TypeFault.TheVariants.{Repeated};
 ghost use Rattle.bw_types.specs.Faults as spec;
 ghost use Rattle.bw_types.specs.First.{IsFirst};
-ghost use Rattle.bw_lang.specs.Controls.{fields};
-ghost use Rattle.bw_types.specs.Gaps.{gap_uses, template_uses};
-ghost use Rattle.bw_types.specs.Scopes.{is_among};
-ghost use Rattle.bw_types.specs.Tables.{noted, template_fields};
-ghost use Rattle.bw_types.specs.TemplateFaults.{template_faults, fault_if};
+ghost use Rattle.bw_types.specs.Known.{IsKnown};
+ghost use Rattle.bw_types.specs.Scopes.{is_among, name_of};
+ghost use Rattle.bw_types.specs.TemplateFaults.{fault_if};
 
 use crate::fault::TypeFault;
 use crate::kinds::demand;
 use crate::locals::Locals;
 use crate::names::Names;
 use crate::statements::ends_in_exit;
-use crate::tables::{Seen, has};
-use crate::templates::Place;
-use bw_lang::{GapNames, Kind, Literal, Name, NameTable, Service, Session, Shared, Template};
+use crate::tables::{Tables, has};
+use bw_lang::{Declared, Kind, Literal, Name, NameTable, Service, Session, Shared};
 use std::alloc::Global;
 
-/// The tests of a service, in source order: those of its templates, of its shared variables and of its sessions.
-pub fn check(alloc: Global, service: &Service) -> Result<(), TypeFault>
+/// The tests of a service, in source order, by its tables.
+pub fn check(alloc: Global, service: &Service, tables: &Tables) -> Result<(), TypeFault>
+    requires readable { ∥ IsReadable service.now ∥₁ }
+    requires known { IsKnown service.now tables.now }
     ensures none { OnOk result (spec.faults_of service.now ≡ []) }
     ensures first { IfErr result (λ e. IsFirst e (spec.faults_of service.now)) }
 {
-    let mut earlier = NameTable::new(alloc);
-    let mut seen = Seen::new(alloc);
-    templates(
+    let names = Names {
         alloc,
-        &service.gaps,
-        &mut earlier,
-        &mut seen,
-        service.templates.as_slice(),
-    )?;
-    let names = Names::of(alloc, service, seen.into_gaps())?;
-    names.shared(&mut earlier, service.shared.as_slice())?;
-    names.sessions(alloc, &mut earlier, service.sessions.as_slice())
-}
-
-/// The tests of templates. Their names, their gaps and their fields are noted.
-fn templates(
-    alloc: Global,
-    names: &GapNames,
-    earlier: &mut NameTable,
-    seen: &mut Seen,
-    templates: &[Template],
-) -> Result<(), TypeFault>
-    ensures none { OnOk result (template_faults names.now earlier.old seen.old templates.now ≡ []) }
-    ensures named { OnOk result (earlier.new ≡ earlier.old ++ map (λ t. t.name) templates.now) }
-    ensures noted { OnOk result (seen.new ≡ noted seen.old (template_uses templates.now) (template_fields templates.now)) }
-    ensures first { IfErr result (λ e. IsFirst e (template_faults names.now earlier.old seen.old templates.now)) }
-{
-    for item in templates {
-        template(alloc, names, earlier, seen, item)?;
-    }
-    Ok(())
-}
-
-/// The tests of one template: its name, and its items.
-fn template(
-    alloc: Global,
-    names: &GapNames,
-    earlier: &mut NameTable,
-    seen: &mut Seen,
-    template: &Template,
-) -> Result<(), TypeFault>
-    ensures none { OnOk result (template_faults names.now earlier.old seen.old (template.now ∷ []) ≡ []) }
-    ensures named { OnOk result (earlier.new ≡ earlier.old ++ template.now.name ∷ []) }
-    ensures noted { OnOk result (seen.new ≡ noted seen.old (gap_uses template.now.items) (fields template.now.items)) }
-    ensures first { IfErr result (λ e. IsFirst e (template_faults names.now earlier.old seen.old (template.now ∷ []))) }
-{
-    take_name(earlier, &template.name)?;
-    let place = Place {
-        alloc,
-        template: &template.name,
-        names,
+        service,
+        tables,
     };
-    place.items(seen, &template.items)
+    let declarations = service.declarations(alloc)?;
+    names.declarations(declarations.as_slice())
 }
 
 /// The test of a declaration's name: `Repeated` where an earlier one has it. Then it is taken.
@@ -85,33 +41,55 @@ fn take_name(earlier: &mut NameTable, name: &Name) -> Result<(), TypeFault>
     ensures named { OnOk result (earlier.new ≡ earlier.old ++ name.now ∷ []) }
     ensures first { IfErr result (λ e. IsFirst e (fault_if (is_among name.now earlier.old) (Repeated name.now))) }
 {
-    if has(earlier, name) {
+    if has(earlier, name.as_str()) {
         return Err(TypeFault::Repeated(name.copy()?));
     }
-    earlier.add(name)?;
+    earlier.add(name.as_str())?;
     Ok(())
 }
 
+/// The name of a declaration.
+fn name<'a>(declaration: &Declared<'a>) -> &'a Name
+    ensures { result.now ≡ name_of (seen declaration.now) }
+{
+    match declaration {
+        Declared::Template(template) => &template.name,
+        Declared::Shared(variable) => &variable.name,
+        Declared::Session(session) => &session.name,
+    }
+}
+
 impl Names<'_> {
-    /// The tests of shared variables.
-    fn shared(&self, earlier: &mut NameTable, shared: &[Shared]) -> Result<(), TypeFault>
-        ensures none { OnOk result (spec.shared_faults self.now.service.now earlier.old shared.now ≡ []) }
-        ensures named { OnOk result (earlier.new ≡ earlier.old ++ map (λ v. v.name) shared.now) }
-        ensures first { IfErr result (λ e. IsFirst e (spec.shared_faults self.now.service.now earlier.old shared.now)) }
+    /// The tests of declarations: of each its name, and then its own.
+    fn declarations(&self, declarations: &[Declared]) -> Result<(), TypeFault>
+        ensures none { OnOk result (spec.faults_behind self.now.service.now [] (map seen declarations.now) ≡ []) }
+        ensures first { IfErr result (λ e. IsFirst e (spec.faults_behind self.now.service.now [] (map seen declarations.now))) }
     {
-        for variable in shared {
-            self.variable_declared(earlier, variable)?;
+        let mut earlier = NameTable::new(self.alloc);
+        for declaration in declarations {
+            take_name(&mut earlier, name(declaration))?;
+            self.declaration(declaration)?;
         }
         Ok(())
     }
 
-    /// The tests of one shared variable: its name, its literal, and the literal's kind.
-    fn variable_declared(&self, earlier: &mut NameTable, variable: &Shared) -> Result<(), TypeFault>
-        ensures none { OnOk result (spec.shared_faults self.now.service.now earlier.old (variable.now ∷ []) ≡ []) }
-        ensures named { OnOk result (earlier.new ≡ earlier.old ++ variable.now.name ∷ []) }
-        ensures first { IfErr result (λ e. IsFirst e (spec.shared_faults self.now.service.now earlier.old (variable.now ∷ []))) }
+    /// A declaration's own tests.
+    fn declaration(&self, declaration: &Declared) -> Result<(), TypeFault>
+        ensures none { OnOk result (spec.own_faults self.now.service.now (seen declaration.now) ≡ []) }
+        ensures first { IfErr result (λ e. IsFirst e (spec.own_faults self.now.service.now (seen declaration.now))) }
     {
-        take_name(earlier, &variable.name)?;
+        match declaration {
+            Declared::Template(template) => self.items(&template.name, &template.items),
+            Declared::Shared(variable) => self.shared(variable),
+            Declared::Session(session) => self.session(session),
+        }
+    }
+
+    /// The tests of a shared variable: its literal, and the literal's kind.
+    fn shared(&self, variable: &Shared) -> Result<(), TypeFault>
+        ensures none { OnOk result (spec.own_faults self.now.service.now (declarations.Shared variable.now) ≡ []) }
+        ensures first { IfErr result (λ e. IsFirst e (spec.own_faults self.now.service.now (declarations.Shared variable.now))) }
+    {
         let kind = self.literal(&variable.init)?;
         demand(variable.kind, kind)
     }
@@ -126,42 +104,19 @@ impl Names<'_> {
             Literal::Int(_) => Ok(Kind::Int),
             Literal::Bool(_) => Ok(Kind::Bool),
             Literal::Str(_) => Ok(Kind::Str),
-            Literal::Tmpl(name) => match self.template_kind(name) {
+            Literal::Tmpl(name) => match self.template_kind(name.as_str()) {
                 Some(kind) => Ok(kind),
                 None => Err(TypeFault::Unknown(name.copy()?)),
             },
         }
     }
 
-    /// The tests of sessions.
-    fn sessions(
-        &self,
-        alloc: Global,
-        earlier: &mut NameTable,
-        sessions: &[Session],
-    ) -> Result<(), TypeFault>
-        ensures none { OnOk result (spec.session_faults self.now.service.now earlier.old sessions.now ≡ []) }
-        ensures first { IfErr result (λ e. IsFirst e (spec.session_faults self.now.service.now earlier.old sessions.now)) }
+    /// The tests of a session: its statements, and its last one.
+    fn session(&self, session: &Session) -> Result<(), TypeFault>
+        ensures none { OnOk result (spec.own_faults self.now.service.now (declarations.Session session.now) ≡ []) }
+        ensures first { IfErr result (λ e. IsFirst e (spec.own_faults self.now.service.now (declarations.Session session.now))) }
     {
-        for session in sessions {
-            self.session(alloc, earlier, session)?;
-        }
-        Ok(())
-    }
-
-    /// The tests of one session: its name, its statements, and its last one.
-    fn session(
-        &self,
-        alloc: Global,
-        earlier: &mut NameTable,
-        session: &Session,
-    ) -> Result<(), TypeFault>
-        ensures none { OnOk result (spec.session_faults self.now.service.now earlier.old (session.now ∷ []) ≡ []) }
-        ensures named { OnOk result (earlier.new ≡ earlier.old ++ session.now.name ∷ []) }
-        ensures first { IfErr result (λ e. IsFirst e (spec.session_faults self.now.service.now earlier.old (session.now ∷ []))) }
-    {
-        take_name(earlier, &session.name)?;
-        let mut locals = Locals::new(alloc);
+        let mut locals = Locals::new(self.alloc);
         self.block(&mut locals, &session.body)?;
         if !ends_in_exit(&session.body) {
             return Err(TypeFault::NoExit(session.name.copy()?));

@@ -4,9 +4,10 @@ ghost use Rattle.bw_lang.specs.Term.{binary, no_more, filling};
 ghost use Rattle.bw_lang.specs.TermView.{term};
 ghost use Rattle.bw_types.specs.ExpressionFaults as spec;
 ghost use Rattle.bw_types.specs.First.{IsFirst};
+ghost use Rattle.bw_types.specs.Gaps.{kind_of_gap};
 ghost use Rattle.bw_types.specs.Scopes.{name_kind};
 
-use crate::fault::TypeFault;
+use crate::fault::{GapKind, TypeFault};
 use crate::kinds::{
     demand, demand_left, demand_of_gap, demand_right, fun_gives, fun_takes, op_kind,
 };
@@ -26,6 +27,7 @@ impl Names<'_> {
             Expr::Int(_) => Ok(Kind::Int),
             Expr::Bool(_) => Ok(Kind::Bool),
             Expr::Str(_) => Ok(Kind::Str),
+            Expr::Nothing => Ok(Kind::Strs),
             Expr::Name(name) => self.name(locals, name),
             Expr::Paren(part) => self.expr(locals, part.expr()),
             Expr::Not(part) => self.part(locals, Kind::Bool, part),
@@ -49,7 +51,7 @@ impl Names<'_> {
         ensures kind { IfOk result (λ k. name_kind self.now.service.now locals.now name.now ≡ Some k) }
         ensures first { IfErr result (λ e. IsFirst e (spec.name_unknown name.now (name_kind self.now.service.now locals.now name.now))) }
     {
-        match self.name_kind(locals, name) {
+        match self.name_kind(locals, name.as_str()) {
             Some(kind) => Ok(kind),
             None => Err(TypeFault::Unknown(name.copy()?)),
         }
@@ -100,11 +102,21 @@ impl Names<'_> {
         ensures none { OnOk result (spec.faults_in_pairs self.now.service.now locals.now (filling pair.now.gap (term pair.now.value) no_more) ≡ []) }
         ensures first { IfErr result (λ e. IsFirst e (spec.faults_in_pairs self.now.service.now locals.now (filling pair.now.gap (term pair.now.value) no_more))) }
     {
-        let Some(gap) = self.gap_kind(&pair.gap) else {
-            return Err(TypeFault::Unknown(pair.gap.copy()?));
-        };
+        let gap = self.gap(&pair.gap)?;
         let found = self.expr(locals, &pair.value)?;
         demand_of_gap(gap, found)
+    }
+
+    /// The kind of a gap. `Unknown` where no template has one of that name.
+    fn gap(&self, name: &Name) -> Result<GapKind, TypeFault>
+        ensures none { OnOk result (spec.gap_unknown name.now (kind_of_gap self.now.service.now name.now) ≡ []) }
+        ensures kind { IfOk result (λ g. kind_of_gap self.now.service.now name.now ≡ Some g) }
+        ensures first { IfErr result (λ e. IsFirst e (spec.gap_unknown name.now (kind_of_gap self.now.service.now name.now))) }
+    {
+        match self.gap_kind(name.as_str()) {
+            Some(kind) => Ok(kind),
+            None => Err(TypeFault::Unknown(name.copy()?)),
+        }
     }
 
     /// An expression of this kind is demanded.

@@ -12,8 +12,7 @@ pub enum GapKind {
     Attribute,
 }
 
-/// Why a service isn't well typed: the first test that fails, in one walk over the templates, the shared variables and
-/// the sessions, each in source order.
+/// Why a service isn't well typed: the first test that fails, in one walk over its declarations in source order.
 #[derive(Debug, Drop)]
 pub enum TypeFault {
     /// An earlier declaration has this name, or a local's name is taken.
@@ -23,8 +22,9 @@ pub enum TypeFault {
     /// gap in a plug.
     Unknown(Name),
     /// A value of the first kind was expected, and one of the second was found. Where several kinds would do, the first
-    /// stands for them: `string` at `==` and `!=`, which take no documents; `int` at the left of `+`, which takes strings
-    /// too; `html` for a gap that stands for content, which takes strings too.
+    /// stands for them: `string` at `==` and `!=`, which take no documents and no lists; `int` at the left of `+`, which
+    /// takes strings too; `html` for a gap that stands for content, which takes strings too; `string` for the target of
+    /// a receive, which may be a list too.
     Kind(Kind, Kind),
     /// A gap of this name stands for content in one place and for an attribute's value in another.
     GapKinds(Name),

@@ -1,7 +1,7 @@
 //! What operators, functions and gaps demand, and what they give. None of these takes memory.
 ghost use Rattle.std.specs.Prelude.{◌≡◌, Some, IfErr, OnOk, []};
 ghost use Rattle.bw_types.specs.ExpressionFaults as spec;
-ghost use Rattle.bw_types.specs.Faults.{first_member};
+ghost use Rattle.bw_types.specs.Faults.{demand_received, first_member};
 
 use crate::fault::{GapKind, TypeFault};
 use bw_lang::{Fun, Kind, Op};
@@ -15,7 +15,8 @@ pub fn demand(kind: Kind, found: Kind) -> Result<(), TypeFault>
         (Kind::Int, Kind::Int)
         | (Kind::Bool, Kind::Bool)
         | (Kind::Str, Kind::Str)
-        | (Kind::Html, Kind::Html) => Ok(()),
+        | (Kind::Html, Kind::Html)
+        | (Kind::Strs, Kind::Strs) => Ok(()),
         _ => Err(TypeFault::Kind(kind, found)),
     }
 }
@@ -27,7 +28,7 @@ pub fn demand_left(op: Op, left: Kind) -> Result<(), TypeFault>
 {
     match op {
         Op::Or | Op::And => demand(Kind::Bool, left),
-        Op::Eq | Op::Ne => demand_no_document(left),
+        Op::Eq | Op::Ne => demand_plain(left),
         Op::Add => demand_sum(left),
         Op::Lt | Op::Le | Op::Gt | Op::Ge | Op::Sub | Op::Mul | Op::Div | Op::Rem => demand(
             Kind::Int,
@@ -69,6 +70,7 @@ pub fn fun_takes(fun: Fun) -> Kind
     match fun {
         Fun::Text => Kind::Int,
         Fun::Number | Fun::IsNumber => Kind::Str,
+        Fun::Count => Kind::Strs,
     }
 }
 
@@ -78,7 +80,7 @@ pub fn fun_gives(fun: Fun) -> Kind
 {
     match fun {
         Fun::Text => Kind::Str,
-        Fun::Number => Kind::Int,
+        Fun::Number | Fun::Count => Kind::Int,
         Fun::IsNumber => Kind::Bool,
     }
 }
@@ -95,13 +97,24 @@ pub fn demand_of_gap(gap: GapKind, found: Kind) -> Result<(), TypeFault>
     }
 }
 
-/// What isn't a document is demanded, since documents can't be compared.
-fn demand_no_document(found: Kind) -> Result<(), TypeFault>
-    ensures none { OnOk result (spec.demand_no_document (Some found) ≡ []) }
-    ensures first { IfErr result (λ e. first_member (spec.demand_no_document (Some found)) ≡ Some e) }
+/// What a receive demands of its target: a string or a list.
+pub fn demand_of_target(found: Kind) -> Result<(), TypeFault>
+    ensures none { OnOk result (demand_received (Some found) ≡ []) }
+    ensures first { IfErr result (λ e. first_member (demand_received (Some found)) ≡ Some e) }
 {
     match found {
-        Kind::Html => Err(TypeFault::Kind(Kind::Str, Kind::Html)),
+        Kind::Strs => Ok(()),
+        _ => demand(Kind::Str, found),
+    }
+}
+
+/// What is no document and no list is demanded, since these can't be compared.
+fn demand_plain(found: Kind) -> Result<(), TypeFault>
+    ensures none { OnOk result (spec.demand_plain (Some found) ≡ []) }
+    ensures first { IfErr result (λ e. first_member (spec.demand_plain (Some found)) ≡ Some e) }
+{
+    match found {
+        Kind::Html | Kind::Strs => Err(TypeFault::Kind(Kind::Str, found)),
         Kind::Int | Kind::Bool | Kind::Str => Ok(()),
     }
 }
@@ -113,6 +126,6 @@ fn demand_sum(found: Kind) -> Result<(), TypeFault>
 {
     match found {
         Kind::Int | Kind::Str => Ok(()),
-        Kind::Bool | Kind::Html => Err(TypeFault::Kind(Kind::Int, found)),
+        Kind::Bool | Kind::Html | Kind::Strs => Err(TypeFault::Kind(Kind::Int, found)),
     }
 }

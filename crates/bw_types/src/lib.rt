@@ -4,17 +4,14 @@
 mod declarations;
 mod expressions;
 mod fault;
-mod field_names;
 mod kinds;
 pub mod laws;
 mod locals;
 mod names;
-mod numbers;
 mod statements;
 mod tables;
 mod templates;
 mod typed;
 
 pub use fault::{GapKind, TypeFault};
-pub use numbers::SessionId;
 pub use typed::{Typed, resolve};

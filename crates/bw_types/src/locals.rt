@@ -1,6 +1,7 @@
 //! The locals of a session.
 ghost use Rattle.std.specs.Prelude.{◌≡◌, false, OnOk, length};
-ghost use Rattle.bw_types.specs.Scopes.{beside, is_among, no_locals, with_local};
+ghost use Rattle.bw_lang.specs.Names.{beside};
+ghost use Rattle.bw_types.specs.Scopes.{is_among, no_locals, with_local};
 ghost use Rattle.bw_types.specs.Places.{outside};
 
 use crate::tables::has;
@@ -52,10 +53,9 @@ impl Locals {
     }
 
     /// The kind of the local in scope of that name.
-    pub fn kind(&self, name: &Name) -> Option<Kind>
+    pub fn kind(&self, name: &str) -> Option<Kind>
         ensures { result ≡ beside name.now self.now.locals }
     {
-        let name = name.as_str();
         let local = self
             .in_scope
             .iter()
@@ -65,7 +65,7 @@ impl Locals {
     }
 
     /// Whether a local of that name was declared.
-    pub fn has(&self, name: &Name) -> bool
+    pub fn has(&self, name: &str) -> bool
         ensures { result ≡ is_among name.now self.now.taken }
     {
         has(&self.taken, name)
@@ -77,7 +77,7 @@ impl Locals {
         requires { is_among name.now self.old.taken ≡ false }
         ensures { OnOk result (self.new ≡ with_local self.old name.now kind) }
     {
-        self.taken.add(name)?;
+        self.taken.add(name.as_str())?;
         self.in_scope.push(Local {
             name: name.copy()?,
             kind,

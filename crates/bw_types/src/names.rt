@@ -1,67 +1,48 @@
 //! What the names of a service stand for.
-ghost use Rattle.std.specs.Prelude.{◌≡◌, IfOk, []};
-ghost use Rattle.bw_types.specs.Scopes as spec;
-ghost use Rattle.bw_types.specs.Gaps.{kind_of_gap};
-ghost use Rattle.bw_lang.specs.Names.{with_names};
+ghost use Rattle.std.specs.Prelude.{◌≡◌, ◌||◌};
+ghost use Rattle.bw_lang.specs.Reads.{IsReadable};
+ghost use Rattle.bw_types.specs.Fields.{kind_of_field};
+ghost use Rattle.bw_types.specs.Gaps.{kind_of_gap, kind_of_number};
 ghost use Rattle.bw_types.specs.Known.{IsKnown};
-ghost use Rattle.std.specs.Prelude.{◌||◌};
+ghost use Rattle.bw_types.specs.Scopes as spec;
 
 use crate::fault::GapKind;
 use crate::locals::Locals;
-use crate::tables::{GapKinds, Kinds, has};
-use bw_lang::{Kind, Memory, Name, NameTable, Service};
+use crate::tables::{Tables, has};
+use bw_lang::{FieldKind, GapId, Kind, Service};
 use std::alloc::Global;
 
-/// The names of a service's declarations and of its gaps, with what they stand for.
+/// A service that is walked, with its tables.
 #[derive(Drop)]
 pub struct Names<'a> {
-    service: &'a Service,
-    templates: NameTable,
-    shared: Kinds<Kind>,
-    declared: NameTable,
-    gaps: GapKinds,
-    ghost known: { IsKnown service.now templates shared declared gaps },
+    pub alloc: Global,
+    pub service: &'a Service,
+    pub tables: &'a Tables,
+    pub ghost readable: { ∥ IsReadable service.now ∥₁ },
+    pub ghost known: { IsKnown service.now tables.now },
 }
 
-impl<'a> Names<'a> {
-    ghost use Rattle.bw_types.specs.Gaps.{template_uses};
-    ghost use Rattle.bw_types.specs.Tables.{with_uses};
-
-    /// The names of a service, whose templates have these gaps.
-    pub fn of(alloc: Global, service: &'a Service, gaps: GapKinds) -> Result<Names<'a>, Memory>
-        requires { gaps ≡ with_uses [] (template_uses service.now.templates) }
-        ensures { IfOk result (λ n. n.service.now ≡ service.now) }
-    {
-        let mut templates = NameTable::new(alloc);
-        for template in service.templates.as_slice() {
-            templates.add(&template.name)?;
-        }
-        let mut shared = Kinds::new(alloc);
-        for variable in service.shared.as_slice() {
-            shared.note(variable.name.as_str(), variable.kind)?;
-        }
-        let declared = declared_names(alloc, service)?;
-        Ok(Names {
-            service,
-            templates,
-            shared,
-            declared,
-            gaps,
-        })
-    }
-
+impl Names<'_> {
     /// Whether a declaration of the service or a local has the name.
-    pub fn is_taken(&self, locals: &Locals, name: &Name) -> bool
+    pub fn is_taken(&self, locals: &Locals, name: &str) -> bool
         ensures { result ≡ (spec.is_among name.now (spec.declared_names self.now.service.now) || spec.is_among name.now locals.now.taken) }
     {
-        has(&self.declared, name) || locals.has(name)
+        self.is_declared(name) || locals.has(name)
+    }
+
+    /// Whether a declaration of the service has the name.
+    fn is_declared(&self, name: &str) -> bool
+        ensures { result ≡ spec.is_among name.now (spec.declared_names self.now.service.now) }
+    {
+        has(&self.tables.templates, name)
+            || (self.tables.shared.get(name).is_some() || has(&self.tables.sessions, name))
     }
 
     /// Html, where the name is a template's.
-    pub fn template_kind(&self, name: &Name) -> Option<Kind>
+    pub fn template_kind(&self, name: &str) -> Option<Kind>
         ensures { result ≡ spec.template_kind self.now.service.now name.now }
     {
-        if has(&self.templates, name) {
+        if has(&self.tables.templates, name) {
             Some(Kind::Html)
         } else {
             None
@@ -69,17 +50,17 @@ impl<'a> Names<'a> {
     }
 
     /// The kind of the local in scope, or else of the shared variable, of that name.
-    pub fn variable_kind(&self, locals: &Locals, name: &Name) -> Option<Kind>
+    pub fn variable_kind(&self, locals: &Locals, name: &str) -> Option<Kind>
         ensures { result ≡ spec.variable_kind self.now.service.now locals.now name.now }
     {
         match locals.kind(name) {
             Some(kind) => Some(kind),
-            None => self.shared.get(name.as_str()),
+            None => self.tables.shared.get(name),
         }
     }
 
     /// The kind of what the name stands for in an expression: a variable or a template.
-    pub fn name_kind(&self, locals: &Locals, name: &Name) -> Option<Kind>
+    pub fn name_kind(&self, locals: &Locals, name: &str) -> Option<Kind>
         ensures { result ≡ spec.name_kind self.now.service.now locals.now name.now }
     {
         match self.variable_kind(locals, name) {
@@ -89,26 +70,23 @@ impl<'a> Names<'a> {
     }
 
     /// The kind of the gap of that name, where a template has it.
-    pub fn gap_kind(&self, name: &Name) -> Option<GapKind>
+    pub fn gap_kind(&self, name: &str) -> Option<GapKind>
         ensures { result ≡ kind_of_gap self.now.service.now name.now }
     {
-        self.gaps.get(self.service.gaps.number(name))
+        self.kind_of_number(self.service.gaps.number(name))
     }
-}
 
-/// The names of all declarations of a service.
-fn declared_names(alloc: Global, service: &Service) -> Result<NameTable, Memory>
-    ensures { IfOk result (λ t. t ≡ with_names [] (spec.declared_names service.now)) }
-{
-    let mut declared = NameTable::new(alloc);
-    for template in service.templates.as_slice() {
-        declared.add(&template.name)?;
+    /// The kind of the gap of that number, where a template has it.
+    pub fn kind_of_number(&self, gap: GapId) -> Option<GapKind>
+        ensures { result ≡ kind_of_number self.now.service.now gap }
+    {
+        self.tables.gaps.get(gap)
     }
-    for variable in service.shared.as_slice() {
-        declared.add(&variable.name)?;
+
+    /// The kind of the field of that name, where a template has a control of it.
+    pub fn field_kind(&self, name: &str) -> Option<FieldKind>
+        ensures { result ≡ kind_of_field self.now.service.now name.now }
+    {
+        self.tables.fields.get(name)
     }
-    for session in service.sessions.as_slice() {
-        declared.add(&session.name)?;
-    }
-    Ok(declared)
 }

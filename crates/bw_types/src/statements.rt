@@ -1,6 +1,6 @@
 //! The tests of statements.
-ghost use Rattle.std.specs.Prelude.{◌≡◌, Some, IfOk, IfErr, OnOk, [], ◌∷◌};
-ghost use Rattle.bw_lang.specs.Code.{done, declare, assign};
+ghost use Rattle.std.specs.Prelude.{◌≡◌, ◌++◌, Some, IfOk, IfErr, OnOk, [], ◌∷◌, flat_map};
+ghost use Rattle.bw_lang.specs.Code.{done, assign};
 ghost use Rattle.bw_lang.specs.CodeView.{before};
 ghost use Rattle.bw_lang.specs.TermView.{term};
 ghost use Rattle.bw_types.specs.ExpressionFaults.{name_unknown};
@@ -10,14 +10,14 @@ ghost use Rattle.bw_types.specs.Places.{after};
 ghost use Rattle.bw_types.specs.Scopes.{variable_kind, with_local, behind};
 
 use crate::fault::TypeFault;
-use crate::kinds::demand;
+use crate::kinds::demand_of_target;
 use crate::locals::Locals;
 use crate::names::Names;
 use bw_lang::{Block, Expr, Kind, Name, Receive, Stmt};
 
 impl Names<'_> {
     /// The tests of the statements of a block. Behind it its locals are out of scope again, and their names are taken.
-    #[tactic(auto, using(crate::proofs::Codes::stmt_size_at_read))]
+    #[tactic(auto, using(bw_lang::proofs::Sizes::size_steps))]
     #[cycle(block)]
     pub fn block(&self, locals: &mut Locals, block: &Block) -> Result<(), TypeFault>
         ensures none { OnOk result (spec.code_faults self.now.service.now locals.old block.now ≡ []) }
@@ -40,7 +40,7 @@ impl Names<'_> {
         ensures first { IfErr result (λ e. IsFirst e (spec.code_faults self.now.service.now locals.old (before stmt.now done))) }
     {
         match stmt {
-            Stmt::Declare { kind, name, value } => self.declare(locals, *kind, name, value),
+            Stmt::Declare { kind, name, value } => self.local(locals, name, *kind, value, *kind),
             Stmt::Assign { name, value } => self.assign(locals, name, value),
             Stmt::If { test, yes, no } => {
                 self.wanted(locals, Kind::Bool, test)?;
@@ -55,6 +55,13 @@ impl Names<'_> {
                 self.block(locals, body)
             }
             Stmt::Block(block) => self.block(locals, block),
+            Stmt::Each { name, value, body } => {
+                let depth = locals.depth();
+                self.local(locals, name, Kind::Str, value, Kind::Strs)?;
+                self.block(locals, body)?;
+                locals.leave(depth);
+                Ok(())
+            }
             Stmt::Show { page, receives } => {
                 self.wanted(locals, Kind::Html, page)?;
                 self.receives(locals, receives.as_slice())
@@ -63,23 +70,24 @@ impl Names<'_> {
         }
     }
 
-    /// The tests of a local's declaration: `Repeated` where its name is taken, and then those of its value, which doesn't
-    /// see it.
-    fn declare(
+    /// The tests of a local of this kind: `Repeated` where its name is taken, and then those of its value, of which a
+    /// kind is demanded, and which doesn't see the local.
+    fn local(
         &self,
         locals: &mut Locals,
-        kind: Kind,
         name: &Name,
+        kind: Kind,
         value: &Expr,
+        demanded: Kind,
     ) -> Result<(), TypeFault>
-        ensures none { OnOk result (spec.code_faults self.now.service.now locals.old (declare kind name.now (term value.now) done) ≡ []) }
+        ensures none { OnOk result (spec.local_faults self.now.service.now locals.old name.now demanded (term value.now) ≡ []) }
         ensures left { OnOk result (locals.new ≡ with_local locals.old name.now kind) }
-        ensures first { IfErr result (λ e. IsFirst e (spec.code_faults self.now.service.now locals.old (declare kind name.now (term value.now) done))) }
+        ensures first { IfErr result (λ e. IsFirst e (spec.local_faults self.now.service.now locals.old name.now demanded (term value.now))) }
     {
-        if self.is_taken(locals, name) {
+        if self.is_taken(locals, name.as_str()) {
             return Err(TypeFault::Repeated(name.copy()?));
         }
-        self.wanted(locals, kind, value)?;
+        self.wanted(locals, demanded, value)?;
         locals.declare(name, kind)?;
         Ok(())
     }
@@ -93,10 +101,10 @@ impl Names<'_> {
         self.wanted(locals, kind, value)
     }
 
-    /// The tests of receives: each target is a variable of kind `string`.
+    /// The tests of receives: each target is a variable for a string or for a list.
     fn receives(&self, locals: &Locals, receives: &[Receive]) -> Result<(), TypeFault>
-        ensures none { OnOk result (spec.receive_faults self.now.service.now locals.now receives.now ≡ []) }
-        ensures first { IfErr result (λ e. IsFirst e (spec.receive_faults self.now.service.now locals.now receives.now)) }
+        ensures none { OnOk result (flat_map (spec.receive_fault self.now.service.now locals.now) receives.now ≡ []) }
+        ensures first { IfErr result (λ e. IsFirst e (flat_map (spec.receive_fault self.now.service.now locals.now) receives.now)) }
     {
         for receive in receives {
             self.receive(locals, receive)?;
@@ -105,11 +113,11 @@ impl Names<'_> {
     }
 
     fn receive(&self, locals: &Locals, receive: &Receive) -> Result<(), TypeFault>
-        ensures none { OnOk result (spec.receive_faults self.now.service.now locals.now (receive.now ∷ []) ≡ []) }
-        ensures first { IfErr result (λ e. IsFirst e (spec.receive_faults self.now.service.now locals.now (receive.now ∷ []))) }
+        ensures none { OnOk result (spec.receive_fault self.now.service.now locals.now receive.now ≡ []) }
+        ensures first { IfErr result (λ e. IsFirst e (spec.receive_fault self.now.service.now locals.now receive.now)) }
     {
         let kind = self.variable(locals, &receive.target)?;
-        demand(Kind::Str, kind)
+        demand_of_target(kind)
     }
 
     /// The kind of a variable. `Unknown` where there is none of that name.
@@ -118,7 +126,7 @@ impl Names<'_> {
         ensures kind { IfOk result (λ k. variable_kind self.now.service.now locals.now name.now ≡ Some k) }
         ensures first { IfErr result (λ e. IsFirst e (name_unknown name.now (variable_kind self.now.service.now locals.now name.now))) }
     {
-        match self.variable_kind(locals, name) {
+        match self.variable_kind(locals, name.as_str()) {
             Some(kind) => Ok(kind),
             None => Err(TypeFault::Unknown(name.copy()?)),
         }

@@ -1,12 +1,19 @@
-//! Tables of kinds, and of what stands in front of a place in the templates.
-ghost use Rattle.std.specs.Prelude.{◌≡◌, OnOk, [], ◌∷◌};
-ghost use Rattle.bw_types.specs.Gaps.{gap_kind};
-ghost use Rattle.bw_types.specs.Scopes.{beside, is_among};
-ghost use Rattle.bw_types.specs.Tables.{with_kind, with_use, noted};
-ghost use Rattle.bw_types.specs.TemplateFaults.{nothing_in_front};
+//! Tables of names and gaps, with the kinds that they were first given.
+ghost use Rattle.std.specs.Prelude.{◌≡◌, ◌∷◌, ◌<◌, ◌^◌, IfOk, OnOk, [], length, map, position};
+ghost use Rattle.bw_lang.specs.Controls.{fields, field_of};
+ghost use Rattle.bw_lang.specs.Forest.{none};
+ghost use Rattle.bw_lang.specs.Names.{same, beside, with_names};
+ghost use Rattle.bw_lang.specs.View.{before};
+ghost use Rattle.bw_types.specs.Fields.{template_fields};
+ghost use Rattle.bw_types.specs.Gaps.{gap_kind, value_use, attr_uses, gap_uses, template_uses};
+ghost use Rattle.bw_types.specs.Scopes.{is_among};
+ghost use Rattle.bw_types.specs.Tables.{with_kind, with_kinds, with_use, with_uses};
 
 use crate::fault::GapKind;
-use bw_lang::{FieldKind, GapId, Memory, Name, NameTable};
+use bw_lang::{
+    AttrValue, Attrs, Element, FieldKind, GapId, Item, Items, Kind, Memory, NameTable, Service,
+    Session, Shared, Template,
+};
 use indexmap::IndexMap;
 use std::alloc::Global;
 use std::marker::Model;
@@ -23,6 +30,17 @@ pub struct Kinds<K> {
 #[derive(Drop)]
 pub struct GapKinds {
     kinds: IndexMap<u32, GapKind>,
+}
+
+/// What the names of a service stand for: the names of its templates and of its sessions, and the kinds of its shared
+/// variables, of the gaps of its templates, and of the fields of their controls.
+#[derive(Drop)]
+pub struct Tables {
+    pub templates: NameTable,
+    pub sessions: NameTable,
+    pub shared: Kinds<Kind>,
+    pub gaps: GapKinds,
+    pub fields: Kinds<FieldKind>,
 }
 
 impl<K> Model for Kinds<K> {
@@ -99,71 +117,156 @@ impl GapKinds {
     }
 }
 
-/// The gaps and the fields that stand in front of a place in the templates, each with the kind of its first place.
-#[derive(Drop)]
-pub struct Seen {
-    gaps: GapKinds,
-    fields: Kinds<FieldKind>,
-}
-
-impl Model for Seen {
-    ghost use Rattle.bw_types.specs.TemplateFaults.{Front};
-
-    ghost Value = { Front };
-
-    ghost view = { λ s. record { gaps = s.gaps; fields = s.fields } };
-}
-
-impl Seen {
-    /// Nothing yet.
-    pub fn new(alloc: Global) -> Seen
-        ensures { result ≡ nothing_in_front }
-    {
-        Seen {
-            gaps: GapKinds::new(alloc),
-            fields: Kinds::new(alloc),
-        }
-    }
-
-    /// The kind of a gap that was seen.
-    pub fn gap(&self, gap: GapId) -> Option<GapKind>
-        ensures { result ≡ gap_kind self.now.gaps gap }
-    {
-        self.gaps.get(gap)
-    }
-
-    /// The kind of a field that was seen.
-    pub fn field(&self, name: &str) -> Option<FieldKind>
-        ensures { result ≡ beside name.now self.now.fields }
-    {
-        self.fields.get(name)
-    }
-
-    /// Notes a gap.
-    pub fn note_gap(&mut self, gap: GapId, kind: GapKind) -> Result<(), Memory>
-        ensures { OnOk result (self.new ≡ noted self.old ((gap, kind) ∷ []) []) }
-    {
-        self.gaps.note(gap, kind)
-    }
-
-    /// Notes a field.
-    pub fn note_field(&mut self, name: &str, kind: FieldKind) -> Result<(), Memory>
-        ensures { OnOk result (self.new ≡ noted self.old [] ((name.now, kind) ∷ [])) }
-    {
-        self.fields.note(name, kind)
-    }
-
-    /// The kinds of the gaps.
-    pub fn into_gaps(self) -> GapKinds
-        ensures { result ≡ self.gaps }
-    {
-        self.gaps
-    }
-}
-
 /// Whether a name is in the table.
-pub fn has(table: &NameTable, name: &Name) -> bool
+pub fn has(table: &NameTable, name: &str) -> bool
     ensures { result ≡ is_among name.now table.now }
 {
-    (table.number(name) as usize) < table.len()
+    table.number(name) < table.len()
+}
+
+/// The place of a name in the table, counted from 0, if it is there.
+pub fn place(table: &NameTable, name: &str) -> Option<u32>
+    requires { length table.now < 2 ^ 32 }
+    ensures { result ≡ position (same name.now) table.now }
+{
+    let place = table.number(name);
+    if place < table.len() {
+        Some(place as u32)
+    } else {
+        None
+    }
+}
+
+impl Tables {
+    ghost use Rattle.bw_types.specs.Known.{IsKnown};
+
+    /// The tables of a service.
+    pub fn of(alloc: Global, service: &Service) -> Result<Tables, Memory>
+        ensures { IfOk result (IsKnown service.now) }
+    {
+        let mut gaps = GapKinds::new(alloc);
+        let mut fields = Kinds::new(alloc);
+        note_templates(&mut gaps, &mut fields, service.templates.as_slice())?;
+        Ok(Tables {
+            templates: template_names(alloc, service.templates.as_slice())?,
+            sessions: session_names(alloc, service.sessions.as_slice())?,
+            shared: shared_kinds(alloc, service.shared.as_slice())?,
+            gaps,
+            fields,
+        })
+    }
+}
+
+fn template_names(alloc: Global, templates: &[Template]) -> Result<NameTable, Memory>
+    ensures { IfOk result (λ names. names ≡ with_names [] (map (λ t. t.name) templates.now)) }
+{
+    let mut names = NameTable::new(alloc);
+    for template in templates {
+        names.add(template.name.as_str())?;
+    }
+    Ok(names)
+}
+
+fn session_names(alloc: Global, sessions: &[Session]) -> Result<NameTable, Memory>
+    ensures { IfOk result (λ names. names ≡ with_names [] (map (λ s. s.name) sessions.now)) }
+{
+    let mut names = NameTable::new(alloc);
+    for session in sessions {
+        names.add(session.name.as_str())?;
+    }
+    Ok(names)
+}
+
+fn shared_kinds(alloc: Global, shared: &[Shared]) -> Result<Kinds<Kind>, Memory>
+    ensures { IfOk result (λ kinds. kinds ≡ with_kinds [] (map (λ v. (v.name, v.kind)) shared.now)) }
+{
+    let mut kinds = Kinds::new(alloc);
+    for variable in shared {
+        kinds.note(variable.name.as_str(), variable.kind)?;
+    }
+    Ok(kinds)
+}
+
+/// Takes in the gaps of templates and the fields of their controls.
+#[tactic(auto, using(crate::proofs::Notes::note_steps))]
+fn note_templates(
+    gaps: &mut GapKinds,
+    controls: &mut Kinds<FieldKind>,
+    templates: &[Template],
+) -> Result<(), Memory>
+    ensures gaps { OnOk result (gaps.new ≡ with_uses gaps.old (template_uses templates.now)) }
+    ensures controls { OnOk result (controls.new ≡ with_kinds controls.old (template_fields templates.now)) }
+{
+    for template in templates {
+        note_items(gaps, controls, &template.items)?;
+    }
+    Ok(())
+}
+
+/// Takes in the gaps of items and the fields of their controls, at all levels.
+#[tactic(auto, using(crate::proofs::Notes::note_steps, bw_lang::proofs::Sizes::size_steps))]
+#[cycle(items)]
+fn note_items(
+    gaps: &mut GapKinds,
+    controls: &mut Kinds<FieldKind>,
+    items: &Items,
+) -> Result<(), Memory>
+    ensures gaps { OnOk result (gaps.new ≡ with_uses gaps.old (gap_uses items.now)) }
+    ensures controls { OnOk result (controls.new ≡ with_kinds controls.old (fields items.now)) }
+{
+    for item in items.as_slice() {
+        note_item(gaps, controls, item)?;
+    }
+    Ok(())
+}
+
+#[tactic(auto, using(crate::proofs::Notes::note_steps))]
+#[cycle(items)]
+fn note_item(
+    gaps: &mut GapKinds,
+    controls: &mut Kinds<FieldKind>,
+    item: &Item,
+) -> Result<(), Memory>
+    ensures gaps { OnOk result (gaps.new ≡ with_uses gaps.old (gap_uses (before item.now none))) }
+    ensures controls { OnOk result (controls.new ≡ with_kinds controls.old (fields (before item.now none))) }
+{
+    match item {
+        Item::Text(_) => Ok(()),
+        Item::Gap(gap) => gaps.note(*gap, GapKind::Content),
+        Item::Element(element) => {
+            note_attrs(gaps, &element.attrs)?;
+            note_control(controls, element)?;
+            note_items(gaps, controls, &element.items)
+        }
+    }
+}
+
+/// Takes in the gaps of attributes.
+#[tactic(auto, using(crate::proofs::Notes::note_steps))]
+fn note_attrs(gaps: &mut GapKinds, attrs: &Attrs) -> Result<(), Memory>
+    ensures { OnOk result (gaps.new ≡ with_uses gaps.old (attr_uses attrs.now)) }
+{
+    for attr in attrs.as_slice() {
+        note_value(gaps, &attr.value)?;
+    }
+    Ok(())
+}
+
+fn note_value(gaps: &mut GapKinds, value: &AttrValue) -> Result<(), Memory>
+    ensures { OnOk result (gaps.new ≡ with_uses gaps.old (value_use value.now)) }
+{
+    match value {
+        AttrValue::Fixed(_) => Ok(()),
+        AttrValue::Hole(gap) => gaps.note(*gap, GapKind::Attribute),
+    }
+}
+
+/// Takes in the field of a control.
+fn note_control(controls: &mut Kinds<FieldKind>, element: &Element) -> Result<(), Memory>
+    ensures { OnOk result (controls.new ≡ with_kinds controls.old (field_of element.now.tag element.now.attrs)) }
+{
+    match (element.control_name(), element.field_kind()) {
+        (Some(name), Some(kind)) => controls.note(name.as_str(), kind),
+        _ => Ok(()),
+    }
 }

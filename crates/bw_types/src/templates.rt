@@ -1,149 +1,127 @@
 //! The tests of templates.
-ghost use Rattle.std.specs.Prelude.{◌≡◌, Some, None, IfOk, IfErr, OnOk, [], ◌∷◌, option_copied};
+ghost use Rattle.std.specs.Prelude.{◌≡◌, IfOk, IfErr, OnOk, [], ◌∷◌, flat_map, option_copied};
 ghost use Rattle.std.specs.List.{list_any};
 ghost use Rattle.bw_lang.specs.Forest.{none};
 ghost use Rattle.bw_lang.specs.View.{before};
-ghost use Rattle.bw_lang.specs.Controls.{fixed, fields, field_of};
+ghost use Rattle.bw_lang.specs.Controls.{field_of};
 ghost use Rattle.bw_types.specs.First.{IsFirst};
-ghost use Rattle.bw_types.specs.Gaps.{value_use, attr_uses, gap_uses, gap_name};
-ghost use Rattle.bw_types.specs.Tables.{noted};
+ghost use Rattle.bw_types.specs.Gaps.{gap_name};
 ghost use Rattle.bw_types.specs.TemplateFaults as spec;
 
 use crate::fault::{GapKind, TypeFault};
-use crate::tables::Seen;
+use crate::names::Names;
 use bw_lang::controls::is_control;
-use bw_lang::{
-    Attr, AttrValue, Attrs, Element, FieldKind, GapId, GapNames, Item, Items, Memory, Name, Text,
-};
-use std::alloc::Global;
+use bw_lang::{Attr, AttrValue, Attrs, Element, FieldKind, GapId, Item, Items, Memory, Name, Text};
 
-/// The template that is walked, and the names of the service's gaps.
-#[derive(Clone, Copy)]
-pub struct Place<'a> {
-    pub alloc: Global,
-    pub template: &'a Name,
-    pub names: &'a GapNames,
-}
-
-impl Place<'_> {
-    /// The tests of items, in source order. What they hold is noted.
-    #[tactic(auto, using(bw_lang::proofs::Forests::size_at_read))]
+impl Names<'_> {
+    /// The tests of a template's items, in source order.
+    #[tactic(auto, using(bw_lang::proofs::Sizes::size_steps))]
     #[cycle(items)]
-    pub fn items(&self, seen: &mut Seen, items: &Items) -> Result<(), TypeFault>
-        ensures none { OnOk result (spec.items_faults self.now.template.now self.now.names.now seen.old items.now ≡ []) }
-        ensures noted { OnOk result (seen.new ≡ noted seen.old (gap_uses items.now) (fields items.now)) }
-        ensures first { IfErr result (λ e. IsFirst e (spec.items_faults self.now.template.now self.now.names.now seen.old items.now)) }
+    pub fn items(&self, template: &Name, items: &Items) -> Result<(), TypeFault>
+        ensures none { OnOk result (spec.items_faults self.now.service.now template.now items.now ≡ []) }
+        ensures first { IfErr result (λ e. IsFirst e (spec.items_faults self.now.service.now template.now items.now)) }
     {
         for item in items.as_slice() {
-            self.item(seen, item)?;
+            self.item(template, item)?;
         }
         Ok(())
     }
 
     #[cycle(items)]
-    fn item(&self, seen: &mut Seen, item: &Item) -> Result<(), TypeFault>
-        ensures none { OnOk result (spec.items_faults self.now.template.now self.now.names.now seen.old (before item.now none) ≡ []) }
-        ensures noted { OnOk result (seen.new ≡ noted seen.old (gap_uses (before item.now none)) (fields (before item.now none))) }
-        ensures first { IfErr result (λ e. IsFirst e (spec.items_faults self.now.template.now self.now.names.now seen.old (before item.now none))) }
+    fn item(&self, template: &Name, item: &Item) -> Result<(), TypeFault>
+        ensures none { OnOk result (spec.items_faults self.now.service.now template.now (before item.now none) ≡ []) }
+        ensures first { IfErr result (λ e. IsFirst e (spec.items_faults self.now.service.now template.now (before item.now none))) }
     {
         match item {
             Item::Text(_) => Ok(()),
-            Item::Gap(gap) => self.gap(seen, *gap, GapKind::Content),
+            Item::Gap(gap) => self.open_gap(*gap, GapKind::Content),
             Item::Element(element) => {
-                self.element(seen, element)?;
-                self.items(seen, &element.items)
+                self.element(template, element)?;
+                self.items(template, &element.items)
             }
         }
     }
 
     /// The tests of an element, in front of its items: of its tag and its control, of its field, and of its gaps.
-    fn element(&self, seen: &mut Seen, element: &Element) -> Result<(), TypeFault>
-        ensures none { OnOk result (spec.element_faults self.now.template.now self.now.names.now seen.old element.now.tag element.now.attrs ≡ []) }
-        ensures noted { OnOk result (seen.new ≡ noted seen.old (attr_uses element.now.attrs) (field_of element.now.tag element.now.attrs)) }
-        ensures first { IfErr result (λ e. IsFirst e (spec.element_faults self.now.template.now self.now.names.now seen.old element.now.tag element.now.attrs)) }
+    fn element(&self, template: &Name, element: &Element) -> Result<(), TypeFault>
+        ensures none { OnOk result (spec.element_faults self.now.service.now template.now element.now.tag element.now.attrs ≡ []) }
+        ensures first { IfErr result (λ e. IsFirst e (spec.element_faults self.now.service.now template.now element.now.tag element.now.attrs)) }
     {
         if is_reserved(&element.tag) {
             return Err(TypeFault::ReservedTag(element.tag.copy()?));
         }
         if is_file_input(element) {
-            return Err(TypeFault::FileInput(self.template.copy()?));
+            return Err(TypeFault::FileInput(template.copy()?));
         }
         if is_bad_control(element) {
-            return Err(TypeFault::BadControl(self.template.copy()?));
+            return Err(TypeFault::BadControl(template.copy()?));
         }
-        field(seen, element)?;
-        self.attrs(seen, &element.attrs)
+        self.control(element)?;
+        self.attrs(&element.attrs)
     }
 
-    /// The tests of the gaps of attributes, in their order.
-    fn attrs(&self, seen: &mut Seen, attrs: &Attrs) -> Result<(), TypeFault>
-        ensures none { OnOk result (spec.attr_faults self.now.names.now seen.old.gaps attrs.now ≡ []) }
-        ensures noted { OnOk result (seen.new ≡ noted seen.old (attr_uses attrs.now) []) }
-        ensures first { IfErr result (λ e. IsFirst e (spec.attr_faults self.now.names.now seen.old.gaps attrs.now)) }
+    /// The test of a control's field: `FieldKinds` where the first control of that name has a field of another kind.
+    fn control(&self, element: &Element) -> Result<(), TypeFault>
+        ensures none { OnOk result (flat_map (spec.field_fault self.now.service.now) (field_of element.now.tag element.now.attrs) ≡ []) }
+        ensures first { IfErr result (λ e. IsFirst e (flat_map (spec.field_fault self.now.service.now) (field_of element.now.tag element.now.attrs))) }
     {
-        for attr in attrs.as_slice() {
-            self.value(seen, &attr.value)?;
+        match (element.control_name(), element.field_kind()) {
+            (Some(name), Some(kind)) => self.field(name, kind),
+            _ => Ok(()),
+        }
+    }
+
+    fn field(&self, name: &Text, kind: FieldKind) -> Result<(), TypeFault>
+        ensures none { OnOk result (spec.field_fault self.now.service.now (name.now, kind) ≡ []) }
+        ensures first { IfErr result (λ e. IsFirst e (spec.field_fault self.now.service.now (name.now, kind))) }
+    {
+        if is_other_field_kind(self.field_kind(name.as_str()), kind) {
+            return Err(TypeFault::FieldKinds(name.copy()?));
         }
         Ok(())
     }
 
-    fn value(&self, seen: &mut Seen, value: &AttrValue) -> Result<(), TypeFault>
-        ensures none { OnOk result (spec.value_fault self.now.names.now seen.old.gaps value.now ≡ []) }
-        ensures noted { OnOk result (seen.new ≡ noted seen.old (value_use value.now) []) }
-        ensures first { IfErr result (λ e. IsFirst e (spec.value_fault self.now.names.now seen.old.gaps value.now)) }
+    /// The tests of the gaps of attributes, in their order.
+    fn attrs(&self, attrs: &Attrs) -> Result<(), TypeFault>
+        ensures none { OnOk result (spec.attr_faults self.now.service.now attrs.now ≡ []) }
+        ensures first { IfErr result (λ e. IsFirst e (spec.attr_faults self.now.service.now attrs.now)) }
+    {
+        for attr in attrs.as_slice() {
+            self.value(&attr.value)?;
+        }
+        Ok(())
+    }
+
+    fn value(&self, value: &AttrValue) -> Result<(), TypeFault>
+        ensures none { OnOk result (spec.value_fault self.now.service.now value.now ≡ []) }
+        ensures first { IfErr result (λ e. IsFirst e (spec.value_fault self.now.service.now value.now)) }
     {
         match value {
             AttrValue::Fixed(_) => Ok(()),
-            AttrValue::Hole(gap) => self.gap(seen, *gap, GapKind::Attribute),
+            AttrValue::Hole(gap) => self.open_gap(*gap, GapKind::Attribute),
         }
     }
 
-    /// The test of a gap: `GapKinds` where an earlier place of it has another kind.
-    fn gap(&self, seen: &mut Seen, gap: GapId, kind: GapKind) -> Result<(), TypeFault>
-        ensures none { OnOk result (spec.gap_fault self.now.names.now seen.old.gaps gap kind ≡ []) }
-        ensures noted { OnOk result (seen.new ≡ noted seen.old ((gap, kind) ∷ []) []) }
-        ensures first { IfErr result (λ e. IsFirst e (spec.gap_fault self.now.names.now seen.old.gaps gap kind)) }
+    /// The test of a gap: `GapKinds` where its first place has another kind.
+    fn open_gap(&self, gap: GapId, kind: GapKind) -> Result<(), TypeFault>
+        ensures none { OnOk result (spec.gap_fault self.now.service.now gap kind ≡ []) }
+        ensures first { IfErr result (λ e. IsFirst e (spec.gap_fault self.now.service.now gap kind)) }
     {
-        if is_other_gap_kind(seen.gap(gap), kind) {
+        if is_other_gap_kind(self.kind_of_number(gap), kind) {
             return Err(TypeFault::GapKinds(self.gap_name(gap)?));
         }
-        seen.note_gap(gap, kind)?;
         Ok(())
     }
 
     /// The name of a gap.
     fn gap_name(&self, gap: GapId) -> Result<Name, Memory>
-        ensures { IfOk result (λ n. n ≡ gap_name self.now.names.now gap) }
+        ensures { IfOk result (λ n. n ≡ gap_name self.now.service.now.gaps gap) }
     {
-        match self.names.name(gap) {
+        match self.service.gaps.name(gap) {
             Some(name) => Name::of(self.alloc, name),
             None => Name::of(self.alloc, ""),
         }
     }
-}
-
-/// The test of a control's field: `FieldKinds` where an earlier control of that name has a field of another kind.
-fn field(seen: &mut Seen, element: &Element) -> Result<(), TypeFault>
-    ensures none { OnOk result (spec.field_faults seen.old.fields (field_of element.now.tag element.now.attrs) ≡ []) }
-    ensures noted { OnOk result (seen.new ≡ noted seen.old [] (field_of element.now.tag element.now.attrs)) }
-    ensures first { IfErr result (λ e. IsFirst e (spec.field_faults seen.old.fields (field_of element.now.tag element.now.attrs))) }
-{
-    match (element.control_name(), element.field_kind()) {
-        (Some(name), Some(kind)) => named_field(seen, name, kind),
-        _ => Ok(()),
-    }
-}
-
-fn named_field(seen: &mut Seen, name: &Text, kind: FieldKind) -> Result<(), TypeFault>
-    ensures none { OnOk result (spec.field_faults seen.old.fields ((name.now, kind) ∷ []) ≡ []) }
-    ensures noted { OnOk result (seen.new ≡ noted seen.old [] ((name.now, kind) ∷ [])) }
-    ensures first { IfErr result (λ e. IsFirst e (spec.field_faults seen.old.fields ((name.now, kind) ∷ []))) }
-{
-    if is_other_field_kind(seen.field(name.as_str()), kind) {
-        return Err(TypeFault::FieldKinds(name.copy()?));
-    }
-    seen.note_field(name.as_str(), kind)?;
-    Ok(())
 }
 
 /// There is a kind, and it is another one.

@@ -26,22 +26,28 @@ loop-at-preserved-in-Gap c =
     let ends = ends_there c.args.bad c.loop-at.at c.args.bytes.now c.in_ok-len.field-0 q c.in_ok-len.ensures c.in-Gap.is in
     record {
       within = omega (arith, ends.1);
-      value = c.loop-at.invariant.value ∙ ap (onto c.loop-at.tokens.items) (goes_on c.args.bad c.loop-at.at c.in-Gap.len c.args.bytes.now c.in_ok-len.field-0 q c.in_ok-len.ensures c.in-Gap.is refl ends.0 ends.1);
+      value =
+          c.loop-at.invariant.value
+          ∙ ap (onto c.loop-at.tokens.items) (goes_on c.args.bad c.loop-at.at c.in-Gap.len c.args.bytes.now c.in_ok-len.field-0 q c.in_ok-len.ensures
+          c.in-Gap.is refl ends.0 ends.1);
     }
 
 pub overflow_add-at-in-Token : goal.overflow_add-at-in-Token
 overflow_add-at-in-Token c =
-    let ends = ends_there c.args.bad c.loop-at.at c.args.bytes.now c.in_ok-len.field-0 (pieces.Token c.in-Token.what c.in-Token.len) c.in_ok-len.ensures c.in-Token.is in
+    let ends =
+    ends_there c.args.bad c.loop-at.at c.args.bytes.now c.in_ok-len.field-0 (pieces.Token c.in-Token.what c.in-Token.len) c.in_ok-len.ensures c.in-Token.is in
     omega (arith, ends.1)
 
 pub overflow_add-at-in-Token-2 : goal.overflow_add-at-in-Token-2
 overflow_add-at-in-Token-2 c =
-    let ends = ends_there c.args.bad c.loop-at.at c.args.bytes.now c.in_ok-len.field-0 (pieces.Token c.in-Token.what c.in-Token.len) c.in_ok-len.ensures c.in-Token.is in
+    let ends =
+    ends_there c.args.bad c.loop-at.at c.args.bytes.now c.in_ok-len.field-0 (pieces.Token c.in-Token.what c.in-Token.len) c.in_ok-len.ensures c.in-Token.is in
     omega (arith, ends.1)
 
 pub loop-at-smaller : goal.loop-at-smaller
 loop-at-smaller c =
-    let ends = ends_there c.args.bad c.loop-at.at c.args.bytes.now c.in_ok-len.field-0 (pieces.Token c.in-Token.what c.in-Token.len) c.in_ok-len.ensures c.in-Token.is in
+    let ends =
+    ends_there c.args.bad c.loop-at.at c.args.bytes.now c.in_ok-len.field-0 (pieces.Token c.in-Token.what c.in-Token.len) c.in_ok-len.ensures c.in-Token.is in
     omega (arith, ends.0, ends.1)
 
 pub loop-at-preserved : goal.loop-at-preserved
@@ -55,20 +61,23 @@ loop-at-preserved c =
     record {
       within = omega (arith, ends.1);
       value = c.loop-at.invariant.value
-          ∙ ap (onto c.loop-at.tokens.items) (goes_on c.args.bad at n c.args.bytes.now c.in_ok-len.field-0 q c.in_ok-len.ensures c.in-Token.is refl ends.0 ends.1)
+          ∙ ap (onto c.loop-at.tokens.items) (goes_on c.args.bad at n c.args.bytes.now c.in_ok-len.field-0 q c.in_ok-len.ensures c.in-Token.is refl
+          ends.0 ends.1)
           ∙ onto-onto c.loop-at.tokens.items (token ∷ []) rest
           ∙ ap (λ ts. onto ts rest) (sym c.in_ok-push-in-Token.ensures.items);
     }
 
 pub overflow_add-at-in-Fault : goal.overflow_add-at-in-Fault
 overflow_add-at-in-Fault c =
-    let ends : c.in-Fault.len ≤ length c.args.bytes.now - c.loop-at.at = ends_there c.args.bad c.loop-at.at c.args.bytes.now c.in_ok-len.field-0 (pieces.Fault c.in-Fault.kind c.in-Fault.len) c.in_ok-len.ensures c.in-Fault.is in
+    let ends : c.in-Fault.len ≤ length c.args.bytes.now - c.loop-at.at =
+    ends_there c.args.bad c.loop-at.at c.args.bytes.now c.in_ok-len.field-0 (pieces.Fault c.in-Fault.kind c.in-Fault.len) c.in_ok-len.ensures c.in-Fault.is in
     omega (arith, ends)
 
 pub returns-in-Fault-clause-fault : goal.returns-in-Fault-clause-fault
 returns-in-Fault-clause-fault c =
     inr (c.loop-at.invariant.value
-    ∙ ap (onto c.loop-at.tokens.items) (stops c.args.bad c.loop-at.at c.in-Fault.len c.args.bytes.now c.in_ok-len.field-0 c.in-Fault.kind c.loop-at-test.true c.in_ok-len.ensures c.in-Fault.is)
+    ∙ ap (onto c.loop-at.tokens.items) (stops c.args.bad c.loop-at.at c.in-Fault.len c.args.bytes.now c.in_ok-len.field-0 c.in-Fault.kind
+    c.loop-at-test.true c.in_ok-len.ensures c.in-Fault.is)
     ∙ ap (λ e. Err e) (sym c.fault_at.ensures))
 
 pub returns-then-bad-clause-fault : goal.returns-then-bad-clause-fault

@@ -6,4 +6,5 @@ use Rattle.bw_limits.proofs.declarations.shared.Goals as goal
 
 pub returns : goal.returns
 returns c =
-    let counted : c.count.result ≡ count_by (λ d. is_some (as_shared d)) c.args.declarations.now = search rules in counted ∙ sort_counted as_shared c.args.declarations.now
+    let counted : c.count.result ≡ count_by (λ d. is_some (as_shared d)) c.args.declarations.now = search rules in
+    counted ∙ sort_counted as_shared c.args.declarations.now

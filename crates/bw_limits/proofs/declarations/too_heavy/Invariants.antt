@@ -5,4 +5,6 @@ use Rattle.bw_lang.specs.Measures.{constant_weight}
 use Rattle.bw_limits.proofs.declarations.too_heavy.Given as goal
 
 abbrev pub invariant-loop-declaration : goal.invariant-loop-declaration
-invariant-loop-declaration l = find (nat_lt 262144) (map (λ t. constant_weight t.items) (templates_of (drop l.declaration-index l.declarations))) ≡ find (nat_lt 262144) (map (λ t. constant_weight t.items) (templates_of l.declarations))
+invariant-loop-declaration l =
+    find (nat_lt 262144) (map (λ t. constant_weight t.items) (templates_of (drop l.declaration-index l.declarations)))
+    ≡ find (nat_lt 262144) (map (λ t. constant_weight t.items) (templates_of l.declarations))

@@ -12,17 +12,20 @@ returns-in-Err-parse-clause-refused c =
 
 pub finish-requires-clause-bounded : goal.finish-requires-clause-bounded
 finish-requires-clause-bounded c =
-    service_bounded c.args.bytes.now c.in-Ok.told.lexemes.items c.in-Ok-parse.draft.name c.in-Ok-parse.draft.drafts.items c.in-Ok.ensures.told c.in-Ok-parse.ensures.parsed.spelled
+    service_bounded c.args.bytes.now c.in-Ok.told.lexemes.items c.in-Ok-parse.draft.name c.in-Ok-parse.draft.drafts.items c.in-Ok.ensures.told
+    c.in-Ok-parse.ensures.parsed.spelled
     (omega (arith, c.in-Ok.told.lexemes.ok.0))
 
 pub returns-clause-read : goal.returns-clause-read
 returns-clause-read c =
     finish_reads c.finish.result c.args.bytes.now c.in-Ok-parse.draft.name c.in-Ok-parse.draft.drafts.items
-    (drafted c.args.bytes.now c.in-Ok.told.lexemes.items c.in-Ok-parse.draft.name c.in-Ok-parse.draft.drafts.items c.in-Ok.ensures.told c.in-Ok-parse.ensures.parsed)
+    (drafted c.args.bytes.now c.in-Ok.told.lexemes.items c.in-Ok-parse.draft.name c.in-Ok-parse.draft.drafts.items c.in-Ok.ensures.told
+    c.in-Ok-parse.ensures.parsed)
     c.finish.ensures.read
 
 pub returns-clause-refused : goal.returns-clause-refused
 returns-clause-refused c =
     finish_refuses c.finish.result c.args.bytes.now c.in-Ok-parse.draft.name c.in-Ok-parse.draft.drafts.items
-    (drafted c.args.bytes.now c.in-Ok.told.lexemes.items c.in-Ok-parse.draft.name c.in-Ok-parse.draft.drafts.items c.in-Ok.ensures.told c.in-Ok-parse.ensures.parsed)
+    (drafted c.args.bytes.now c.in-Ok.told.lexemes.items c.in-Ok-parse.draft.name c.in-Ok-parse.draft.drafts.items c.in-Ok.ensures.told
+    c.in-Ok-parse.ensures.parsed)
     c.finish.ensures.refused

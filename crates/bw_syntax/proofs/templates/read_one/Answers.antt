@@ -5,5 +5,8 @@ use Rattle.bw_syntax.proofs.templates.read_one.Goals as goal
 
 pub returns-in-Ok-clause-read : goal.returns-in-Ok-clause-read
 returns-in-Ok-clause-read c =
-    rw c.in-Template.is
-    (refl, subst (λ b. IsInside c.args.gaps.now b c.in-Ok.items c.read_template.new.gaps) c.as_slice.ensures (inside_read _ _ _ _ c.in-Ok.ensures.items c.in-Ok.ensures.names))
+    rw c.in-Template.is (
+      refl,
+      subst (λ b. IsInside c.args.gaps.now b c.in-Ok.items c.read_template.new.gaps) c.as_slice.ensures
+          (inside_read _ _ _ _ c.in-Ok.ensures.items c.in-Ok.ensures.names),
+    )

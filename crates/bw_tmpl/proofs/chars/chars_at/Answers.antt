@@ -7,7 +7,8 @@ use Rattle.bw_tmpl.proofs.chars.chars_at.Goals as goal
 pub chars-preserved : goal.chars-preserved
 chars-preserved c =
     ap (λ (t : List ℕ). onto t (each (char_at c.args.stop) c.in-Some.after.now)) c.in_ok-push-in-Some.ensures.items
-    ∙ chars_more c.args.stop c.chars.text.items c.chars.rest.now c.in-Some.c c.in-Some.after.now (each (char_at c.args.stop) c.args.bytes.now) c.in-Some.ensures c.chars.invariant
+    ∙ chars_more c.args.stop c.chars.text.items c.chars.rest.now c.in-Some.c c.in-Some.after.now (each (char_at c.args.stop) c.args.bytes.now)
+    c.in-Some.ensures c.chars.invariant
 
 pub returns-in-None : goal.returns-in-None
 returns-in-None c = chars_end c.args.stop c.chars.text.items c.chars.rest.now (each (char_at c.args.stop) c.args.bytes.now) c.in-None.ensures c.chars.invariant

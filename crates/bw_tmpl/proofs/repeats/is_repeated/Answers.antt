@@ -9,12 +9,15 @@ loop-attr-init c = ap (λ (t : List (List ℕ)). repeated_after t (attr_names c.
 
 pub returns-then-branch-count : goal.returns-then-branch-count
 returns-then-branch-count c =
-    let h : number c.loop-attr.seen c.attr-item.result.name < length c.loop-attr.seen = omega (arith, c.in_ok-add.ensures.number, c.len-count.ensures, ap (λ n. number c.loop-attr.seen n) c.as_str.ensures.text) in
-    sym (repeated_here c.loop-attr.seen c.args.attrs.now c.loop-attr.attr-index c.attr-item.result c.loop-attr-test.true c.attr-item.is h) ∙ c.loop-attr.invariant
+    let h : number c.loop-attr.seen c.attr-item.result.name < length c.loop-attr.seen =
+    omega (arith, c.in_ok-add.ensures.number, c.len-count.ensures, ap (λ n. number c.loop-attr.seen n) c.as_str.ensures.text) in
+    sym (repeated_here c.loop-attr.seen c.args.attrs.now c.loop-attr.attr-index c.attr-item.result c.loop-attr-test.true c.attr-item.is h)
+    ∙ c.loop-attr.invariant
 
 pub loop-attr-preserved : goal.loop-attr-preserved
 loop-attr-preserved c =
-    let h : length c.loop-attr.seen ≤ number c.loop-attr.seen c.attr-item.result.name = omega (arith, c.in_ok-add.ensures.number, c.len-count.ensures, ap (λ n. number c.loop-attr.seen n) c.as_str.ensures.text) in
+    let h : length c.loop-attr.seen ≤ number c.loop-attr.seen c.attr-item.result.name =
+    omega (arith, c.in_ok-add.ensures.number, c.len-count.ensures, ap (λ n. number c.loop-attr.seen n) c.as_str.ensures.text) in
     ap (λ (t : List (List ℕ)). repeated_after t (attr_names (drop (c.loop-attr.attr-index + 1) c.args.attrs.now)))
     (c.in_ok-add.ensures.ok ∙ ap (λ n. with_name c.loop-attr.seen n) c.as_str.ensures.text)
     ∙ first_here c.loop-attr.seen c.args.attrs.now c.loop-attr.attr-index c.attr-item.result c.loop-attr-test.true c.attr-item.is h ∙ c.loop-attr.invariant

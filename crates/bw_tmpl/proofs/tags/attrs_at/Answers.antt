@@ -11,7 +11,10 @@ attrs-smaller c = attr_less c.attrs.rest.now (c.in-Ok.attr, c.in-Ok.after.now) c
 pub attrs-preserved : goal.attrs-preserved
 attrs-preserved c =
     ap (λ (t : List RawAttr). onto t (each attr_at c.in-Ok.after.now)) c.in_ok-push-in-Ok.ensures.items
-    ∙ onto_more attr_at attr_shrinks c.attrs.attrs.items c.attrs.rest.now c.in-Ok.attr c.in-Ok.after.now (each attr_at c.args.bytes.now) c.in-Ok.ensures c.attrs.invariant
+    ∙ onto_more attr_at attr_shrinks c.attrs.attrs.items c.attrs.rest.now c.in-Ok.attr c.in-Ok.after.now (each attr_at c.args.bytes.now)
+    c.in-Ok.ensures c.attrs.invariant
 
 pub returns-in-Err-Malformed : goal.returns-in-Err-Malformed
-returns-in-Err-Malformed c = onto_none attr_at attr_shrinks c.attrs.attrs.items c.attrs.rest.now (each attr_at c.args.bytes.now) (rw c.in-Err-Malformed.field-0-is at c.in-Err-Malformed.ensures) c.attrs.invariant
+returns-in-Err-Malformed c =
+    onto_none attr_at attr_shrinks c.attrs.attrs.items c.attrs.rest.now (each attr_at c.args.bytes.now)
+    (rw c.in-Err-Malformed.field-0-is at c.in-Err-Malformed.ensures) c.attrs.invariant

@@ -11,7 +11,10 @@ pieces-smaller c = piece_less c.pieces.rest.now (c.in-Ok.piece, c.in-Ok.after.no
 pub pieces-preserved : goal.pieces-preserved
 pieces-preserved c =
     ap (λ (t : List Piece). onto t (each piece_at c.in-Ok.after.now)) c.in_ok-push-in-Ok.ensures.items
-    ∙ onto_more piece_at piece_shrinks c.pieces.pieces.items c.pieces.rest.now c.in-Ok.piece c.in-Ok.after.now (each piece_at c.args.bytes.now) c.in-Ok.ensures c.pieces.invariant
+    ∙ onto_more piece_at piece_shrinks c.pieces.pieces.items c.pieces.rest.now c.in-Ok.piece c.in-Ok.after.now (each piece_at c.args.bytes.now)
+    c.in-Ok.ensures c.pieces.invariant
 
 pub returns-in-Err-Malformed : goal.returns-in-Err-Malformed
-returns-in-Err-Malformed c = onto_none piece_at piece_shrinks c.pieces.pieces.items c.pieces.rest.now (each piece_at c.args.bytes.now) (rw c.in-Err-Malformed.field-0-is at c.in-Err-Malformed.ensures) c.pieces.invariant
+returns-in-Err-Malformed c =
+    onto_none piece_at piece_shrinks c.pieces.pieces.items c.pieces.rest.now (each piece_at c.args.bytes.now)
+    (rw c.in-Err-Malformed.field-0-is at c.in-Err-Malformed.ensures) c.pieces.invariant

@@ -5,4 +5,5 @@ use Rattle.bw_lang.specs.CodeView.{code}
 use Rattle.bw_limits.proofs.lengths.Search.+block.Given as goal
 
 abbrev pub invariant-block-loop-stmt : goal.invariant-block-loop-stmt
-invariant-block-loop-stmt l = find (nat_lt l.self.most) (code_lengths l.self.leaf (code (drop l.stmt-index l.stmt-items))) ≡ find (nat_lt l.self.most) (code_lengths l.self.leaf l.block)
+invariant-block-loop-stmt l =
+    find (nat_lt l.self.most) (code_lengths l.self.leaf (code (drop l.stmt-index l.stmt-items))) ≡ find (nat_lt l.self.most) (code_lengths l.self.leaf l.block)

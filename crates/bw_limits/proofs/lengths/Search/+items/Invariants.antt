@@ -5,4 +5,5 @@ use Rattle.bw_lang.specs.View.{forest}
 use Rattle.bw_limits.proofs.lengths.Search.+items.Given as goal
 
 abbrev pub invariant-items-loop-item : goal.invariant-items-loop-item
-invariant-items-loop-item l = find (nat_lt l.self.most) (item_lengths l.gaps (forest (drop l.item-index l.item-items))) ≡ find (nat_lt l.self.most) (item_lengths l.gaps l.items)
+invariant-items-loop-item l =
+    find (nat_lt l.self.most) (item_lengths l.gaps (forest (drop l.item-index l.item-items))) ≡ find (nat_lt l.self.most) (item_lengths l.gaps l.items)

@@ -4,4 +4,6 @@ use Rattle.bw_lang.specs.Limits.{receive_lengths}
 use Rattle.bw_limits.proofs.lengths.Search.receives.Given as goal
 
 abbrev pub invariant-loop-receive : goal.invariant-loop-receive
-invariant-loop-receive l = find (nat_lt l.self.most) (receive_lengths l.self.leaf (drop l.receive-index l.receive-items)) ≡ find (nat_lt l.self.most) (receive_lengths l.self.leaf l.receives)
+invariant-loop-receive l =
+    find (nat_lt l.self.most) (receive_lengths l.self.leaf (drop l.receive-index l.receive-items))
+    ≡ find (nat_lt l.self.most) (receive_lengths l.self.leaf l.receives)

@@ -1,4 +1,4 @@
-use Rattle.std.proofs.Common.{◌≡◌, ◌+◌, ◌*◌, [], take}
+use Rattle.std.proofs.Common.{◌≡◌, ◌+◌, ◌*◌, drop}
 use Rattle.bw_lang.specs.Term.{nodes, nodes_in}
 use Rattle.bw_lang.specs.TermView.{term, fillings}
 use Rattle.bw_types.specs.ExpressionFaults.{faults_in_pairs}
@@ -19,6 +19,6 @@ decreases-pairs l = 2 * nodes_in l.pairs.now
 abbrev pub decreases-pair : goal.decreases-pair
 decreases-pair l = 2 * nodes (term l.pair.now.value) + 1
 
--- no pair that was passed fails a test
+-- the faults are those from here on
 abbrev pub invariant-pairs-loop-pair : goal.invariant-pairs-loop-pair
-invariant-pairs-loop-pair l = faults_in_pairs l.self.service.now l.locals (fillings (take l.pair-index l.pair-items)) ≡ []
+invariant-pairs-loop-pair l = faults_in_pairs l.self.service.now l.locals (fillings l.pair-items) ≡ faults_in_pairs l.self.service.now l.locals (fillings (drop l.pair-index l.pair-items))

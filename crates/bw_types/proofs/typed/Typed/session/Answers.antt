@@ -1,11 +1,17 @@
-use Rattle.std.proofs.Common.{List, arith, ap, length, sym}
-use Rattle.bw_lang.specs.declared.service.Session.{Session}
-use Rattle.bw_lang.specs.Names.{same}
-use Rattle.bw_types.proofs.Few.{few_sessions, place_within}
+use Rattle.std.proofs.Common.{Some, ap, sym, ◌∙◌}
+use Rattle.bw_lang.proofs.Small.{readable_is_small, readable_is_woven}
+use Rattle.bw_types.proofs.Sorted.{sessions_few, session_place}
 use Rattle.bw_types.proofs.typed.Typed.session.Goals as goal
 
-pub overflow_cast-place : goal.overflow_cast-place
-overflow_cast-place c =
-    let few = few_sessions c.args.self.now.service c.args.self.now.readable in
-    let within = place_within (λ (s : Session). same c.args.name.now s.name) c.as_slice.result.now c.in_ok-place.place (sym c.in_ok-place.ensures) in
-    omega (arith, ap (λ (l : List Session). length l) c.as_slice.ensures)
+pub place-requires : goal.place-requires
+place-requires c = let t = c.args.self.now in sessions_few t.service (readable_is_woven t.service t.readable) t.well_typed t.known (readable_is_small t.service t.readable)
+
+pub returns-in_err-number : goal.returns-in_err-number
+returns-in_err-number c =
+    let t = c.args.self.now in
+    c.from_residual.ensures ∙ sym c.in_err-number.was ∙ c.place.ensures ∙ session_place t.service (readable_is_woven t.service t.readable) t.well_typed t.known c.args.name.now
+
+pub returns : goal.returns
+returns c =
+    let t = c.args.self.now in
+    ap Some c.of.ensures ∙ sym c.in_ok-number.was ∙ c.place.ensures ∙ session_place t.service (readable_is_woven t.service t.readable) t.well_typed t.known c.args.name.now

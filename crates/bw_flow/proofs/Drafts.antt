@@ -1,0 +1,300 @@
+-- One statement more in a draft.
+use Rattle.std.proofs.Common.{◌≡◌, ℕ, zero, suc, ◌+◌, ◌-◌, ◌<◌, ◌≤◌, List, [], ◌∷◌, ◌++◌, length, get_or, take, drop, refl, ap, sym, ◌∙◌, arith, append_assoc}
+use Rattle.std.proofs.Common.{Option, Some, None}
+use Rattle.std.proofs.lemmas.List.{append-nil, length-append}
+use Rattle.std.proofs.Math.Seq.{drop-cons}
+use Rattle.bw_lang.specs.declared.stmt.Kind.{Kind}
+use Rattle.bw_lang.specs.declared.stmt.Kind.TheVariants as kinds
+use Rattle.bw_lang.specs.declared.expr.Expr.{Expr}
+use Rattle.bw_lang.specs.declared.service.Session.{Session}
+use Rattle.bw_lang.specs.declared.stmt.Receive.{Receive}
+use Rattle.bw_lang.specs.declared.stmt.Stmt.{Stmt}
+use Rattle.bw_lang.specs.declared.stmt.Stmt.TheVariants.{Declare, Assign, If, While, Each, Block, Show, Exit}
+use Rattle.bw_lang.specs.TermView.{term}
+use Rattle.bw_lang.specs.Code.{Code, done, declare, assign, if_then, if_else, while_loop, for_each, block, show, exit, numbered}
+use Rattle.bw_lang.specs.CodeView.{before, code}
+use Rattle.bw_lang.specs.Term.{Term}
+use Rattle.bw_lang.specs.declared.service.Service.{Service}
+use Rattle.bw_flow.specs.declared.point.Local.{Local}
+use Rattle.bw_flow.specs.Scopes.{with_local}
+use Rattle.bw_flow.specs.Steps.{Act, sets, tests, goes_over, shows, exits, joins, Step}
+use Rattle.bw_flow.specs.Layout.{count, enter, after, step, steps, receives, session_steps, session_firsts}
+use Rattle.bw_flow.specs.Drafts.{Drawn, with_step, with_statement, with_code, with_block, first_of}
+use Rattle.bw_flow.proofs.Layouts.{first_of_is, length_steps, size_before, after_before, steps_before}
+use Rattle.bw_flow.proofs.Codes.{count_before}
+
+-- a statement, and then those behind it
+with_before : (service : Service) (x : Drawn) (s : Stmt) (c : Code) (d q : ℕ)
+    → with_code service x (before s c) d q ≡ with_code service (with_code service x (before s done) d (enter c (length x.steps + count (before s done)) q)) c d
+    q
+unfolding with_code
+with_before service x s c d q =
+    let p = length x.steps in
+    let m = p + count (before s done) in
+    let ss = steps service (before s done) x.number x.scope d p (enter c m q) in
+    let k = x.number + numbered (before s done) in
+    let len : m ≡ length (x.steps ++ ss) = omega (arith, length-append x.steps ss, length_steps service (before s done) x.number x.scope d p (enter c m q)) in
+    let rest = λ (r : ℕ). steps service c k (after (before s done) x.scope) d r q in
+    let e : x.steps ++ steps service (before s c) x.number x.scope d p q ≡ (x.steps ++ ss) ++ rest (length (x.steps ++ ss)) =
+    ap (λ l. x.steps ++ l) (steps_before service s c x.number x.scope d p q m k refl refl) ∙ sym (append_assoc x.steps ss (rest m))
+    ∙ ap (λ r. (x.steps ++ ss) ++ rest r) len in
+    let n : x.number + numbered (before s c) ≡ k + numbered c = omega (arith, size_before s c) in
+    λ i. record { steps = e i; number = n i; scope = after_before s c x.scope i }
+
+-- what a block's loop keeps: the points still to come make the whole, and so many points are to come
+pub record Comes (service : Service) (x y : Drawn) (xs : List Stmt) (i d q end : ℕ) : Type 0 where
+  pub whole : with_code service y (code (drop i xs)) d q ≡ with_code service x (code xs) d q
+  pub many : length y.steps + count (code (drop i xs)) ≡ end
+
+code_at : (xs : List Stmt) (i : ℕ) (s : Stmt) → s ≡ get_or xs i s → i < length xs → code (drop i xs) ≡ before s (code (drop (i + 1) xs))
+code_at xs i s e h =
+    let a : suc i ≡ i + 1 = omega arith in
+    ap code (drop-cons xs i s h) ∙ (λ j. before (sym e j) (code (drop (a j) xs)))
+
+pub comes_first : (service : Service) (x : Drawn) (xs : List Stmt) (d q end : ℕ) → end ≡ length x.steps + count (code xs) → Comes service x x xs 0 d q end
+comes_first service x xs d q end e = record { whole = refl; many = sym e }
+
+pub comes_next : (service : Service) (x y z : Drawn) (xs : List Stmt) (i d q end behind later next : ℕ) (s : Stmt) → s ≡ get_or xs i s → i < length xs
+    → Comes service x y xs i d q end → behind ≡ length y.steps + count (before s done) → later ≡ end - behind → next ≡ first_of later behind q
+    → z ≡ with_code service y (before s done) d next → Comes service x z xs (i + 1) d q end
+unfolding with_code
+comes_next service x y z xs i d q end behind later next s e h comes eb el en ez =
+    let c = code (drop (i + 1) xs) in
+    let at = code_at xs i s e h in
+    let many : count (code (drop i xs)) ≡ count (before s done) + count c = ap count at ∙ count_before s c in
+    let has = comes.many in
+    let el2 : later ≡ count c = omega arith in
+    let en2 : next ≡ enter c (length y.steps + count (before s done)) q = en ∙ (λ j. first_of (el2 j) (eb j) q) ∙ first_of_is c _ q in
+    let z2 : z ≡ with_code service y (before s done) d (enter c (length y.steps + count (before s done)) q) = ez
+    ∙ ap (with_code service y (before s done) d) en2 in
+    let ss = steps service (before s done) y.number y.scope d (length y.steps) next in
+    record {
+      whole = ap (λ w. with_code service w c d q) z2 ∙ sym (with_before service y s c d q) ∙ ap (λ b. with_code service y b d q) (sym at) ∙ comes.whole;
+      many = ap (λ (w : Drawn). length w.steps + count c) ez
+      ∙ omega (arith, length-append y.steps ss, length_steps service (before s done) y.number y.scope d (length y.steps) next);
+    }
+
+with_none : (service : Service) (y : Drawn) (d q : ℕ) → with_code service y done d q ≡ y
+unfolding with_code
+with_none service y d q =
+    let a : y.number + 0 ≡ y.number = omega arith in
+    λ i. record { steps = append-nil y.steps i; number = a i; scope = y.scope }
+
+drop_all : (xs : List Stmt) (i : ℕ) → length xs ≤ i → drop i xs ≡ []
+drop_all [] zero h = refl
+drop_all [] (suc i) h = refl
+drop_all (x ∷ xs) zero h = absurd (omega arith)
+drop_all (x ∷ xs) (suc i) h = drop_all xs i (omega arith)
+
+take_front : (sc more : List Local) → take (length sc) (sc ++ more) ≡ sc
+take_front [] more = refl
+take_front (l ∷ sc) more = ap (λ m. l ∷ m) (take_front sc more)
+
+-- what statements add to the scope
+adds : (c : Code) (sc : List Local) → (more : List Local) × (after c sc ≡ sc ++ more)
+adds done sc = ([], sym (append-nil sc))
+adds (declare k w e rest) sc =
+    let one : Local = record { name = w; kind = k } in
+    let r = adds rest (sc ++ one ∷ []) in (one ∷ r.0, r.1 ∙ append_assoc sc (one ∷ []) r.0)
+adds (assign w e rest) sc = adds rest sc
+adds (if_then e y rest) sc = adds rest sc
+adds (if_else e y o rest) sc = adds rest sc
+adds (while_loop e b rest) sc = adds rest sc
+adds (for_each w e b rest) sc = adds rest sc
+adds (block b rest) sc = adds rest sc
+adds (show e rs rest) sc = adds rest sc
+adds (exit e rest) sc = adds rest sc
+
+leaves : (c : Code) (sc : List Local) → take (length sc) (after c sc) ≡ sc
+leaves c sc = let r = adds c sc in ap (take (length sc)) r.1 ∙ take_front sc r.0
+
+-- the end of a block
+pub comes_last : (service : Service) (x y z : Drawn) (xs : List Stmt) (c : Code) (i d q end depth : ℕ) → length xs ≤ i → Comes service x y xs i d q end →
+    code xs ≡ c
+    → depth ≡ length x.scope → z ≡ record y { scope = take depth y.scope } → z ≡ with_block service x c d q
+unfolding with_code
+comes_last service x y z xs c i d q end depth h comes ec ed ez =
+    let whole : y ≡ with_code service x c d q =
+    sym (with_none service y d q) ∙ ap (λ l. with_code service y (code l) d q) (sym (drop_all xs i h)) ∙ comes.whole ∙ ap (λ b. with_code service x b d q) ec in
+    ez ∙ (λ j. record (whole j) { scope = take (ed j) (whole j).scope }) ∙ ap (λ l. record (with_code service x c d q) { scope = l }) (leaves c x.scope)
+
+-- ---- the statements
+
+one_more : (xs : List Step) (x : Step) → length (xs ++ x ∷ []) ≡ length xs + 1
+one_more xs x = omega (arith, length-append xs (x ∷ []))
+
+-- a declaration, an assignment, a show and an exit
+pub declared_one : (service : Service) (x z : Drawn) (k : Kind) (w : List ℕ) (e : Expr) (d q : ℕ) (s : Stmt) → s ≡ Declare k w e
+    → z ≡ record (with_statement x d (sets w (term e)) (q ∷ [])) { scope = with_local x.scope w k } → z ≡ with_code service x (before s done) d q
+unfolding with_code
+declared_one service x z k w e d q s es ez = ez ∙ ap (λ s. with_code service x (before s done) d q) (sym es)
+
+pub assigned_one : (service : Service) (x z : Drawn) (w : List ℕ) (e : Expr) (d q : ℕ) (s : Stmt) → s ≡ Assign w e →
+    z ≡ with_statement x d (sets w (term e)) (q ∷ []) → z ≡ with_code service x (before s done) d q
+unfolding with_code
+assigned_one service x z w e d q s es ez = ez ∙ ap (λ s. with_code service x (before s done) d q) (sym es)
+
+pub shown_one : (service : Service) (x z : Drawn) (e : Expr) (rs : List Receive) (d q : ℕ) (s : Stmt) → s ≡ Show e rs →
+    z ≡ with_statement x d (shows (term e) (receives service x.scope rs)) (q ∷ []) → z ≡ with_code service x (before s done) d q
+unfolding with_code
+shown_one service x z e rs d q s es ez = ez ∙ ap (λ s. with_code service x (before s done) d q) (sym es)
+
+pub exited_one : (service : Service) (x z : Drawn) (e : Expr) (d q : ℕ) (s : Stmt) → s ≡ Exit e → z ≡ with_statement x d (exits (term e)) [] →
+    z ≡ with_code service x (before s done) d q
+unfolding with_code
+exited_one service x z e d q s es ez = ez ∙ ap (λ s. with_code service x (before s done) d q) (sym es)
+
+-- an `if` without else
+pub meets : (service : Service) (x y z r : Drawn) (e : Term) (b : Code) (n d q j : ℕ) → n ≡ x.number → j ≡ length x.steps + 1 + count b
+    → y ≡ with_statement x d (tests e) (first_of (count b) (length x.steps + 1) j ∷ j ∷ [])
+    → z ≡ with_block service y b d j → r ≡ with_step z (step n z.scope d joins (q ∷ [])) → r ≡ with_code service x (if_then e b done) d q
+unfolding with_code
+meets service x y z r e b n d q j en ej ey ez er =
+    let p = length x.steps in
+    let join = p + 1 + count b in
+    let jj : j ≡ join = ej in
+    let first = step x.number x.scope d (tests e) (enter b (p + 1) join ∷ join ∷ []) in
+    let y2 : y ≡ record { steps = x.steps ++ first ∷ []; number = x.number + 1; scope = x.scope } =
+    ey ∙ (λ i. with_statement x d (tests e) (first_of (count b) (p + 1) (jj i) ∷ jj i ∷ []))
+    ∙ (λ i. with_statement x d (tests e) (first_of_is b (p + 1) join i ∷ join ∷ [])) in
+    let bs = λ (l : ℕ). steps service b (x.number + 1) x.scope d l join in
+    let z2 : z ≡ record { steps = (x.steps ++ first ∷ []) ++ bs (p + 1); number = x.number + 1 + numbered b; scope = x.scope } =
+    ez ∙ (λ i. with_block service (y2 i) b d (jj i))
+    ∙ (λ i. record { steps = (x.steps ++ first ∷ []) ++ bs (one_more x.steps first i); number = x.number + 1 + numbered b; scope = x.scope }) in
+    let last = step x.number x.scope d joins (q ∷ []) in
+    let num : x.number + 1 + numbered b ≡ x.number + (1 + numbered b + 0) = omega arith in
+    let whole : ((x.steps ++ first ∷ []) ++ bs (p + 1)) ++ last ∷ [] ≡ x.steps ++ (first ∷ (bs (p + 1) ++ last ∷ [])) =
+    append_assoc (x.steps ++ first ∷ []) (bs (p + 1)) (last ∷ []) ∙ append_assoc x.steps (first ∷ []) (bs (p + 1) ++ last ∷ []) in
+    er ∙ (λ i. with_step (z2 i) (step (en i) (z2 i).scope d joins (q ∷ []))) ∙ (λ i. record { steps = whole i; number = num i; scope = x.scope })
+
+-- an `if` with else
+pub meets_other : (service : Service) (x y z v r : Drawn) (e : Term) (b o : Code) (n d q j : ℕ) → n ≡ x.number → j ≡ length x.steps + 1 + count b + count o
+    → y ≡ with_statement x d (tests e) (first_of (count b) (length x.steps + 1) j ∷ first_of (count o) (length x.steps + 1 + count b) j ∷ [])
+    → z ≡ with_block service y b d j → v ≡ with_block service z o d j → r ≡ with_step v (step n v.scope d joins (q ∷ [])) →
+    r ≡ with_code service x (if_else e b o done) d q
+unfolding with_code
+meets_other service x y z v r e b o n d q j en ej ey ez ev er =
+    let p = length x.steps in
+    let other = p + 1 + count b in
+    let join = other + count o in
+    let jj : j ≡ join = ej in
+    let first = step x.number x.scope d (tests e) (enter b (p + 1) join ∷ enter o other join ∷ []) in
+    let y2 : y ≡ record { steps = x.steps ++ first ∷ []; number = x.number + 1; scope = x.scope } =
+    ey ∙ (λ i. with_statement x d (tests e) (first_of (count b) (p + 1) (jj i) ∷ first_of (count o) (p + 1 + count b) (jj i) ∷ []))
+    ∙ (λ i. with_statement x d (tests e) (first_of_is b (p + 1) join i ∷ first_of_is o other join i ∷ [])) in
+    let bs = λ (l : ℕ). steps service b (x.number + 1) x.scope d l join in
+    let os = λ (l : ℕ). steps service o (x.number + 1 + numbered b) x.scope d l join in
+    let front = (x.steps ++ first ∷ []) ++ bs (p + 1) in
+    let z2 : z ≡ record { steps = front; number = x.number + 1 + numbered b; scope = x.scope } =
+    ez ∙ (λ i. with_block service (y2 i) b d (jj i))
+    ∙ (λ i. record { steps = (x.steps ++ first ∷ []) ++ bs (one_more x.steps first i); number = x.number + 1 + numbered b; scope = x.scope }) in
+    let len : length front ≡ other = omega (arith, length-append (x.steps ++ first ∷ []) (bs (p + 1)), one_more x.steps first,
+    length_steps service b (x.number + 1) x.scope d (p + 1) join) in
+    let v2 : v ≡ record { steps = front ++ os other; number = x.number + 1 + numbered b + numbered o; scope = x.scope } =
+    ev ∙ (λ i. with_block service (z2 i) o d (jj i))
+    ∙ (λ i. record { steps = front ++ os (len i); number = x.number + 1 + numbered b + numbered o; scope = x.scope }) in
+    let last = step x.number x.scope d joins (q ∷ []) in
+    let num : x.number + 1 + numbered b + numbered o ≡ x.number + (1 + numbered b + numbered o + 0) = omega arith in
+    let whole : (front ++ os other) ++ last ∷ [] ≡ x.steps ++ (first ∷ (bs (p + 1) ++ (os other ++ last ∷ []))) =
+    append_assoc front (os other) (last ∷ []) ∙ append_assoc (x.steps ++ first ∷ []) (bs (p + 1)) (os other ++ last ∷ [])
+    ∙ append_assoc x.steps (first ∷ []) (bs (p + 1) ++ (os other ++ last ∷ [])) in
+    er ∙ (λ i. with_step (v2 i) (step (en i) (v2 i).scope d joins (q ∷ []))) ∙ (λ i. record { steps = whole i; number = num i; scope = x.scope })
+
+pub if_one : (service : Service) (x y z r : Drawn) (e : Expr) (b : Code) (o : Option Code) (n d q j : ℕ) (s : Stmt) → s ≡ If e b o → o ≡ None → n ≡ x.number →
+    j ≡ length x.steps + 1 + count b
+    → y ≡ with_statement x d (tests (term e)) (first_of (count b) (length x.steps + 1) j ∷ j ∷ [])
+    → z ≡ with_block service y b d j → r ≡ with_step z (step n z.scope d joins (q ∷ [])) → r ≡ with_code service x (before s done) d q
+if_one service x y z r e b o n d q j s es eo en ej ey ez er =
+    meets service x y z r (term e) b n d q j en ej ey ez er ∙ (λ i. with_code service x (before (If e b (sym eo i)) done) d q)
+    ∙ ap (λ s. with_code service x (before s done) d q) (sym es)
+
+pub if_other_one : (service : Service) (x y z v r : Drawn) (e : Expr) (b c : Code) (o : Option Code) (n d q j : ℕ) (s : Stmt) → s ≡ If e b o → o ≡ Some c →
+    n ≡ x.number → j ≡ length x.steps + 1 + count b + count c
+    → y ≡ with_statement x d (tests (term e)) (first_of (count b) (length x.steps + 1) j ∷ first_of (count c) (length x.steps + 1 + count b) j ∷ [])
+    → z ≡ with_block service y b d j → v ≡ with_block service z c d j → r ≡ with_step v (step n v.scope d joins (q ∷ [])) →
+    r ≡ with_code service x (before s done) d q
+if_other_one service x y z v r e b c o n d q j s es eo en ej ey ez ev er =
+    meets_other service x y z v r (term e) b c n d q j en ej ey ez ev er ∙ (λ i. with_code service x (before (If e b (sym eo i)) done) d q)
+    ∙ ap (λ s. with_code service x (before s done) d q) (sym es)
+
+-- a loop: its head, and then its body, in this scope and so many foreachs
+looped : (service : Service) (x y z : Drawn) (a : Act) (b : Code) (sc : List Local) (d inner q h : ℕ) → h ≡ length x.steps
+    → y ≡ record (with_statement x d a (first_of (count b) (length x.steps + 1) (length x.steps) ∷ q ∷ [])) { scope = sc }
+    → z ≡ with_block service y b inner h
+    → z ≡ record { steps = x.steps ++ (step x.number x.scope d a
+    (enter b (length x.steps + 1) (length x.steps) ∷ q ∷ []) ∷ (steps service b (x.number + 1) sc inner (length x.steps + 1) (length x.steps) ++ [])); number =
+    x.number + (1 + numbered b + 0); scope = sc }
+unfolding with_code
+looped service x y z a b sc d inner q h eh ey ez =
+    let p = length x.steps in
+    let first = step x.number x.scope d a (enter b (p + 1) p ∷ q ∷ []) in
+    let y2 : y ≡ record { steps = x.steps ++ first ∷ []; number = x.number + 1; scope = sc } =
+    ey ∙ (λ i. record (with_statement x d a (first_of_is b (p + 1) p i ∷ q ∷ [])) { scope = sc }) in
+    let bs = λ (l : ℕ). steps service b (x.number + 1) sc inner l p in
+    let num : x.number + 1 + numbered b ≡ x.number + (1 + numbered b + 0) = omega arith in
+    let whole : (x.steps ++ first ∷ []) ++ bs (p + 1) ≡ x.steps ++ (first ∷ (bs (p + 1) ++ [])) =
+    append_assoc x.steps (first ∷ []) (bs (p + 1)) ∙ ap (λ l. x.steps ++ (first ∷ l)) (sym (append-nil (bs (p + 1)))) in
+    ez ∙ (λ i. with_block service (y2 i) b inner (eh i))
+    ∙ (λ i. record { steps = (x.steps ++ first ∷ []) ++ bs (one_more x.steps first i); number = x.number + 1 + numbered b; scope = sc })
+    ∙ (λ i. record { steps = whole i; number = num i; scope = sc })
+
+pub while_one : (service : Service) (x y z : Drawn) (e : Expr) (b : Code) (d q h : ℕ) (s : Stmt) → s ≡ While e b → h ≡ length x.steps
+    → y ≡ with_statement x d (tests (term e)) (first_of (count b) (length x.steps + 1) (length x.steps) ∷ q ∷ [])
+    → z ≡ with_block service y b d h → z ≡ with_code service x (before s done) d q
+unfolding with_code
+while_one service x y z e b d q h s es eh ey ez = looped service x y z (tests (term e)) b x.scope d d q h eh ey ez
+    ∙ ap (λ s. with_code service x (before s done) d q) (sym es)
+
+pub each_one : (service : Service) (x y z r : Drawn) (w : List ℕ) (e : Expr) (b : Code) (d inner q h depth : ℕ) (s : Stmt) → s ≡ Each w e b →
+    h ≡ length x.steps → inner ≡ d + 1
+    → y ≡ record (with_statement x d (goes_over w (term e)) (first_of (count b) (length x.steps + 1) (length x.steps) ∷ q ∷ []))
+    { scope = with_local x.scope w kinds.Str }
+    → depth ≡ length x.scope → z ≡ with_block service y b inner h → r ≡ record z { scope = take depth z.scope } → r ≡ with_code service x (before s done) d q
+unfolding with_code
+each_one service x y z r w e b d inner q h depth s es eh ei ey ed ez er =
+    let sc = with_local x.scope w kinds.Str in
+    let z2 = looped service x y z (goes_over w (term e)) b sc d (d + 1) q h eh ey (ez ∙ (λ i. with_block service y b (ei i) h)) in
+    er ∙ (λ i. record (z2 i) { scope = take (ed i) (z2 i).scope })
+    ∙ ap (λ l. record (with_code service x (for_each w (term e) b done) d q) { scope = l }) (take_front x.scope (record { name = w; kind = kinds.Str } ∷ []))
+    ∙ ap (λ s. with_code service x (before s done) d q) (sym es)
+
+pub block_one : (service : Service) (x z : Drawn) (b : Code) (d q : ℕ) (s : Stmt) → s ≡ Block b → z ≡ with_block service x b d q →
+    z ≡ with_code service x (before s done) d q
+unfolding with_code
+block_one service x z b d q s es ez =
+    let a : x.number + numbered b ≡ x.number + (numbered b + 0) = omega arith in
+    ez ∙ (λ i. record { steps = x.steps ++ sym (append-nil (steps service b x.number x.scope d (length x.steps) q)) i; number = a i; scope = x.scope })
+    ∙ ap (λ s. with_code service x (before s done) d q) (sym es)
+
+-- ---- the sessions
+
+-- what the sessions' loop keeps: the places and the points still to come make the whole, and no local is in scope
+pub record Goes (service : Service) (x y : Drawn) (fs : List ℕ) (xs : List Session) (i out : ℕ) : Type 0 where
+  pub places : fs ++ session_firsts (drop i xs) (length y.steps) out ≡ session_firsts xs (length x.steps) out
+  pub points : y.steps ++ session_steps service (drop i xs) y.number (length y.steps) out ≡ x.steps ++ session_steps service xs x.number (length x.steps) out
+  pub outside : y.scope ≡ []
+
+pub goes_next : (service : Service) (x y z : Drawn) (fs gs : List ℕ) (xs : List Session) (i out first : ℕ) (s : Session) → s ≡ get_or xs i s → i < length xs →
+    Goes service x y fs xs i out
+    → first ≡ first_of (count s.body) (length y.steps) out → z ≡ with_block service y s.body 0 out → gs ≡ fs ++ first ∷ [] → Goes service x z gs xs (i + 1) out
+unfolding with_code
+goes_next service x y z fs gs xs i out first s e h goes ef ez eg =
+    let p = length y.steps in
+    let rest = drop (i + 1) xs in
+    let a : suc i ≡ i + 1 = omega arith in
+    let at : drop i xs ≡ s ∷ rest = drop-cons xs i s h ∙ (λ j. sym e j ∷ drop (a j) xs) in
+    let body = λ (sc : List Local). steps service s.body y.number sc 0 p out in
+    let ss = body [] in
+    let zs : z.steps ≡ y.steps ++ ss = ap (λ (w : Drawn). w.steps) ez ∙ (λ j. y.steps ++ body (goes.outside j)) in
+    let zn : z.number ≡ y.number + numbered s.body = ap (λ (w : Drawn). w.number) ez in
+    let zl : length z.steps ≡ p + count s.body = ap length zs ∙ omega (arith, length-append y.steps ss, length_steps service s.body y.number [] 0 p out) in
+    let firsts = session_firsts rest (p + count s.body) out in
+    let more = session_steps service rest (y.number + numbered s.body) (p + count s.body) out in
+    let begins : first ≡ enter s.body p out = ef ∙ first_of_is s.body p out in
+    record {
+      places = (λ j. eg j ++ session_firsts rest (zl j) out) ∙ append_assoc fs (first ∷ []) firsts ∙ (λ j. fs ++ (begins j ∷ firsts))
+          ∙ ap (λ l. fs ++ session_firsts l p out) (sym at) ∙ goes.places;
+      points = (λ j. zs j ++ session_steps service rest (zn j) (zl j) out) ∙ append_assoc y.steps ss more
+      ∙ ap (λ l. y.steps ++ session_steps service l y.number p out) (sym at) ∙ goes.points;
+      outside = ap (λ (w : Drawn). w.scope) ez ∙ goes.outside;
+    }

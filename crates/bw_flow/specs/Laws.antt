@@ -1,0 +1,10 @@
+-- Laws of the layout.
+use Rattle.std.specs.Prelude.{◌≡◌, ℕ, List, length}
+use Rattle.bw_lang.specs.Code.{Code}
+use Rattle.bw_lang.specs.declared.service.Service.{Service}
+use Rattle.bw_flow.specs.declared.point.Local.{Local}
+use Rattle.bw_flow.specs.Layout.{count, steps}
+
+-- there are as many points as are counted
+abbrev pub PointsAreCounted : Type 0
+PointsAreCounted = (service : Service) (c : Code) (n : ℕ) (sc : List Local) (d p q : ℕ) → length (steps service c n sc d p q) ≡ count c

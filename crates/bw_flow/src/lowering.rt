@@ -1,0 +1,48 @@
+//! From a service to its flow.
+ghost use Rattle.std.specs.Prelude.{◌≡◌, ◌≤◌, IfOk, IfErr};
+ghost use Rattle.bw_flow.specs.Layout.{plan_of, points};
+ghost use Rattle.bw_flow.specs.Flows.{IsFlowFault};
+
+use crate::counting::session_points;
+use crate::draft::Draft;
+use crate::flow::Flow;
+use crate::point::PointId;
+use bw_lang::Memory;
+use bw_types::Typed;
+use std::alloc::Global;
+
+/// The most points that a service may have.
+pub const MAX_POINTS: usize = 4096;
+
+/// Why a service has no flow.
+#[derive(Clone, Copy, Debug, PartialEq, Eq)]
+pub enum FlowFault {
+    /// It has so many points, more than 4,096.
+    TooMany(u64),
+    Memory,
+}
+
+impl From<Memory> for FlowFault {
+    ghost use Rattle.bw_flow.specs.declared.lowering.FlowFault.TheVariants as faults;
+
+    ghost from_gives = { λ _ e. e ≡ faults.Memory };
+
+    fn from(_error: Memory) -> FlowFault {
+        FlowFault::Memory
+    }
+}
+
+/// The flow of a service.
+pub fn lower(alloc: Global, typed: &Typed) -> Result<Flow, FlowFault>
+    ensures ok { IfOk result (λ f. (f ≡ plan_of typed.now.service) × points typed.now.service.sessions ≤ 4096) }
+    ensures fault { IfErr result (λ e. IsFlowFault e (points typed.now.service.sessions)) }
+{
+    let sessions = typed.service().sessions.as_slice();
+    let total = session_points(sessions)?;
+    if total > MAX_POINTS {
+        return Err(FlowFault::TooMany(total as u64));
+    }
+    let mut draft = Draft::new(alloc);
+    let firsts = draft.sessions(typed, sessions, PointId::of(total))?;
+    Ok(Flow::of(draft.into_points(), firsts))
+}

@@ -1,0 +1,10 @@
+//! The bytes that part what stands in a text.
+ghost use Rattle.std.specs.Prelude.{◌≡◌};
+ghost use Rattle.bw_lang.specs.Bytes as spec;
+
+/// Whether the byte is a space, a tab, a carriage return or a line feed.
+pub fn is_blank(byte: u8) -> bool
+    ensures { result ≡ spec.is_blank byte }
+{
+    b" \t\r\n".contains(&byte)
+}

@@ -1,0 +1,8 @@
+use Rattle.std.proofs.Common.{◌≡◌, None}
+use Rattle.bw_out.proofs.adapters.open_retrying.Given as goal
+
+abbrev pub invariant-loop-turn : goal.invariant-loop-turn
+invariant-loop-turn g l = record {
+  interrupted : l.tries.interrupted ≡ l._turn;
+  end : l.tries.end ≡ None;
+}

@@ -1,9 +1,0 @@
-use Rattle.std.proofs.Common.{◌∙◌, sym}
-use Rattle.bw_types.proofs.Known.{knows_declared}
-use Rattle.bw_types.proofs.names.Names.is_taken.Goals as goal
-
-pub returns-then-has : goal.returns-then-has
-returns-then-has c = let n = c.args.self.now in rw (sym (knows_declared n.service.now n.known c.args.name.now) ∙ sym c.has.ensures ∙ c.if-has.true) c.if-has.true
-
-pub returns-else-has : goal.returns-else-has
-returns-else-has c = let n = c.args.self.now in rw (sym (knows_declared n.service.now n.known c.args.name.now) ∙ sym c.has.ensures ∙ c.if-has.false) c.has-else-has.ensures

@@ -1,0 +1,8 @@
+use Rattle.std.proofs.Common.{◌≡◌, [], take, map, flat_map}
+use Rattle.bw_lang.specs.Limits.{declared_fields}
+use Rattle.bw_lang.specs.Names.{with_names}
+use Rattle.bw_lang.specs.Order.{seen}
+use Rattle.bw_types.proofs.typed.names_of_fields.Given as goal
+
+abbrev pub invariant-loop-declaration : goal.invariant-loop-declaration
+invariant-loop-declaration l = l.names ≡ with_names [] (flat_map declared_fields (map seen (take l.declaration-index l.declaration-items)))
