@@ -101,9 +101,7 @@ fn is_among(text: &str, allowed: &[Text]) -> bool
 fn is_blank(text: &str) -> bool
     ensures { result ≡ is_blank text.now }
 {
-    text.as_bytes()
-        .iter()
-        .all(|byte| matches!(*byte, b' ' | b'\t' | b'\r' | b'\n'))
+    text.as_bytes().iter().all(|byte| bw_lang::is_blank(*byte))
 }
 
 // Whether each of the literals of these numbers is an allowed word.

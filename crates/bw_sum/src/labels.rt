@@ -76,6 +76,7 @@ impl Labels {
                 list.push(((track.1, gap), strings.copy(alloc)?))?;
             }
         }
+        // This call tells that the strings are well formed, as labels ask.
         let _none = strings.is_none();
         Ok(Labels { list })
     }

@@ -8,10 +8,12 @@ ghost use Rattle.bw_sum.specs.declared.summary.Summary.{Summary};
 use crate::constants::{lacks_of, tracks_of};
 use crate::labels::Labels;
 use crate::parts::{lacking, new_edges, other_tracks, text_labels};
+use bw_lang::laws::readable_is_small;
 use bw_lang::wrappers::{exit_wrapper, show_wrapper};
-use bw_lang::{GapId, Items, Memory, Service, TemplateId};
+use bw_lang::{GapId, Items, Memory, TemplateId};
 use bw_solve::{Lattice, Set};
 use bw_strings::StrSet;
+use bw_types::Typed;
 use std::alloc::{AllocError, Global};
 
 /// What is known of some documents: the documents that its template constants may become by plugs.
@@ -43,16 +45,19 @@ impl Summary {
         }
     }
 
-    /// The summary of the document that a template of the service, or a page wrapper, is as it stands.
-    fn constant_in(
+    /// The summary of the document that a template, or a page wrapper, is as it stands: its one root, a track for each of
+    /// its gaps, and the other gaps of the service lacking.
+    pub fn constant(
         alloc: Global,
-        service: &Service,
+        typed: &Typed,
         template: TemplateId,
     ) -> Result<Summary, Memory>
-        requires gaps { length service.now.gaps < 2 ^ 32 - 3 }
-        requires template { template < length service.now.templates + 2 }
-        ensures { IfOk result (λ s. s ≡ constant_of template (template_items service.now template) (length service.now.gaps)) }
+        requires { template < length typed.now.service.templates + 2 }
+        ensures { IfOk result (λ s. s ≡
+            constant_of template (template_items typed.now.service template) (length typed.now.service.gaps)) }
     {
+        readable_is_small();
+        let service = typed.service();
         let templates = service.templates.as_slice();
         let number = template.number() as usize;
         let gaps = service.gaps.len() as u32;
