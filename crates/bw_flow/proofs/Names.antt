@@ -23,7 +23,7 @@ use Rattle.bw_flow.specs.declared.point.Local.{Local}
 use Rattle.bw_flow.specs.Scopes as flow
 use Rattle.bw_flow.specs.Scopes.{kind_in}
 use Rattle.bw_flow.specs.TypedFlow.{names_at, kind_at, HasKindAt, AreNames}
-use Rattle.bw_flow.specs.Woven.{IsWoven}
+use Rattle.bw_lang.specs.Order.{IsWoven}
 
 exact : (x y : List ℕ) → same x y ≡ true → x ≡ y
 exact x y e = same_text x y (sym e)

@@ -14,7 +14,7 @@ use Rattle.bw_flow.specs.declared.point.Local.{Local}
 use Rattle.bw_flow.specs.Scoped.{is_known, IsScoped, TypedIsScoped}
 use Rattle.bw_flow.specs.Scopes.{with_local}
 use Rattle.bw_flow.specs.TypedFlow.{kind_at}
-use Rattle.bw_flow.specs.Woven.{IsWoven}
+use Rattle.bw_lang.specs.Order.{IsWoven}
 use Rattle.bw_flow.proofs.Names.{Matches, matches_nothing, matches_more, matches_new, kind_in_is, kind_at_is, new_at}
 
 known_is : (service : Service) (sc : List Local) (w : List ℕ) → is_known service sc w ≡ is_some (kind_at service sc w)

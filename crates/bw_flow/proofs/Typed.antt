@@ -19,7 +19,7 @@ use Rattle.bw_flow.specs.Layout.{count, enter, after, step, steps, received, rec
 use Rattle.bw_flow.specs.Scopes.{with_local, kind_in, kind_or_string}
 use Rattle.bw_flow.specs.Steps.{sets, tests, goes_over, shows, exits, joins, Step}
 use Rattle.bw_flow.specs.TypedFlow.{kind_at, AreNames, IsTypedReceive, IsTypedAct}
-use Rattle.bw_flow.specs.Woven.{IsWoven}
+use Rattle.bw_lang.specs.Order.{IsWoven}
 use Rattle.bw_flow.proofs.Layouts.{length_steps}
 use Rattle.bw_flow.proofs.Names.{Matches, matches_nothing, matches_more, matches_new, kind_in_is, kind_at_is, new_at, has_kind}
 use Rattle.bw_flow.proofs.Parts.{Holds, holds_at, holds_parts}

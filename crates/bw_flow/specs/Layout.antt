@@ -53,12 +53,12 @@ after (show e rs rest) scope = after rest scope
 after (exit e rest) scope = after rest scope
 
 -- the number of a field: its place among the names of all fields
-abbrev pub field_number : Service → List ℕ → ℕ
-field_number service w = number (with_names [] (field_names service)) w
+abbrev pub number_of_field : Service → List ℕ → ℕ
+number_of_field service w = number (with_names [] (field_names service)) w
 
 -- a field that a show receives, with the kind of its target and its number
 abbrev pub received : Service → List Local → Receive → Received
-received service scope r = record { target = r.target; kind = target_kind service scope r.target; field = r.field; id = field_number service r.field }
+received service scope r = record { target = r.target; kind = target_kind service scope r.target; field = r.field; id = number_of_field service r.field }
 
 -- all of them, in source order
 abbrev pub receives : Service → List Local → List Receive → List Received

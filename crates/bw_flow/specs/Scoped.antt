@@ -9,7 +9,7 @@ use Rattle.bw_types.specs.Scopes.{shared_kind}
 use Rattle.bw_types.specs.Typing.{IsTypedService}
 use Rattle.bw_flow.specs.declared.point.Local.{Local}
 use Rattle.bw_flow.specs.Scopes.{kind_in, with_local}
-use Rattle.bw_flow.specs.Woven.{IsWoven}
+use Rattle.bw_lang.specs.Order.{IsWoven}
 
 -- whether the name is that of a local in scope or of a shared variable
 abbrev pub is_known : Service → List Local → List ℕ → Bool

@@ -16,7 +16,7 @@ use Rattle.bw_flow.specs.Layout.{plan_of}
 use Rattle.bw_flow.specs.Places.{Among}
 use Rattle.bw_flow.specs.Scopes.{kind_in}
 use Rattle.bw_flow.specs.Stands.{IsAt}
-use Rattle.bw_flow.specs.Woven.{IsWoven}
+use Rattle.bw_lang.specs.Order.{IsWoven}
 use Rattle.bw_flow.specs.Steps.{Act, sets, tests, goes_over, shows, exits, joins, Step}
 
 -- ---- names at a point
