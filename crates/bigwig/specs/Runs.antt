@@ -48,7 +48,7 @@ pub record IsBroken (service : Service) (stream : List ℕ) (keys : Coming) (mos
   pub count : ℕ
   pub fewer : count < most
   pub rest : List ℕ
-  pub between : List ℕ
+  pub between : Coming
   pub earlier : List ℕ
   pub handles : Handles service stream keys count rest between earlier
   pub next : List ℕ

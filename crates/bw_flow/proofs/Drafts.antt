@@ -71,7 +71,7 @@ comes_next service x y z xs i d q end behind later next s e h comes eb el en ez 
     record {
       whole = ap (λ w. with_code service w c d q) z2 ∙ sym (with_before service y s c d q) ∙ ap (λ b. with_code service y b d q) (sym at) ∙ comes.whole;
       many = ap (λ (w : Drawn). length w.steps + count c) ez
-      ∙ omega (arith, length-append y.steps ss, length_steps service (before s done) y.number y.scope d (length y.steps) next);
+          ∙ omega (arith, length-append y.steps ss, length_steps service (before s done) y.number y.scope d (length y.steps) next);
     }
 
 with_none : (service : Service) (y : Drawn) (d q : ℕ) → with_code service y done d q ≡ y
@@ -188,8 +188,12 @@ meets_other service x y z v r e b o n d q j en ej ey ez ev er =
     let z2 : z ≡ record { steps = front; number = x.number + 1 + numbered b; scope = x.scope } =
     ez ∙ (λ i. with_block service (y2 i) b d (jj i))
     ∙ (λ i. record { steps = (x.steps ++ first ∷ []) ++ bs (one_more x.steps first i); number = x.number + 1 + numbered b; scope = x.scope }) in
-    let len : length front ≡ other = omega (arith, length-append (x.steps ++ first ∷ []) (bs (p + 1)), one_more x.steps first,
-    length_steps service b (x.number + 1) x.scope d (p + 1) join) in
+    let len : length front ≡ other = omega (
+      arith,
+      length-append (x.steps ++ first ∷ []) (bs (p + 1)),
+      one_more x.steps first,
+      length_steps service b (x.number + 1) x.scope d (p + 1) join,
+    ) in
     let v2 : v ≡ record { steps = front ++ os other; number = x.number + 1 + numbered b + numbered o; scope = x.scope } =
     ev ∙ (λ i. with_block service (z2 i) o d (jj i))
     ∙ (λ i. record { steps = front ++ os (len i); number = x.number + 1 + numbered b + numbered o; scope = x.scope }) in
@@ -221,9 +225,13 @@ if_other_one service x y z v r e b c o n d q j s es eo en ej ey ez ev er =
 looped : (service : Service) (x y z : Drawn) (a : Act) (b : Code) (sc : List Local) (d inner q h : ℕ) → h ≡ length x.steps
     → y ≡ record (with_statement x d a (first_of (count b) (length x.steps + 1) (length x.steps) ∷ q ∷ [])) { scope = sc }
     → z ≡ with_block service y b inner h
-    → z ≡ record { steps = x.steps ++ (step x.number x.scope d a
-    (enter b (length x.steps + 1) (length x.steps) ∷ q ∷ []) ∷ (steps service b (x.number + 1) sc inner (length x.steps + 1) (length x.steps) ++ [])); number =
-    x.number + (1 + numbered b + 0); scope = sc }
+    → z ≡ record {
+      steps = x.steps ++ (step x.number x.scope d a
+          (enter b (length x.steps + 1) (length x.steps) ∷ q ∷ []) ∷ (steps service b (x.number + 1) sc inner (length x.steps + 1) (length x.steps) ++ []));
+      number =
+          x.number + (1 + numbered b + 0);
+      scope = sc;
+    }
 unfolding with_code
 looped service x y z a b sc d inner q h eh ey ez =
     let p = length x.steps in
@@ -295,6 +303,6 @@ goes_next service x y z fs gs xs i out first s e h goes ef ez eg =
       places = (λ j. eg j ++ session_firsts rest (zl j) out) ∙ append_assoc fs (first ∷ []) firsts ∙ (λ j. fs ++ (begins j ∷ firsts))
           ∙ ap (λ l. fs ++ session_firsts l p out) (sym at) ∙ goes.places;
       points = (λ j. zs j ++ session_steps service rest (zn j) (zl j) out) ∙ append_assoc y.steps ss more
-      ∙ ap (λ l. y.steps ++ session_steps service l y.number p out) (sym at) ∙ goes.points;
+          ∙ ap (λ l. y.steps ++ session_steps service l y.number p out) (sym at) ∙ goes.points;
       outside = ap (λ (w : Drawn). w.scope) ez ∙ goes.outside;
     }

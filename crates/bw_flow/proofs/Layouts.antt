@@ -56,20 +56,38 @@ length_steps service (if_else e y o rest) n sc d p q =
     let ys = steps service y (n + 1) sc d (p + 1) join in
     let os = steps service o (n + 1 + numbered y) sc d other join in
     let more = step n sc d joins (enter rest (join + 1) q ∷ []) ∷ steps service rest (n + 1 + numbered y + numbered o) sc d (join + 1) q in
-    omega (arith, length-append ys (os ++ more), length-append os more, length_steps service y (n + 1) sc d (p + 1) join,
-    length_steps service o (n + 1 + numbered y) sc d other join, length_steps service rest (n + 1 + numbered y + numbered o) sc d (join + 1) q)
+    omega (
+      arith,
+      length-append ys (os ++ more),
+      length-append os more,
+      length_steps service y (n + 1) sc d (p + 1) join,
+      length_steps service o (n + 1 + numbered y) sc d other join,
+      length_steps service rest (n + 1 + numbered y + numbered o) sc d (join + 1) q,
+    )
 length_steps service (while_loop e b rest) n sc d p q =
     let behind = p + 1 + count b in
-    omega (arith, length-append (steps service b (n + 1) sc d (p + 1) p) (steps service rest (n + 1 + numbered b) sc d behind q),
-    length_steps service b (n + 1) sc d (p + 1) p, length_steps service rest (n + 1 + numbered b) sc d behind q)
+    omega (
+      arith,
+      length-append (steps service b (n + 1) sc d (p + 1) p) (steps service rest (n + 1 + numbered b) sc d behind q),
+      length_steps service b (n + 1) sc d (p + 1) p,
+      length_steps service rest (n + 1 + numbered b) sc d behind q,
+    )
 length_steps service (for_each w e b rest) n sc d p q =
     let behind = p + 1 + count b in let inner = with_local sc w kinds.Str in
-    omega (arith, length-append (steps service b (n + 1) inner (d + 1) (p + 1) p) (steps service rest (n + 1 + numbered b) sc d behind q),
-    length_steps service b (n + 1) inner (d + 1) (p + 1) p, length_steps service rest (n + 1 + numbered b) sc d behind q)
+    omega (
+      arith,
+      length-append (steps service b (n + 1) inner (d + 1) (p + 1) p) (steps service rest (n + 1 + numbered b) sc d behind q),
+      length_steps service b (n + 1) inner (d + 1) (p + 1) p,
+      length_steps service rest (n + 1 + numbered b) sc d behind q,
+    )
 length_steps service (block b rest) n sc d p q =
     let r = enter rest (p + count b) q in
-    omega (arith, length-append (steps service b n sc d p r) (steps service rest (n + numbered b) sc d (p + count b) q), length_steps service b n sc d p r,
-    length_steps service rest (n + numbered b) sc d (p + count b) q)
+    omega (
+      arith,
+      length-append (steps service b n sc d p r) (steps service rest (n + numbered b) sc d (p + count b) q),
+      length_steps service b n sc d p r,
+      length_steps service rest (n + numbered b) sc d (p + count b) q,
+    )
 length_steps service (show e rs rest) n sc d p q = omega (arith, length_steps service rest (n + 1) sc d (p + 1) q)
 length_steps service (exit e rest) n sc d p q = omega (arith, length_steps service rest (n + 1) sc d (p + 1) q)
 

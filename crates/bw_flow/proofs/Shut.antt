@@ -123,14 +123,14 @@ below service (while_loop e y rest) n sc d p q b le h =
     let j : p < b = omega arith in (
       (enter_below y (p + 1) p b (omega arith) (inl j), (enter_below rest behind q b (omega arith) h, tt)),
       below_parts b (steps service y (n + 1) sc d (p + 1) p) _ (below service y (n + 1) sc d (p + 1) p b (omega arith) (inl j))
-      (below service rest (n + 1 + numbered y) sc d behind q b (omega arith) h),
+          (below service rest (n + 1 + numbered y) sc d behind q b (omega arith) h),
     )
 below service (for_each w e y rest) n sc d p q b le h =
     let behind = p + 1 + count y in let inner = with_local sc w kinds.Str in
     let j : p < b = omega arith in (
       (enter_below y (p + 1) p b (omega arith) (inl j), (enter_below rest behind q b (omega arith) h, tt)),
       below_parts b (steps service y (n + 1) inner (d + 1) (p + 1) p) _ (below service y (n + 1) inner (d + 1) (p + 1) p b (omega arith) (inl j))
-      (below service rest (n + 1 + numbered y) sc d behind q b (omega arith) h),
+          (below service rest (n + 1 + numbered y) sc d behind q b (omega arith) h),
     )
 below service (block y rest) n sc d p q b le h =
     let behind = p + count y in let r = enter rest behind q in

@@ -36,9 +36,12 @@ within_parts lo hi (x ∷ xs) ys a b = (a.0, a.1, within_parts lo hi xs ys a.2 b
 
 within : (service : Service) (c : Code) (n : ℕ) (sc : List Local) (d p q : ℕ) → Within n (n + numbered c) (steps service c n sc d p q)
 within service done n sc d p q = tt
-within service (declare k w e rest) n sc d p q =
-    (omega arith, omega arith, within_wider (n + 1) (n + 1 + numbered rest) _ _ _ (omega arith) (omega arith)
-    (within service rest (n + 1) (with_local sc w k) d (p + 1) q))
+within service (declare k w e rest) n sc d p q = (
+  omega arith,
+  omega arith,
+  within_wider (n + 1) (n + 1 + numbered rest) _ _ _ (omega arith) (omega arith)
+      (within service rest (n + 1) (with_local sc w k) d (p + 1) q),
+)
 within service (assign w e rest) n sc d p q =
     (omega arith, omega arith, within_wider (n + 1) (n + 1 + numbered rest) _ _ _ (omega arith) (omega arith) (within service rest (n + 1) sc d (p + 1) q))
 within service (if_then e y rest) n sc d p q =
@@ -114,9 +117,10 @@ differ_joined : (a b c m : ℕ) (xs : List Step) (x : Step) (ys : List Step) →
     Differ (xs ++ (x ∷ ys))
 differ_joined a b c m [] x ys l v w h k le = (λ j. lacks_below x.number b c ys (omega arith) w, k)
 differ_joined a b c m (z ∷ xs) x ys l v w h k le =
-    let p = v.0 in
-    (λ j. lacks_parts z.number xs (x ∷ ys) (h.0 j) (λ i e. let f : x.number ≡ z.number = e in omega arith, lacks_below z.number b c ys v.1 w),
-    differ_joined a b c m xs x ys l v.2 w h.1 k le)
+    let p = v.0 in (
+      λ j. lacks_parts z.number xs (x ∷ ys) (h.0 j) (λ i e. let f : x.number ≡ z.number = e in omega arith, lacks_below z.number b c ys v.1 w),
+      differ_joined a b c m xs x ys l v.2 w h.1 k le,
+    )
 
 differ : (service : Service) (c : Code) (n : ℕ) (sc : List Local) (d p q : ℕ) → Differ (steps service c n sc d p q)
 differ service done n sc d p q = tt
@@ -126,7 +130,7 @@ differ service (if_then e y rest) n sc d p q =
     let join = p + 1 + count y in let m = n + 1 + numbered y in (
       λ j. never j,
       differ_joined (n + 1) m (m + numbered rest) 0 (steps service y (n + 1) sc d (p + 1) join) (step n sc d joins (enter rest (join + 1) q ∷ []))
-      (steps service rest m sc d (join + 1) q) (omega arith)
+          (steps service rest m sc d (join + 1) q) (omega arith)
           (within service y (n + 1) sc d (p + 1) join) (within service rest m sc d (join + 1) q) (differ service y (n + 1) sc d (p + 1) join)
           (differ service rest m sc d (join + 1) q) (omega arith),
     )
@@ -140,10 +144,12 @@ differ service (if_else e y o rest) n sc d p q =
     (within_wider k m _ _ os (omega arith) (omega arith) wo) in
     let both = differ_parts (n + 1) k m ys os wy wo (differ service y (n + 1) sc d (p + 1) join) (differ service o k sc d other join) in
     let last = step n sc d joins (enter rest (join + 1) q ∷ []) in
-    let more = steps service rest m sc d (join + 1) q in
-    (λ j. never j, subst Differ (append_assoc ys os (last ∷ more))
-    (differ_joined (n + 1) m (m + numbered rest) 0 (ys ++ os) last more (omega arith) front (within service rest m sc d (join + 1) q) both
-    (differ service rest m sc d (join + 1) q) (omega arith)))
+    let more = steps service rest m sc d (join + 1) q in (
+      λ j. never j,
+      subst Differ (append_assoc ys os (last ∷ more))
+          (differ_joined (n + 1) m (m + numbered rest) 0 (ys ++ os) last more (omega arith) front (within service rest m sc d (join + 1) q) both
+          (differ service rest m sc d (join + 1) q) (omega arith)),
+    )
 differ service (while_loop e y rest) n sc d p q =
     let behind = p + 1 + count y in let m = n + 1 + numbered y in (
       λ j. never j,

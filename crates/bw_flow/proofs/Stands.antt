@@ -23,9 +23,15 @@ stands service flow (if_then e y rest) n sc d p q h =
     let ys = steps service y (n + 1) sc d (p + 1) join in
     let more = step n sc d joins (enter rest (join + 1) q ∷ []) ∷ steps service rest (n + 1 + numbered y) sc d (join + 1) q in
     let a = holds_parts flow (p + 1) ys more h.1 in
-    let b = holds_at flow (p + 1 + length ys) join more (ap (λ l. p + 1 + l) (length_steps service y (n + 1) sc d (p + 1) join)) a.1 in
-    (enter y (p + 1) join, join, enter rest (join + 1) q, h.0, b.0, stands service flow y (n + 1) sc d (p + 1) join a.0,
-    stands service flow rest (n + 1 + numbered y) sc d (join + 1) q b.1)
+    let b = holds_at flow (p + 1 + length ys) join more (ap (λ l. p + 1 + l) (length_steps service y (n + 1) sc d (p + 1) join)) a.1 in (
+      enter y (p + 1) join,
+      join,
+      enter rest (join + 1) q,
+      h.0,
+      b.0,
+      stands service flow y (n + 1) sc d (p + 1) join a.0,
+      stands service flow rest (n + 1 + numbered y) sc d (join + 1) q b.1,
+    )
 stands service flow (if_else e y o rest) n sc d p q h =
     let other = p + 1 + count y in let join = other + count o in
     let ys = steps service y (n + 1) sc d (p + 1) join in
@@ -50,17 +56,25 @@ stands service flow (while_loop e y rest) n sc d p q h =
     let ys = steps service y (n + 1) sc d (p + 1) p in
     let more = steps service rest (n + 1 + numbered y) sc d behind q in
     let a = holds_parts flow (p + 1) ys more h.1 in
-    let b = holds_at flow (p + 1 + length ys) behind more (ap (λ l. p + 1 + l) (length_steps service y (n + 1) sc d (p + 1) p)) a.1 in
-    (enter y (p + 1) p, enter rest behind q, h.0, stands service flow y (n + 1) sc d (p + 1) p a.0,
-    stands service flow rest (n + 1 + numbered y) sc d behind q b)
+    let b = holds_at flow (p + 1 + length ys) behind more (ap (λ l. p + 1 + l) (length_steps service y (n + 1) sc d (p + 1) p)) a.1 in (
+      enter y (p + 1) p,
+      enter rest behind q,
+      h.0,
+      stands service flow y (n + 1) sc d (p + 1) p a.0,
+      stands service flow rest (n + 1 + numbered y) sc d behind q b,
+    )
 stands service flow (for_each w e y rest) n sc d p q h =
     let behind = p + 1 + count y in let inner = with_local sc w kinds.Str in
     let ys = steps service y (n + 1) inner (d + 1) (p + 1) p in
     let more = steps service rest (n + 1 + numbered y) sc d behind q in
     let a = holds_parts flow (p + 1) ys more h.1 in
-    let b = holds_at flow (p + 1 + length ys) behind more (ap (λ l. p + 1 + l) (length_steps service y (n + 1) inner (d + 1) (p + 1) p)) a.1 in
-    (enter y (p + 1) p, enter rest behind q, h.0, stands service flow y (n + 1) inner (d + 1) (p + 1) p a.0,
-    stands service flow rest (n + 1 + numbered y) sc d behind q b)
+    let b = holds_at flow (p + 1 + length ys) behind more (ap (λ l. p + 1 + l) (length_steps service y (n + 1) inner (d + 1) (p + 1) p)) a.1 in (
+      enter y (p + 1) p,
+      enter rest behind q,
+      h.0,
+      stands service flow y (n + 1) inner (d + 1) (p + 1) p a.0,
+      stands service flow rest (n + 1 + numbered y) sc d behind q b,
+    )
 stands service flow (block y rest) n sc d p q h =
     let behind = p + count y in let r = enter rest behind q in
     let ys = steps service y n sc d p r in

@@ -155,7 +155,7 @@ module _ (service : Service) (flow : List Step) (woven : IsWoven service) where
                 names = m.names;
                 acts = tt;
                 follows = next_kept service flow meet r [] (entry service flow rest (n + 1 + numbered y + numbered o) sc d (join + 1) q c.1 e)
-                (no_next service flow meet);
+                    (no_next service flow meet);
               },
               typed rest (n + 1 + numbered y + numbered o) sc d (join + 1) q (behind (behind scope y) o) m2 t.3 c.1 e,
             )),

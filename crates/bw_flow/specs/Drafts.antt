@@ -26,8 +26,12 @@ with_statement d inside act next = record { steps = d.steps ++ step d.number d.s
 
 -- with the points of statements, which lead to place q at their end
 unfoldable pub with_code : Service → Drawn → Code → ℕ → ℕ → Drawn
-with_code service d c inside q = record { steps = d.steps ++ steps service c d.number d.scope inside (length d.steps) q; number = d.number + numbered c; scope =
-    after c d.scope }
+with_code service d c inside q = record {
+  steps = d.steps ++ steps service c d.number d.scope inside (length d.steps) q;
+  number = d.number + numbered c;
+  scope =
+      after c d.scope;
+}
 
 -- with those of a block, whose locals are out of scope behind it
 abbrev pub with_block : Service → Drawn → Code → ℕ → ℕ → Drawn

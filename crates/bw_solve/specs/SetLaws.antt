@@ -82,7 +82,7 @@ module _ {T : Type 0} {cmp : T → T → Ordering} (o : IsTotalOrder cmp) where
       (x ∷ rest (y ∷ ys)) (x ∷ rest ys) (y ∷ merge_into cmp x xs rest ys)
       (λ e. ap (λ b. f x || b) (h (y ∷ ys)) ∙ or_assoc (f x) (list_any f xs) (f y) (list_any f ys))
       (λ e. ap (λ b. f x || b) (h ys) ∙ or_same (f x) (list_any f xs) (list_any f ys)
-          ∙ ap (λ b. (f x || list_any f xs) || (b || list_any f ys)) (congr x y e))
+      ∙ ap (λ b. (f x || list_any f xs) || (b || list_any f ys)) (congr x y e))
       (λ e. ap (λ b. f y || b) (merge_into_any f congr x xs rest h ys) ∙ or_swap (f x || list_any f xs) (f y) (list_any f ys))
 
   -- a test that doesn't tell equal members apart finds in a union what it finds in either set

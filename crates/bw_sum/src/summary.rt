@@ -47,11 +47,7 @@ impl Summary {
 
     /// The summary of the document that a template, or a page wrapper, is as it stands: its one root, a track for each of
     /// its gaps, and the other gaps of the service lacking.
-    pub fn constant(
-        alloc: Global,
-        typed: &Typed,
-        template: TemplateId,
-    ) -> Result<Summary, Memory>
+    pub fn constant(alloc: Global, typed: &Typed, template: TemplateId) -> Result<Summary, Memory>
         requires { template < length typed.now.service.templates + 2 }
         ensures { IfOk result (λ s. s ≡
             constant_of template (template_items typed.now.service template) (length typed.now.service.gaps)) }
