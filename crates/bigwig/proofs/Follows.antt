@@ -11,7 +11,7 @@ use Rattle.bigwig.specs.Runs.Run.{over, ends, request, no_memory}
 use Rattle.bigwig.proofs.Asking.{one_request_rest}
 
 -- the same run, by other spellings of what it is over
-pub run_as : {service : Service} {s s' : List ℕ} {keys : Coming} {keys' : List ℕ} {n n' : ℕ} {left : Coming} {a a' : List ℕ} → Run service s keys n left a → s' ≡ s → keys' ≡ keys → n' ≡ n → a' ≡ a → Run service s' keys' n' left a'
+pub run_as : {service : Service} {s s' : List ℕ} {keys keys' : Coming} {n n' : ℕ} {left : Coming} {a a' : List ℕ} → Run service s keys n left a → s' ≡ s → keys' ≡ keys → n' ≡ n → a' ≡ a → Run service s' keys' n' left a'
 run_as {service} {s} {s'} {keys} {keys'} {n} {n'} {left} {a} {a'} r es ek en ea =
     subst (λ x. Run service x keys' n' left a') (sym es) (subst (λ x. Run service s x n' left a') (sym ek)
     (subst (λ x. Run service s keys x left a') (sym en) (subst (λ x. Run service s keys n left x) (sym ea) r)))
