@@ -23,11 +23,3 @@ fill_made g s b t m n x k at p e w h kc ac =
 
 pub constant_made : (t : Forest) (m : Measure) → m ≡ constant_measure t → ∥ IsDocument t m ∥₁
 constant_made t m e = made_equal t t m (constant_measure t) refl e ∣ constant t ∣₁
-
-pub constant_within : (t d : Forest) (m : Measure) → m ≡ constant_measure t → t ≡ d → constant_weight d ≤ 1048576 → m.nest ≤ 500 → IsWithin m
-constant_within t d m e s w n =
-    record {
-      weight = omega (arith, ap (λ (x : Measure). x.weight) e, ap items_weight s);
-      depth = omega (arith, ap (λ (x : Measure). x.depth) e);
-      nest = n;
-    }

@@ -2,9 +2,11 @@
 
 use crate::document::{Document, PlugFault};
 use crate::fault::Fault;
-use bw_lang::{FieldKind, GapId, GapNames, MeasureFault, Name, Template, Text, Tree};
+use bw_lang::{FieldKind, GapId, GapNames, MeasureFault, Name, Text, Tree};
 use bw_page::{Sheet, fields, wrap_exit, wrap_show};
+use bw_syntax::read_service;
 use bw_tmpl::read_template;
+use bw_types::{Typed, resolve};
 use std::alloc::{AllocError, Global};
 
 /// The longest text that a gap is filled with.
@@ -17,11 +19,11 @@ struct Named<'a> {
     document: Document,
 }
 
-/// A case: its documents so far, and what its steps gave.
+/// A case: its service, its documents so far, and what its steps gave.
 #[derive(Drop)]
 pub struct Case<'a> {
     name: &'a str,
-    gaps: GapNames,
+    typed: Option<Typed>,
     documents: Vec<Named<'a>>,
     results: String,
     is_over: bool,
@@ -32,7 +34,7 @@ impl<'a> Case<'a> {
     pub fn new(alloc: Global, name: &'a str) -> Case<'a> {
         Case {
             name,
-            gaps: GapNames::new(alloc),
+            typed: None,
             documents: Vec::new(alloc),
             results: String::new(alloc),
             is_over: false,
@@ -53,10 +55,12 @@ impl<'a> Case<'a> {
         if self.is_over {
             return Ok(());
         }
-        let (verb, rest) = cut(line);
-        let (name, rest) = cut(rest);
+        let (verb, words) = cut(line);
+        let (name, rest) = cut(words);
         match verb {
-            "html" => self.html(alloc, name, rest),
+            "service" => self.service(alloc, words),
+            "constant" => self.constant(name, rest),
+            "controls" => self.controls(alloc, words),
             "copy" => self.copy(name, rest),
             "plug" => self.plug(alloc, name, rest),
             "fill" => self.fill(alloc, name, rest),
@@ -65,7 +69,7 @@ impl<'a> Case<'a> {
             "gaps" => self.count_gaps(alloc, name, rest),
             "show" => self.show(alloc, name, rest),
             "exit" => self.exit(alloc, name, rest),
-            "fields" => self.fields(name),
+            "fields" => self.fields(alloc, name),
             _ => Err(Fault::Malformed),
         }
     }
@@ -86,8 +90,20 @@ impl<'a> Case<'a> {
         Err(Fault::Malformed)
     }
 
-    fn gap(&self, alloc: Global, name: &str) -> Result<GapId, Fault> {
-        Ok(self.gaps.number(&Name::of(alloc, name)?))
+    /// The case's service.
+    fn typed(&self) -> Result<&Typed, Fault> {
+        match &self.typed {
+            Some(typed) => Ok(typed),
+            None => Err(Fault::Malformed),
+        }
+    }
+
+    /// The gap of that name in the service.
+    fn gap(&self, name: &str) -> Result<GapId, Fault> {
+        match self.typed()?.gap(name) {
+            Some(gap) => Ok(gap),
+            None => Err(Fault::Malformed),
+        }
     }
 
     /// Puts words behind the results.
@@ -98,13 +114,21 @@ impl<'a> Case<'a> {
         self.results.push_str(words)
     }
 
-    fn html(&mut self, alloc: Global, name: &'a str, text: &str) -> Result<(), Fault> {
-        let items = read_template(alloc, text.as_bytes(), &mut self.gaps)?;
-        let template = Template {
-            name: Name::of(alloc, name)?,
-            items,
-        };
-        self.keep(name, Document::constant(&template)?)
+    fn service(&mut self, alloc: Global, text: &str) -> Result<(), Fault> {
+        let service = read_service(alloc, text.as_bytes())?;
+        self.typed = Some(resolve(alloc, service)?);
+        Ok(())
+    }
+
+    fn constant(&mut self, name: &'a str, template: &str) -> Result<(), Fault> {
+        let document = Document::constant(self.typed()?, template)?;
+        self.keep(name, document)
+    }
+
+    /// Writes the fields of a template that stands in no service.
+    fn controls(&mut self, alloc: Global, text: &str) -> Result<(), Fault> {
+        let items = read_template(alloc, text.as_bytes(), &mut GapNames::new(alloc))?;
+        self.write_fields(alloc, &Tree { items })
     }
 
     fn copy(&mut self, name: &'a str, base: &str) -> Result<(), Fault> {
@@ -115,7 +139,7 @@ impl<'a> Case<'a> {
     fn plug(&mut self, alloc: Global, name: &'a str, rest: &str) -> Result<(), Fault> {
         let (base, rest) = cut(rest);
         let (gap, other) = cut(rest);
-        let gap = self.gap(alloc, gap)?;
+        let gap = self.gap(gap)?;
         let plugged = self.find(base)?.plug(gap, self.find(other)?);
         self.keep_plugged(alloc, name, plugged)
     }
@@ -126,7 +150,7 @@ impl<'a> Case<'a> {
         if text.len() > MAX_TEXT {
             return Err(Fault::Malformed);
         }
-        let gap = self.gap(alloc, gap)?;
+        let gap = self.gap(gap)?;
         let plugged = self.find(base)?.fill(gap, text);
         self.keep_plugged(alloc, name, plugged)
     }
@@ -166,7 +190,7 @@ impl<'a> Case<'a> {
     }
 
     fn count_gaps(&mut self, alloc: Global, name: &str, gap: &str) -> Result<(), Fault> {
-        let gap = self.gap(alloc, gap)?;
+        let gap = self.gap(gap)?;
         let document = self.find(name)?;
         let count = document.count(gap);
         let around = document.around(gap);
@@ -193,12 +217,17 @@ impl<'a> Case<'a> {
         Ok(self.write(&format!(in alloc; "{length} bytes {text}")?)?)
     }
 
-    fn fields(&mut self, name: &str) -> Result<(), Fault> {
-        let list = fields(self.find(name)?.tree())?;
+    fn fields(&mut self, alloc: Global, name: &str) -> Result<(), Fault> {
+        let tree = self.find(name)?.tree().copy()?;
+        self.write_fields(alloc, &tree)
+    }
+
+    /// Writes the names and kinds of a document's fields.
+    fn write_fields(&mut self, alloc: Global, tree: &Tree) -> Result<(), Fault> {
+        let list = fields(tree)?;
         if list.as_slice().is_empty() {
             return Ok(self.write("no field")?);
         }
-        let alloc = *self.results.allocator();
         for field in list.as_slice() {
             let name = field.name.as_str();
             let kind = match field.kind {

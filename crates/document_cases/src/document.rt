@@ -1,11 +1,11 @@
 //! Documents with their measures.
-ghost use Rattle.std.specs.Prelude.{◌≡◌, ◌≤◌, IsTrue, length};
+ghost use Rattle.std.specs.Prelude.{◌≡◌, ◌≤◌, length};
 ghost use Rattle.bw_lang.specs.Documents as doc;
-ghost use Rattle.bw_lang.specs.Measures.{IsDocument, IsWithin, constant_weight};
+ghost use Rattle.bw_lang.specs.Measures.{IsDocument, IsWithin};
 
 use crate::fault::Fault;
-use crate::room::room_behind;
-use bw_lang::{GapId, Items, MAX_NEST, MAX_WEIGHT, Measure, MeasureFault, Memory, Template, Tree};
+use bw_lang::{GapId, Measure, MeasureFault, Memory, Tree};
+use bw_types::Typed;
 
 /// A document and its measure, which is the one that it has by how it was made, and within the limits.
 #[derive(Drop)]
@@ -37,16 +37,16 @@ impl From<MeasureFault> for PlugFault {
 }
 
 impl Document {
-    /// The constant of a template, if it is within the limits.
-    pub fn constant(template: &Template) -> Result<Document, Fault> {
-        if !is_light(&template.items) {
-            return Err(Fault::TooLarge);
-        }
+    /// The constant of the template of that name. It is within the limits, as every template of a service that was read.
+    pub fn constant(typed: &Typed, name: &str) -> Result<Document, Fault> {
+        let Some(id) = typed.template(name) else {
+            return Err(Fault::Malformed);
+        };
+        let Some(template) = typed.template_at(id) else {
+            return Err(Fault::Malformed);
+        };
         let tree = Tree::constant(template)?;
         let measure = Measure::constant(&tree.items);
-        if measure.nest > MAX_NEST {
-            return Err(Fault::TooLarge);
-        }
         Ok(Document { tree, measure })
     }
 
@@ -102,11 +102,4 @@ impl Document {
             measure: self.measure,
         })
     }
-}
-
-/// Whether a constant of these items is within the limit of weight.
-fn is_light(items: &Items) -> bool
-    ensures { IsTrue result → constant_weight items.now ≤ 1048576 }
-{
-    room_behind(items, MAX_WEIGHT - 64).is_some()
 }

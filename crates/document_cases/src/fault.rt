@@ -1,17 +1,17 @@
 //! Why cases can't be tried.
 
 use bw_lang::Memory;
+use bw_syntax::SyntaxFault;
 use bw_tmpl::TmplFault;
+use bw_types::TypeFault;
 use std::alloc::{AllocError, AllocFailed};
 use std::{fmt, io};
 
 /// Why cases can't be tried.
 #[derive(Debug, Drop)]
 pub enum Fault {
-    /// A line isn't written as the format says, or a template isn't one.
+    /// A line isn't written as the format says, or a service or a template isn't one.
     Malformed,
-    /// A template is over the limits of documents.
-    TooLarge,
     /// There was no memory.
     Memory,
     /// The file can't be read, or a line can't be printed.
@@ -22,7 +22,6 @@ impl fmt::Display for Fault {
     fn fmt<W: fmt::Write>(&self, f: &mut fmt::Formatter<W>) -> fmt::Result {
         match self {
             Fault::Malformed => write!(f, "a line isn't written as the format says"),
-            Fault::TooLarge => write!(f, "a template is over the limits"),
             Fault::Memory => write!(f, "out of memory"),
             Fault::Outside(error) => write!(f, "{error}"),
         }
@@ -39,6 +38,24 @@ impl From<TmplFault> for Fault {
     fn from(fault: TmplFault) -> Fault {
         match fault {
             TmplFault::Memory => Fault::Memory,
+            _ => Fault::Malformed,
+        }
+    }
+}
+
+impl From<SyntaxFault> for Fault {
+    fn from(fault: SyntaxFault) -> Fault {
+        match fault {
+            SyntaxFault::Memory => Fault::Memory,
+            _ => Fault::Malformed,
+        }
+    }
+}
+
+impl From<TypeFault> for Fault {
+    fn from(fault: TypeFault) -> Fault {
+        match fault {
+            TypeFault::Memory => Fault::Memory,
             _ => Fault::Malformed,
         }
     }

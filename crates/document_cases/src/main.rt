@@ -7,7 +7,9 @@
 //! the lines up to the next one are its steps, over documents that have names. A name that comes again stands for the
 //! newer document from there on.
 //!
-//! - `html NAME TEXT`: the constant of the template whose inside is the text
+//! - `service TEXT`: the service of the case, whose templates and gaps have the names below
+//! - `constant NAME TEMPLATE`: the constant of that template
+//! - `controls TEXT`: prints the names and kinds of the fields of a template that stands in no service
 //! - `copy NAME BASE`: the copy of a document
 //! - `plug NAME BASE GAP OTHER`: the base with the other document in its open gaps of that name. A measure that is over
 //!   its limit is printed and ends the case
@@ -22,7 +24,6 @@
 mod case;
 mod document;
 mod fault;
-mod room;
 
 use crate::case::Case;
 use crate::fault::Fault;
