@@ -1,0 +1,5 @@
+pub mod Found
+pub mod Gaps
+pub mod Read
+pub mod Props
+pub mod Services
