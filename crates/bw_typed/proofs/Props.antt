@@ -2,6 +2,8 @@
 use Rattle.std.proofs.Common.{◌≡◌, ℕ, Bool, List, [], ◌∷◌, refl}
 use Rattle.std.proofs.Math.Bool.{Bool-set}
 use Rattle.std.specs.Coded.{le_prop}
+use Rattle.bw_lang.specs.declared.service.Literal.{Literal}
+use Rattle.bw_lang.specs.declared.service.Literal.TheVariants as literals
 use Rattle.bw_lang.specs.declared.stmt.Receive.{Receive}
 use Rattle.bw_lang.specs.Code.{Code, done, declare, assign, if_then, if_else, while_loop, block, for_each, show, exit}
 use Rattle.bw_lang.specs.Keywords.{is_keyword}
@@ -9,6 +11,7 @@ use Rattle.bw_lang.specs.Levels.{IsSome, IsWritable, Levelled, AreLevelled}
 use Rattle.bw_lang.specs.Spelling.{HaveTargets, IsCode}
 use Rattle.bw_lang.specs.Term.{Term, int, truth, string, name, paren, not, neg, binary, call, plug, nothing, Fillings, no_more, filling}
 use Rattle.std.specs.Prelude.{ℤ, pos, negsuc}
+use Rattle.bw_typed.specs.ShortStrings.{HasShort, HaveShort, CodeHasShort, IsShortLiteral}
 
 writable_prop : (n : ℤ) → IsProp (IsWritable n)
 writable_prop (pos n) = hlevel le_prop
@@ -51,3 +54,41 @@ code_prop (block b rest) = hlevel (code_prop b, code_prop rest)
 code_prop (for_each w e b rest) = hlevel (Bool-set, levelled_prop e, code_prop b, code_prop rest)
 code_prop (show p rs rest) = hlevel (levelled_prop p, targets_prop rs, code_prop rest)
 code_prop (exit p rest) = hlevel (levelled_prop p, code_prop rest)
+
+-- ---- short strings
+
+mutual
+  has_short_prop : (e : Term) → IsProp (HasShort e)
+  has_short_prop (int n) = hlevel le_prop
+  has_short_prop (truth b) = hlevel le_prop
+  has_short_prop (string s) = hlevel le_prop
+  has_short_prop (name w) = hlevel le_prop
+  has_short_prop (paren e) = has_short_prop e
+  has_short_prop (not e) = has_short_prop e
+  has_short_prop (neg e) = has_short_prop e
+  has_short_prop (binary op l r) = hlevel (has_short_prop l, has_short_prop r)
+  has_short_prop (call f e) = has_short_prop e
+  has_short_prop (plug b ps) = hlevel (has_short_prop b, have_short_prop ps)
+  has_short_prop nothing = hlevel le_prop
+
+  have_short_prop : (ps : Fillings) → IsProp (HaveShort ps)
+  have_short_prop no_more = hlevel le_prop
+  have_short_prop (filling w e ps) = hlevel (has_short_prop e, have_short_prop ps)
+
+pub short_prop : (c : Code) → IsProp (CodeHasShort c)
+short_prop done = hlevel le_prop
+short_prop (declare t w e rest) = hlevel (has_short_prop e, short_prop rest)
+short_prop (assign w e rest) = hlevel (has_short_prop e, short_prop rest)
+short_prop (if_then t y rest) = hlevel (has_short_prop t, short_prop y, short_prop rest)
+short_prop (if_else t y n rest) = hlevel (has_short_prop t, short_prop y, short_prop n, short_prop rest)
+short_prop (while_loop t b rest) = hlevel (has_short_prop t, short_prop b, short_prop rest)
+short_prop (block b rest) = hlevel (short_prop b, short_prop rest)
+short_prop (for_each w e b rest) = hlevel (has_short_prop e, short_prop b, short_prop rest)
+short_prop (show p rs rest) = hlevel (has_short_prop p, short_prop rest)
+short_prop (exit p rest) = hlevel (has_short_prop p, short_prop rest)
+
+pub short_literal_prop : (l : Literal) → IsProp (IsShortLiteral l)
+short_literal_prop (literals.Int n) = hlevel le_prop
+short_literal_prop (literals.Bool b) = hlevel le_prop
+short_literal_prop (literals.Str s) = hlevel le_prop
+short_literal_prop (literals.Tmpl w) = hlevel le_prop

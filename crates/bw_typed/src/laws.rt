@@ -2,6 +2,7 @@
 ghost use Rattle.bw_typed.specs.Measured.{TemplatesAreMeasured};
 ghost use Rattle.bw_typed.specs.Numbered.{GapsAreNumbered, NumbersAreGaps};
 ghost use Rattle.bw_typed.specs.Formed.{BodiesAreCode, SharedAreNoLists};
+ghost use Rattle.bw_typed.specs.ShortStrings.{SessionsHaveShort, SharedBeginShort};
 
 /// The constant of each template is within the limits on documents, and is small: its weight is at most 262144, and at
 /// most 64 of its elements stand inside one another.
@@ -21,4 +22,10 @@ pub fn gaps_are_numbered()
 pub fn bodies_are_code()
     ensures code { BodiesAreCode }
     ensures shared { SharedAreNoLists }
+{}
+
+/// No string that stands in a session, and none that a shared variable begins with, is longer than 16384 bytes.
+pub fn strings_are_short()
+    ensures sessions { SessionsHaveShort }
+    ensures shared { SharedBeginShort }
 {}
