@@ -1,0 +1,94 @@
+-- What is so in at most one way.
+use Rattle.std.proofs.Common.{◌≡◌, ℕ, Bool, List, [], ◌∷◌, refl}
+use Rattle.std.proofs.Math.Bool.{Bool-set}
+use Rattle.std.specs.Coded.{le_prop}
+use Rattle.bw_lang.specs.declared.service.Literal.{Literal}
+use Rattle.bw_lang.specs.declared.service.Literal.TheVariants as literals
+use Rattle.bw_lang.specs.declared.stmt.Receive.{Receive}
+use Rattle.bw_lang.specs.Code.{Code, done, declare, assign, if_then, if_else, while_loop, block, for_each, show, exit}
+use Rattle.bw_lang.specs.Keywords.{is_keyword}
+use Rattle.bw_lang.specs.Levels.{IsSome, IsWritable, Levelled, AreLevelled}
+use Rattle.bw_lang.specs.Spelling.{HaveTargets, IsCode}
+use Rattle.bw_lang.specs.Term.{Term, int, truth, string, name, paren, not, neg, binary, call, plug, nothing, Fillings, no_more, filling}
+use Rattle.std.specs.Prelude.{ℤ, pos, negsuc}
+use Rattle.bw_typed.specs.ShortStrings.{HasShort, HaveShort, CodeHasShort, IsShortLiteral}
+
+writable_prop : (n : ℤ) → IsProp (IsWritable n)
+writable_prop (pos n) = hlevel le_prop
+writable_prop (negsuc n) = hlevel le_prop
+
+some_prop : (ps : Fillings) → IsProp (IsSome ps)
+some_prop no_more = hlevel le_prop
+some_prop (filling w e ps) = hlevel le_prop
+
+mutual
+  levelled_prop : (e : Term) → IsProp (Levelled e)
+  levelled_prop (int n) = writable_prop n
+  levelled_prop (truth b) = hlevel le_prop
+  levelled_prop (string s) = hlevel le_prop
+  levelled_prop (name w) = hlevel Bool-set
+  levelled_prop (paren e) = levelled_prop e
+  levelled_prop (not e) = hlevel (le_prop, levelled_prop e)
+  levelled_prop (neg e) = hlevel (le_prop, levelled_prop e)
+  levelled_prop (binary op l r) = hlevel (le_prop, levelled_prop l, levelled_prop r)
+  levelled_prop (call f e) = levelled_prop e
+  levelled_prop (plug b ps) = hlevel (le_prop, some_prop ps, levelled_prop b, are_levelled_prop ps)
+  levelled_prop nothing = hlevel le_prop
+
+  are_levelled_prop : (ps : Fillings) → IsProp (AreLevelled ps)
+  are_levelled_prop no_more = hlevel le_prop
+  are_levelled_prop (filling w e ps) = hlevel (levelled_prop e, are_levelled_prop ps)
+
+targets_prop : (rs : List Receive) → IsProp (HaveTargets rs)
+targets_prop [] = hlevel le_prop
+targets_prop (r ∷ rs) = hlevel (Bool-set, targets_prop rs)
+
+pub code_prop : (c : Code) → IsProp (IsCode c)
+code_prop done = hlevel le_prop
+code_prop (declare t w e rest) = hlevel (Bool-set, levelled_prop e, code_prop rest)
+code_prop (assign w e rest) = hlevel (Bool-set, levelled_prop e, code_prop rest)
+code_prop (if_then t y rest) = hlevel (levelled_prop t, code_prop y, code_prop rest)
+code_prop (if_else t y n rest) = hlevel (levelled_prop t, code_prop y, code_prop n, code_prop rest)
+code_prop (while_loop t b rest) = hlevel (levelled_prop t, code_prop b, code_prop rest)
+code_prop (block b rest) = hlevel (code_prop b, code_prop rest)
+code_prop (for_each w e b rest) = hlevel (Bool-set, levelled_prop e, code_prop b, code_prop rest)
+code_prop (show p rs rest) = hlevel (levelled_prop p, targets_prop rs, code_prop rest)
+code_prop (exit p rest) = hlevel (levelled_prop p, code_prop rest)
+
+-- ---- short strings
+
+mutual
+  has_short_prop : (e : Term) → IsProp (HasShort e)
+  has_short_prop (int n) = hlevel le_prop
+  has_short_prop (truth b) = hlevel le_prop
+  has_short_prop (string s) = hlevel le_prop
+  has_short_prop (name w) = hlevel le_prop
+  has_short_prop (paren e) = has_short_prop e
+  has_short_prop (not e) = has_short_prop e
+  has_short_prop (neg e) = has_short_prop e
+  has_short_prop (binary op l r) = hlevel (has_short_prop l, has_short_prop r)
+  has_short_prop (call f e) = has_short_prop e
+  has_short_prop (plug b ps) = hlevel (has_short_prop b, have_short_prop ps)
+  has_short_prop nothing = hlevel le_prop
+
+  have_short_prop : (ps : Fillings) → IsProp (HaveShort ps)
+  have_short_prop no_more = hlevel le_prop
+  have_short_prop (filling w e ps) = hlevel (has_short_prop e, have_short_prop ps)
+
+pub short_prop : (c : Code) → IsProp (CodeHasShort c)
+short_prop done = hlevel le_prop
+short_prop (declare t w e rest) = hlevel (has_short_prop e, short_prop rest)
+short_prop (assign w e rest) = hlevel (has_short_prop e, short_prop rest)
+short_prop (if_then t y rest) = hlevel (has_short_prop t, short_prop y, short_prop rest)
+short_prop (if_else t y n rest) = hlevel (has_short_prop t, short_prop y, short_prop n, short_prop rest)
+short_prop (while_loop t b rest) = hlevel (has_short_prop t, short_prop b, short_prop rest)
+short_prop (block b rest) = hlevel (short_prop b, short_prop rest)
+short_prop (for_each w e b rest) = hlevel (has_short_prop e, short_prop b, short_prop rest)
+short_prop (show p rs rest) = hlevel (has_short_prop p, short_prop rest)
+short_prop (exit p rest) = hlevel (has_short_prop p, short_prop rest)
+
+pub short_literal_prop : (l : Literal) → IsProp (IsShortLiteral l)
+short_literal_prop (literals.Int n) = hlevel le_prop
+short_literal_prop (literals.Bool b) = hlevel le_prop
+short_literal_prop (literals.Str s) = hlevel le_prop
+short_literal_prop (literals.Tmpl w) = hlevel le_prop

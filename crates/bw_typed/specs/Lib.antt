@@ -1,0 +1,5 @@
+pub mod Formed
+pub mod Measured
+pub mod Numbered
+pub mod ShortNames
+pub mod ShortStrings
