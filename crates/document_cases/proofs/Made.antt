@@ -1,10 +1,16 @@
 -- Documents that were made from others.
-use Rattle.std.proofs.Common.{◌≡◌, ℕ, List, ◌≤◌, length, refl, ap, ◌∙◌, Ok, arith}
+use Rattle.std.proofs.Common.{◌≡◌, ℕ, List, length, refl, sym, ap, ◌∙◌, subst, Ok, Some}
+use Rattle.std.specs.Prelude.{slice_get}
+use Rattle.std.specs.List.{All}
+use Rattle.std.proofs.lemmas.List.Elements.{All-get_or}
+use Rattle.std.proofs.lemmas.Option.{get_or_from_slice_get, slice_get_within}
+use Rattle.bw_lang.specs.declared.service.Template.{Template}
 use Rattle.bw_lang.specs.declared.measure.Measure.{Measure}
 use Rattle.bw_lang.specs.Forest.{Forest}
 use Rattle.bw_lang.specs.Documents.{plug, plug_text, count, around}
-use Rattle.bw_lang.specs.Measures.{IsDocument, IsWithin, constant, constant_measure, constant_weight, items_weight, plugged, tested, text_measure}
+use Rattle.bw_lang.specs.Measures.{IsDocument, IsWithin, constant, constant_measure, plugged, tested, text_measure}
 use Rattle.bw_lang.proofs.Bounds.{made_plug, made_fill, tested_is}
+use Rattle.bw_typed.specs.Measured.{IsMeasured}
 
 made_equal : (t d : Forest) (m n : Measure) → t ≡ d → m ≡ n → ∥ IsDocument d n ∥₁ → ∥ IsDocument t m ∥₁
 made_equal t d m n p q h = rw (p, q) h
@@ -23,3 +29,12 @@ fill_made g s b t m n x k at p e w h kc ac =
 
 pub constant_made : (t : Forest) (m : Measure) → m ≡ constant_measure t → ∥ IsDocument t m ∥₁
 constant_made t m e = made_equal t t m (constant_measure t) refl e ∣ constant t ∣₁
+
+-- a template is measured where all are
+pub template_measured : (ts : List Template) (i : ℕ) (t : Template) → slice_get ts i ≡ Some t → All (λ t. IsMeasured t.items) ts → IsMeasured t.items
+template_measured ts i t e h =
+    subst (λ (x : Template). IsMeasured x.items) (get_or_from_slice_get ts i t t e) (All-get_or (λ t. IsMeasured t.items) ts i t (slice_get_within ts i t e) h)
+
+-- the measure of its constant is within the limits
+pub constant_within : (t d : Forest) (m : Measure) → m ≡ constant_measure t → t ≡ d → IsMeasured d → IsWithin m
+constant_within t d m e s h = subst IsWithin (sym (e ∙ ap constant_measure s)) h.within
