@@ -1,23 +1,12 @@
 -- What comes next at a point is what leads from it.
-use Rattle.std.proofs.Common.{◌≡◌, ◌⊎◌, ℕ, zero, suc, ◌+◌, ◌<◌, ◌≤◌, Bool, true, false, List, [], ◌∷◌, ◌++◌, refl, ap, sym, ◌∙◌, subst, inl, inr, arith}
-use Rattle.std.proofs.Common.{append_assoc, Option, Some, None}
-use Rattle.std.specs.Prelude.{slice_get, option_map, if◌then◌else◌}
-use Rattle.bw_lang.specs.declared.service.Session.{Session}
-use Rattle.bw_lang.specs.declared.stmt.Kind.TheVariants as kinds
-use Rattle.bw_lang.specs.Code.{Code, done, declare, assign, if_then, if_else, while_loop, for_each, block, show, exit, numbered}
-use Rattle.bw_lang.specs.declared.service.Service.{Service}
-use Rattle.bw_flow.specs.declared.point.Local.{Local}
-use Rattle.bw_flow.specs.Flows.{is_join}
-use Rattle.bw_flow.specs.Layout.{count, enter, step, steps, points, session_steps}
-use Rattle.bw_flow.specs.Leads.{Spot, statement, meeting, from, spot_of, spot_at, from_to, nexts, LeadsAreNexts, SpotsDiffer}
+use Rattle.std.proofs.Common.{◌≡◌, ◌⊎◌, ℕ, zero, suc, ◌+◌, List, [], ◌∷◌, ◌++◌, refl, ap, sym, ◌∙◌, subst, inl, inr}
+use Rattle.std.proofs.Common.{Option, Some, None}
+use Rattle.std.specs.Prelude.{slice_get, option_map}
+use Rattle.bw_flow.specs.Layout.{points, session_steps}
+use Rattle.bw_flow.specs.Leads.{Spot, from, spot_of, spot_at, from_to, nexts, LeadsAreNexts}
 use Rattle.bw_flow.specs.Places.{Among}
-use Rattle.bw_flow.specs.Scopes.{with_local}
-use Rattle.bw_flow.specs.Steps.{joins, Step}
+use Rattle.bw_flow.specs.Steps.{Step}
 use Rattle.bw_flow.proofs.Leads.{leads_agree}
-use Rattle.bw_flow.proofs.Parts.{either}
-use Rattle.bw_flow.proofs.Joins.{never}
-use Rattle.bw_flow.proofs.Parts.{sizes}
-use Rattle.bw_flow.proofs.Numbered.{all_have_numbers}
 use Rattle.bw_flow.proofs.Spots.{spots_differ}
 
 among_left : {A : Type 0} (x : A) (xs ys : List A) → Among x xs → Among x (xs ++ ys)

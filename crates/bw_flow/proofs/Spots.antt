@@ -1,7 +1,7 @@
 -- Points that are the same statement's, or the same join, stand at one place.
 use Rattle.std.proofs.Common.{◌≡◌, ◌⊎◌, ℕ, zero, suc, ◌+◌, ◌<◌, ◌≤◌, Bool, true, false, List, [], ◌∷◌, ◌++◌, refl, ap, sym, ◌∙◌, subst, inl, inr, arith}
-use Rattle.std.proofs.Common.{append_assoc, Option, Some, None}
-use Rattle.std.specs.Prelude.{slice_get, option_map, if◌then◌else◌}
+use Rattle.std.proofs.Common.{append_assoc, Some, None}
+use Rattle.std.specs.Prelude.{slice_get, if◌then◌else◌}
 use Rattle.bw_lang.specs.declared.service.Session.{Session}
 use Rattle.bw_lang.specs.declared.stmt.Kind.TheVariants as kinds
 use Rattle.bw_lang.specs.Code.{Code, done, declare, assign, if_then, if_else, while_loop, for_each, block, show, exit, numbered}
@@ -9,11 +9,9 @@ use Rattle.bw_lang.specs.declared.service.Service.{Service}
 use Rattle.bw_flow.specs.declared.point.Local.{Local}
 use Rattle.bw_flow.specs.Flows.{is_join}
 use Rattle.bw_flow.specs.Layout.{count, enter, step, steps, points, session_steps}
-use Rattle.bw_flow.specs.Leads.{Spot, statement, meeting, from, spot_of, spot_at, from_to, nexts, LeadsAreNexts, SpotsDiffer}
-use Rattle.bw_flow.specs.Places.{Among}
+use Rattle.bw_flow.specs.Leads.{statement, meeting, from, spot_of, SpotsDiffer}
 use Rattle.bw_flow.specs.Scopes.{with_local}
 use Rattle.bw_flow.specs.Steps.{joins, Step}
-use Rattle.bw_flow.proofs.Leads.{leads_agree}
 use Rattle.bw_flow.proofs.Parts.{either}
 use Rattle.bw_flow.proofs.Joins.{never}
 use Rattle.bw_flow.proofs.Parts.{sizes}

@@ -12,7 +12,7 @@ use Rattle.bw_lang.specs.declared.stmt.Receive.{Receive}
 use Rattle.bw_lang.specs.Code.{Code, done, declare, assign, if_then, if_else, while_loop, for_each, block, show, exit, numbered}
 use Rattle.bw_lang.specs.CodeNames.{local_names}
 use Rattle.bw_types.specs.Scopes as names
-use Rattle.bw_types.specs.Scopes.{Scope, no_locals, shared_kind, behind, behind_each, variable_kind}
+use Rattle.bw_types.specs.Scopes.{Scope, no_locals, shared_kind, behind, behind_each}
 use Rattle.bw_types.specs.Typing.{IsReceived, IsTypedCode, IsTypedSession}
 use Rattle.bw_flow.specs.declared.point.Local.{Local}
 use Rattle.bw_flow.specs.Layout.{count, enter, after, step, steps, received, receives, session_steps}

@@ -62,14 +62,15 @@ impl Flow {
         self.points.as_slice()
     }
 
-    /// The point at this place, or none where there are no more than so many points.
+    /// The point at this place. None comes exactly where the flow has no such place.
     pub fn point(&self, id: PointId) -> Option<&Point>
         ensures { MatchOption result (slice_get self.now.steps id ≡ None) (λ p. slice_get self.now.steps id ≡ Some (seen p.now)) }
     {
         self.points.get(id.place())
     }
 
-    /// The place of the point of the statement of this number, never of a join.
+    /// The place of the point of the statement of this number, never of a join. None comes exactly where no statement has
+    /// the number.
     pub fn find(&self, number: u32) -> Option<PointId>
         ensures { result ≡ position (is_statement number) self.now.steps }
     {
@@ -77,7 +78,7 @@ impl Flow {
         Some(PointId::of(place))
     }
 
-    /// The place of the first point of this session.
+    /// The place of the first point of this session. None comes exactly where the service has no such session.
     pub fn first(&self, session: SessionId) -> Option<PointId>
         ensures { result ≡ slice_get self.now.firsts session }
     {

@@ -11,7 +11,7 @@ use bw_lang::Memory;
 use bw_types::Typed;
 use std::alloc::Global;
 
-/// The most points that a service may have.
+/// The most points that the flow of a service has.
 pub const MAX_POINTS: usize = 4096;
 
 /// Why a service has no flow.
@@ -19,6 +19,7 @@ pub const MAX_POINTS: usize = 4096;
 pub enum FlowFault {
     /// It has so many points, more than 4,096.
     TooMany(u64),
+    /// There was no memory.
     Memory,
 }
 
@@ -32,7 +33,8 @@ impl From<Memory> for FlowFault {
     }
 }
 
-/// The flow of a service.
+/// The flow of a service: a point for each statement other than a block, in source order, and one for each `if`, where
+/// its branches meet. `TooMany` comes exactly where there are more than 4,096 points, and `Memory` for want of it.
 pub fn lower(alloc: Global, typed: &Typed) -> Result<Flow, FlowFault>
     ensures ok { IfOk result (λ f. (f ≡ plan_of typed.now.service) × points typed.now.service.sessions ≤ 4096) }
     ensures fault { IfErr result (λ e. IsFlowFault e (points typed.now.service.sessions)) }
