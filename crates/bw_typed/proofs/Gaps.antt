@@ -62,9 +62,9 @@ module _ (names : List (List ℕ)) where
       parts (attr_uses attrs) (gap_uses inner) (gap_uses f) (numbered_names (gap_names rest))
       ∙ (λ i. own i ++ (numbers (gap_uses inner) ++ later i))
       ∙ (elim h.1.3 [
-        inl whole ↦ empty_reads t.attrs inner qs whole.1 ∙ ap (λ l. numbered_names (gap_names l)) (sym whole.0)
+        | inl whole ↦ empty_reads t.attrs inner qs whole.1 ∙ ap (λ l. numbered_names (gap_names l)) (sym whole.0)
         | inr other ↦ elim other [
-          inl start ↦ empty_reads t.attrs inner qs start.2 ∙ ap (λ l. numbered_names (gap_names l)) (sym start.0)
+          | inl start ↦ empty_reads t.attrs inner qs start.2 ∙ ap (λ l. numbered_names (gap_names l)) (sym start.0)
           | inr more ↦ ap (λ l. numbered_names (attr_gaps t.attrs) ++ l) (reads_gaps inner more.0 (piece.End t.name ∷ qs) more.3)
               ∙ sym (names-append (attr_gaps t.attrs) (gap_names more.0)) ∙ ap (λ l. numbered_names (gap_names l)) (sym more.1)
         ]
@@ -82,7 +82,7 @@ pub gaps_inside : (before after : List (List ℕ)) (f : Forest) (ps : List Piece
     → All (λ x. x.0 < length after) (gap_uses f)
 gaps_inside before after f ps e h =
     let there : All (λ n. number after n < length after) (gap_names ps) =
-            subst (λ table. All (λ n. number table n < length table) (gap_names ps)) (sym e) (added_are_there before (gap_names ps)) in
+    subst (λ table. All (λ n. number table n < length table) (gap_names ps)) (sym e) (added_are_there before (gap_names ps)) in
     of_each (λ g. g < length after) (λ (x : ℕ × GapKind). x.0) (gap_uses f)
     (subst (All (λ g. g < length after)) (sym (all_gaps after f ps h)) (All-map (λ g. g < length after) (number after) (gap_names ps) there))
 
@@ -114,8 +114,8 @@ brought old n g h = by_test (list_any (same n) old) refl h
 pub covered : (old added : List (List ℕ)) (g : ℕ) → g < length (with_names old added) → (g < length old) ⊎ Contains (map (number (with_names old added)) added) g
 covered old [] g h = inl h
 covered old (n ∷ added) g h = elim (covered (with_name old n) added g h) [
-  inl l ↦ elim (brought old n g l) [
-    inl k ↦ inl k
+  | inl l ↦ elim (brought old n g l) [
+    | inl k ↦ inl k
     | inr k ↦ inr (0, omega arith, numbers_stay (with_name old n) (with_names (with_name old n) added) n (names_stay (with_name old n) added) (omega (arith, k.0, k.1)) ∙ k.0)
   ]
   | inr c ↦ inr (suc c.0, omega (arith, c.1), c.2)

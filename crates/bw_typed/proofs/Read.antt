@@ -83,7 +83,7 @@ place_here : (before : List (List ℕ)) (draft : Draft) (d : Declaration) (after
 place_here before (drafts.Template n i) (declarations.Template t) after rs g h l =
     let e = h.1.names in let ns = gap_names h.1.read.pieces in
     elim (covered before ns g (subst (λ table. g < length table) e l)) [
-      inl k ↦ inl k
+      | inl k ↦ inl k
       | inr c ↦ inr (in_template t (templates_of rs) g
           (subst (λ l. Contains l g) (ap (λ table. map (number table) ns) (sym e) ∙ sym (all_gaps after t.items h.1.read.pieces h.1.read.reads)) c))
     ]
@@ -102,6 +102,6 @@ each_stands before [] [] after g h l = inl (subst (λ table. g < length table) h
 each_stands before [] (r ∷ rs) after g h l = absurd h
 each_stands before (d ∷ ds) [] after g h l = absurd h
 each_stands before (d ∷ ds) (r ∷ rs) after g h l = elim (each_stands h.0 ds rs after g h.2 l) [
-  inl k ↦ place_here before d r h.0 rs g h.1 k
+  | inl k ↦ place_here before d r h.0 rs g h.1 k
   | inr c ↦ inr (later_stands r rs g c)
 ]

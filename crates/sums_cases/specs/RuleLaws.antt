@@ -143,8 +143,7 @@ module _ (rules : List Rule) (readers : List (List ℕ)) (top : Summary) (s : Is
       let r : Rule = rule_at rules cell in
       let c : IsClosed r top = s.closed cell h in
       let x : Summary = held (length rules) r f in
-      let p : Fits top x = held_fits (length rules) top r f e in
-      (
+      let p : Fits top x = held_fits (length rules) top r f e in (
         step_well r.step r.constant x c.constant_well p.0,
         below_trans (step r.step r.constant x) (step r.step r.constant top) top (step_well r.step r.constant x c.constant_well p.0)
             (step_well r.step r.constant top c.constant_well c.top_well) c.top_well (step_more r.step r.constant x top c.constant_well p.0 c.top_well p.1) c.below,
