@@ -5,3 +5,5 @@ pub mod Props
 pub mod Services
 pub mod Short
 pub mod ShortServices
+pub mod ShortReadable
+pub mod ShortTables

@@ -2,6 +2,7 @@
 ghost use Rattle.bw_typed.specs.Measured.{TemplatesAreMeasured};
 ghost use Rattle.bw_typed.specs.Numbered.{GapsAreNumbered, NumbersAreGaps};
 ghost use Rattle.bw_typed.specs.Formed.{BodiesAreCode, SharedAreNoLists};
+ghost use Rattle.bw_typed.specs.ShortNames.{ReadableHasShortNames};
 ghost use Rattle.bw_typed.specs.ShortStrings.{SessionsHaveShort, SharedBeginShort};
 
 /// The constant of each template is within the limits on documents, and is small: its weight is at most 262144, and at
@@ -28,4 +29,10 @@ pub fn bodies_are_code()
 pub fn strings_are_short()
     ensures sessions { SessionsHaveShort }
     ensures shared { SharedBeginShort }
+{}
+
+/// No name is longer than 64 bytes: neither the service's, nor one of its declarations and gaps, nor one that stands in
+/// a session.
+pub fn names_are_short()
+    ensures { ReadableHasShortNames }
 {}
