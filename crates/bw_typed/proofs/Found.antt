@@ -26,7 +26,7 @@ has_kind (x ∷ uses) g (suc i) l e = ap is_some (seek-cons is_gap g x uses) ∙
     by_test false h = h
 
 -- what has a kind is the first of its uses
-found : (uses : List (ℕ × GapKind)) (g : ℕ) → is_some (gap_kind uses g) ≡ true → Contains (numbers uses) g
+pub found : (uses : List (ℕ × GapKind)) (g : ℕ) → is_some (gap_kind uses g) ≡ true → Contains (numbers uses) g
 found [] g h = absurd (cc)
 found (x ∷ uses) g h = by_test (is_gap g x.0) refl (sym (ap is_some (seek-cons is_gap g x uses)) ∙ h) (found uses g)
   where

@@ -7,3 +7,5 @@ pub mod Short
 pub mod ShortServices
 pub mod ShortReadable
 pub mod ShortTables
+pub mod OneKind
+pub mod Named

@@ -2,6 +2,8 @@
 ghost use Rattle.bw_typed.specs.Measured.{TemplatesAreMeasured};
 ghost use Rattle.bw_typed.specs.Numbered.{GapsAreNumbered, NumbersAreGaps};
 ghost use Rattle.bw_typed.specs.Formed.{BodiesAreCode, SharedAreNoLists};
+ghost use Rattle.bw_typed.specs.Kinds.{KindIsOne, KindsAgree, KindsAreMet, SessionsAreTyped};
+ghost use Rattle.bw_typed.specs.Named.{GapsHaveKinds, GapsHaveNumbers, PlugsAreKnown, SharedBegin};
 ghost use Rattle.bw_typed.specs.ShortNames.{ReadableHasShortNames};
 ghost use Rattle.bw_typed.specs.ShortStrings.{SessionsHaveShort, SharedBeginShort};
 
@@ -35,4 +37,21 @@ pub fn strings_are_short()
 /// a session.
 pub fn names_are_short()
     ensures { ReadableHasShortNames }
+{}
+
+/// An expression has one kind, and in a service that is well typed it is the kind that its use demands.
+pub fn kind_is_one()
+    ensures one { KindIsOne }
+    ensures agree { KindsAgree }
+    ensures typed { SessionsAreTyped }
+    ensures met { KindsAreMet }
+{}
+
+/// Each shared variable begins with a literal of its kind, a document with the name of a template. Each gap that is
+/// plugged is one of the service's, with a number and a kind, and each gap of the table has a kind.
+pub fn names_stand_for()
+    ensures shared { SharedBegin }
+    ensures numbers { GapsHaveNumbers }
+    ensures plugs { PlugsAreKnown }
+    ensures kinds { GapsHaveKinds }
 {}
