@@ -9,3 +9,6 @@ pub mod ShortReadable
 pub mod ShortTables
 pub mod OneKind
 pub mod Named
+pub mod Apart
+pub mod Earlier
+pub mod ShortFields

@@ -29,13 +29,13 @@ use Rattle.bw_typed.proofs.ShortTables.{IsShortUse, items_short, table_short}
 
 module _ (bytes : List ℕ) (s : Service) (r : Reads bytes s) where
   -- the names of each declaration are short
-  abbrev HasNames : Declaration → Type 0
+  abbrev pub HasNames : Declaration → Type 0
   HasNames d = AreMost 64 (declaration_lengths leaves.Name s.gaps d)
 
   all_names : IsShortName s.name × AreMost 64 (flat_map (declaration_lengths leaves.Name s.gaps) r.declarations)
   all_names = named s.name (flat_map (declaration_lengths leaves.Name s.gaps) r.declarations) (all_within s.name s.gaps r.declarations r.within).names
 
-  names : All HasNames r.declarations
+  pub names : All HasNames r.declarations
   names = parts_of_all (declaration_lengths leaves.Name s.gaps) (λ n. n ≤ 64) r.declarations all_names.1
 
   literal_names : (l : Literal) → AreMost 64 (literal_lengths leaves.Name l) → NamesShort l

@@ -5,3 +5,5 @@ pub mod ShortNames
 pub mod ShortStrings
 pub mod Kinds
 pub mod Named
+pub mod Apart
+pub mod Earlier

@@ -1,10 +1,12 @@
 //! Laws of services that were read, and of services that are well typed. A law is the contract of an empty function.
+ghost use Rattle.bw_typed.specs.Apart.{LocalsAreApart};
+ghost use Rattle.bw_typed.specs.Earlier.{EarlierFieldSays, EarlierGapSays};
 ghost use Rattle.bw_typed.specs.Measured.{TemplatesAreMeasured};
 ghost use Rattle.bw_typed.specs.Numbered.{GapsAreNumbered, NumbersAreGaps};
 ghost use Rattle.bw_typed.specs.Formed.{BodiesAreCode, SharedAreNoLists};
 ghost use Rattle.bw_typed.specs.Kinds.{KindIsOne, KindsAgree, KindsAreMet, SessionsAreTyped};
 ghost use Rattle.bw_typed.specs.Named.{GapsHaveKinds, GapsHaveNumbers, PlugsAreKnown, SharedBegin};
-ghost use Rattle.bw_typed.specs.ShortNames.{ReadableHasShortNames};
+ghost use Rattle.bw_typed.specs.ShortNames.{FieldsAreShort, ReadableHasShortNames};
 ghost use Rattle.bw_typed.specs.ShortStrings.{SessionsHaveShort, SharedBeginShort};
 
 /// The constant of each template is within the limits on documents, and is small: its weight is at most 262144, and at
@@ -33,10 +35,11 @@ pub fn strings_are_short()
     ensures shared { SharedBeginShort }
 {}
 
-/// No name is longer than 64 bytes: neither the service's, nor one of its declarations and gaps, nor one that stands in
-/// a session.
+/// No name is longer than 64 bytes: neither the service's, nor one of its declarations, gaps and fields, nor one that
+/// stands in a session.
 pub fn names_are_short()
-    ensures { ReadableHasShortNames }
+    ensures names { ReadableHasShortNames }
+    ensures fields { FieldsAreShort }
 {}
 
 /// An expression has one kind, and in a service that is well typed it is the kind that its use demands.
@@ -54,4 +57,17 @@ pub fn names_stand_for()
     ensures numbers { GapsHaveNumbers }
     ensures plugs { PlugsAreKnown }
     ensures kinds { GapsHaveKinds }
+{}
+
+/// At each place of a session of a service that is well typed, the locals in scope have names that differ from each other
+/// and from those of the service's declarations, and the session declares none of them from there on.
+pub fn locals_are_apart()
+    ensures { LocalsAreApart }
+{}
+
+/// A gap or a field that is tested against the kind of its first place in all templates passes exactly where it would
+/// pass against its first place in front: so the first fault is the same.
+pub fn earlier_says()
+    ensures gap { EarlierGapSays }
+    ensures field { EarlierFieldSays }
 {}
