@@ -1,6 +1,6 @@
 -- The locals in scope have names of their own.
-use Rattle.std.proofs.Common.{◌≡◌, ◌≢◌, ℕ, suc, ◌+◌, ◌<◌, List, [], ◌∷◌, ◌++◌, get_or, length, map, refl, ap, sym, subst, ◌∙◌, append_assoc, append-nil, arith}
-use Rattle.std.specs.List.{All, AllPairs, Contains}
+use Rattle.std.proofs.Common.{◌≡◌, ◌≢◌, ℕ, suc, ◌+◌, List, [], ◌∷◌, ◌++◌, get_or, length, refl, ap, sym, subst, ◌∙◌, append_assoc, append-nil, arith}
+use Rattle.std.specs.List.{All, Contains}
 use Rattle.std.proofs.lemmas.List.{get_or_append_left, length-append}
 use Rattle.std.proofs.lemmas.List.Elements.{All-cons, All-nil, All-head, All-tail, All-weaker, Contains-append_left, Contains-append_right}
 use Rattle.std.proofs.lemmas.List.Kept.{AllPairs-cons}
@@ -91,8 +91,8 @@ module _ (s : Service) where
       (apart_now k (if_then e y c) more h, apart k y (local_names c ++ more) g, apart (behind k y) c more (gone k (local_names y) (local_names c ++ more) g))
   apart k (if_else e y n c) more h =
       let g =
-              same_names k _ (local_names y ++ (local_names n ++ (local_names c ++ more)))
-              (append_assoc (local_names y) (local_names n ++ local_names c) more ∙ ap (λ l. local_names y ++ l) (append_assoc (local_names n) (local_names c) more)) h in
+      same_names k _ (local_names y ++ (local_names n ++ (local_names c ++ more)))
+      (append_assoc (local_names y) (local_names n ++ local_names c) more ∙ ap (λ l. local_names y ++ l) (append_assoc (local_names n) (local_names c) more)) h in
       let m = gone k (local_names y) (local_names n ++ (local_names c ++ more)) g in (
         apart_now k (if_else e y n c) more h,
         apart k y (local_names n ++ (local_names c ++ more)) g,
@@ -119,7 +119,7 @@ module _ (s : Service) where
   from_start c d u =
       apart no_locals c []
       (same_names no_locals (local_names c) (local_names c ++ []) (sym (append-nil (local_names c)))
-          (record { differ = none_differ; among = All-nil (λ w. Contains [] w); fresh = All-nil Undeclared; all = d; new = u }))
+      (record { differ = none_differ; among = All-nil (λ w. Contains [] w); fresh = All-nil Undeclared; all = d; new = u }))
 
 pub locals_are_apart : LocalsAreApart
 locals_are_apart s r h =

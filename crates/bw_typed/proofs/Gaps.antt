@@ -1,11 +1,10 @@
 -- The gaps of items, by the numbers of the table that they were read by.
-use Rattle.std.proofs.Common.{◌≡◌, ℕ, zero, suc, ◌+◌, ◌<◌, ◌⊎◌, inl, inr, Bool, true, false, cond, List, [], ◌∷◌, ◌++◌, map, length, refl, ap, sym, subst, ◌∙◌, append_assoc, append-nil, arith}
+use Rattle.std.proofs.Common.{◌≡◌, ℕ, suc, ◌+◌, ◌<◌, ◌⊎◌, inl, inr, Bool, true, false, cond, List, [], ◌∷◌, ◌++◌, map, length, refl, ap, sym, subst, ◌∙◌, append_assoc, append-nil, arith}
 use Rattle.std.specs.Prelude.{◌||◌, if◌then◌else◌, not}
 use Rattle.std.specs.List.{All, Contains, list_any}
 use Rattle.std.proofs.lemmas.Cmp.{nat_list_eq_equiv}
 use Rattle.std.proofs.lemmas.List.{map-append, length-append}
 use Rattle.std.proofs.lemmas.List.Elements.{All-map}
-use Rattle.bw_lang.specs.declared.items.Attr.{Attr}
 use Rattle.bw_lang.specs.declared.pieces.Piece.{Piece}
 use Rattle.bw_lang.specs.declared.pieces.Piece.TheVariants as piece
 use Rattle.bw_lang.specs.declared.pieces.RawAttr.{RawAttr}
@@ -14,10 +13,10 @@ use Rattle.bw_lang.specs.declared.pieces.RawValue.TheVariants as raw
 use Rattle.bw_lang.specs.Forest.{Forest, none, text, gap, element}
 use Rattle.bw_lang.specs.Names.{same, number, with_name, with_names}
 use Rattle.bw_lang.specs.NumberedGaps.{numbered, numbered_value}
-use Rattle.bw_lang.specs.PieceGaps.{value_gaps, attr_gaps, piece_gaps, gap_names}
+use Rattle.bw_lang.specs.PieceGaps.{value_gaps, attr_gaps, gap_names}
 use Rattle.bw_lang.specs.PieceItems.{ReadsPieces}
 use Rattle.bw_lang.proofs.Small.{of_each}
-use Rattle.bw_lang.proofs.TableLaws.{known, names_stay, numbers_stay, added_are_there}
+use Rattle.bw_lang.proofs.TableLaws.{names_stay, numbers_stay, added_are_there}
 use Rattle.bw_types.specs.declared.fault.GapKind.{GapKind}
 use Rattle.bw_types.specs.Gaps.{value_use, attr_uses, gap_uses}
 use Rattle.bw_typed.specs.Numbered.{numbers}
@@ -62,9 +61,9 @@ module _ (names : List (List ℕ)) where
       parts (attr_uses attrs) (gap_uses inner) (gap_uses f) (numbered_names (gap_names rest))
       ∙ (λ i. own i ++ (numbers (gap_uses inner) ++ later i))
       ∙ (elim h.1.3 [
-        inl whole ↦ empty_reads t.attrs inner qs whole.1 ∙ ap (λ l. numbered_names (gap_names l)) (sym whole.0)
+        | inl whole ↦ empty_reads t.attrs inner qs whole.1 ∙ ap (λ l. numbered_names (gap_names l)) (sym whole.0)
         | inr other ↦ elim other [
-          inl start ↦ empty_reads t.attrs inner qs start.2 ∙ ap (λ l. numbered_names (gap_names l)) (sym start.0)
+          | inl start ↦ empty_reads t.attrs inner qs start.2 ∙ ap (λ l. numbered_names (gap_names l)) (sym start.0)
           | inr more ↦ ap (λ l. numbered_names (attr_gaps t.attrs) ++ l) (reads_gaps inner more.0 (piece.End t.name ∷ qs) more.3)
               ∙ sym (names-append (attr_gaps t.attrs) (gap_names more.0)) ∙ ap (λ l. numbered_names (gap_names l)) (sym more.1)
         ]
@@ -82,7 +81,7 @@ pub gaps_inside : (before after : List (List ℕ)) (f : Forest) (ps : List Piece
     → All (λ x. x.0 < length after) (gap_uses f)
 gaps_inside before after f ps e h =
     let there : All (λ n. number after n < length after) (gap_names ps) =
-            subst (λ table. All (λ n. number table n < length table) (gap_names ps)) (sym e) (added_are_there before (gap_names ps)) in
+    subst (λ table. All (λ n. number table n < length table) (gap_names ps)) (sym e) (added_are_there before (gap_names ps)) in
     of_each (λ g. g < length after) (λ (x : ℕ × GapKind). x.0) (gap_uses f)
     (subst (All (λ g. g < length after)) (sym (all_gaps after f ps h)) (All-map (λ g. g < length after) (number after) (gap_names ps) there))
 
@@ -114,8 +113,8 @@ brought old n g h = by_test (list_any (same n) old) refl h
 pub covered : (old added : List (List ℕ)) (g : ℕ) → g < length (with_names old added) → (g < length old) ⊎ Contains (map (number (with_names old added)) added) g
 covered old [] g h = inl h
 covered old (n ∷ added) g h = elim (covered (with_name old n) added g h) [
-  inl l ↦ elim (brought old n g l) [
-    inl k ↦ inl k
+  | inl l ↦ elim (brought old n g l) [
+    | inl k ↦ inl k
     | inr k ↦ inr (0, omega arith, numbers_stay (with_name old n) (with_names (with_name old n) added) n (names_stay (with_name old n) added) (omega (arith, k.0, k.1)) ∙ k.0)
   ]
   | inr c ↦ inr (suc c.0, omega (arith, c.1), c.2)

@@ -1,7 +1,7 @@
 -- The names of templates and gaps in a typed service stand for what it has.
-use Rattle.std.proofs.Common.{◌≡◌, ℕ, suc, ◌+◌, ◌<◌, Bool, true, false, cond, List, [], ◌∷◌, map, length, Option, Some, None, refl, ap, sym, subst, ◌∙◌, arith}
+use Rattle.std.proofs.Common.{◌≡◌, ℕ, ◌+◌, ◌<◌, Bool, true, false, cond, List, [], ◌∷◌, map, length, Some, None, refl, ap, sym, arith}
 use Rattle.std.specs.Prelude.{◌||◌, not, nat_lt, position, if◌then◌else◌, is_some}
-use Rattle.std.specs.List.{All, list_any, position_or_len}
+use Rattle.std.specs.List.{position_or_len}
 use Rattle.std.proofs.lemmas.Bool.Decides.{nat_tests}
 use Rattle.std.proofs.lemmas.List.Elements.{All-map, All-contains, All-weaker}
 use Rattle.bw_lang.specs.declared.service.Literal.{Literal}
@@ -13,16 +13,15 @@ use Rattle.bw_lang.specs.declared.stmt.Kind.{Kind}
 use Rattle.bw_lang.specs.declared.stmt.Kind.TheVariants.{Int, Bool as Truth, Str, Html}
 use Rattle.bw_lang.specs.Names.{same, number}
 use Rattle.bw_lang.specs.Reads.{IsReadable}
-use Rattle.bw_lang.specs.Term.{Fillings, no_more, filling}
+use Rattle.bw_lang.specs.Term.{no_more, filling}
 use Rattle.bw_lang.proofs.Small.{readable_is_woven}
 use Rattle.bw_types.specs.declared.fault.GapKind.{GapKind}
 use Rattle.bw_types.specs.Faults.{literal_kind}
 use Rattle.bw_types.specs.Gaps.{gap_kind, gap_uses, template_uses}
-use Rattle.bw_types.specs.Scopes.{Scope, is_among, template_names}
-use Rattle.bw_types.specs.Typing.{AreTyped}
+use Rattle.bw_types.specs.Scopes.{is_among, template_names}
 use Rattle.bw_types.proofs.Parts.{all_parts}
 use Rattle.bw_types.proofs.WellTyped.{typed}
-use Rattle.bw_typed.specs.Named.{NamesTemplate, IsLiteral, SharedBegin, IsGapOf, GapsHaveNumbers, ArePlugged, PlugsAreKnown}
+use Rattle.bw_typed.specs.Named.{NamesTemplate, IsLiteral, SharedBegin, GapsHaveNumbers, PlugsAreKnown}
 use Rattle.bw_typed.specs.Numbered.{numbers}
 use Rattle.bw_typed.proofs.Found.{found}
 use Rattle.bw_typed.proofs.Services.{gaps_are_numbered}
@@ -80,7 +79,7 @@ kind_inside s h g e =
     let uses = template_uses s.templates in
     All-contains (λ n. n < length s.gaps) (numbers uses) g
     (All-map (λ n. n < length s.gaps) (λ (x : ℕ × GapKind). x.0) uses
-        (all_parts (λ (t : Template). gap_uses t.items) (λ x. x.0 < length s.gaps) s.templates (gaps_are_numbered s h)))
+    (all_parts (λ (t : Template). gap_uses t.items) (λ x. x.0 < length s.gaps) s.templates (gaps_are_numbered s h)))
     (found uses g e)
 
 pub gaps_have_numbers : GapsHaveNumbers

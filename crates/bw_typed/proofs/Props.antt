@@ -1,5 +1,5 @@
 -- What is so in at most one way.
-use Rattle.std.proofs.Common.{◌≡◌, ℕ, Bool, List, [], ◌∷◌, refl}
+use Rattle.std.proofs.Common.{List, [], ◌∷◌}
 use Rattle.std.proofs.Math.Bool.{Bool-set}
 use Rattle.std.specs.Coded.{le_prop}
 use Rattle.bw_lang.specs.declared.service.Literal.{Literal}
@@ -8,7 +8,6 @@ use Rattle.bw_lang.specs.declared.service.Session.{Session}
 use Rattle.bw_lang.specs.declared.service.Shared.{Shared}
 use Rattle.bw_lang.specs.declared.stmt.Receive.{Receive}
 use Rattle.bw_lang.specs.Code.{Code, done, declare, assign, if_then, if_else, while_loop, block, for_each, show, exit}
-use Rattle.bw_lang.specs.Keywords.{is_keyword}
 use Rattle.bw_lang.specs.Levels.{IsSome, IsWritable, Levelled, AreLevelled}
 use Rattle.bw_lang.specs.Spelling.{HaveTargets, IsCode}
 use Rattle.bw_lang.specs.Term.{Term, int, truth, string, name, paren, not, neg, binary, call, plug, nothing, Fillings, no_more, filling}

@@ -1,5 +1,5 @@
 -- What every declaration is that was read, and every place of the table of gaps.
-use Rattle.std.proofs.Common.{◌≡◌, ℕ, ◌<◌, ◌≤◌, ◌⊎◌, inl, inr, List, [], ◌∷◌, ◌++◌, map, length, refl, ap, sym, subst, ◌∙◌, arith}
+use Rattle.std.proofs.Common.{ℕ, ◌<◌, ◌≤◌, ◌⊎◌, inl, inr, List, [], ◌∷◌, map, length, ap, sym, subst, ◌∙◌, arith}
 use Rattle.std.specs.List.{All, Contains}
 use Rattle.std.proofs.lemmas.List.{map-append, length-append}
 use Rattle.std.proofs.lemmas.List.Elements.{All-cons, All-nil, All-weaker, Contains-append_left, Contains-append_right}
@@ -8,10 +8,9 @@ use Rattle.bw_lang.specs.declared.declaration.Declaration.TheVariants as declara
 use Rattle.bw_lang.specs.declared.declaration.Draft.{Draft}
 use Rattle.bw_lang.specs.declared.declaration.Draft.TheVariants as drafts
 use Rattle.bw_lang.specs.declared.service.Template.{Template}
-use Rattle.bw_lang.specs.declared.stmt.Kind.{Kind}
 use Rattle.bw_lang.specs.Drafts.{IsFormed, AreFormed, IsShareable}
 use Rattle.bw_lang.specs.Measures.{nest}
-use Rattle.bw_lang.specs.Names.{number, with_names, Extends}
+use Rattle.bw_lang.specs.Names.{number, Extends}
 use Rattle.bw_lang.specs.PieceGaps.{gap_names}
 use Rattle.bw_lang.specs.Reads.{IsRead, AreRead}
 use Rattle.bw_lang.specs.Sorted.{templates_of}
@@ -83,7 +82,7 @@ place_here : (before : List (List ℕ)) (draft : Draft) (d : Declaration) (after
 place_here before (drafts.Template n i) (declarations.Template t) after rs g h l =
     let e = h.1.names in let ns = gap_names h.1.read.pieces in
     elim (covered before ns g (subst (λ table. g < length table) e l)) [
-      inl k ↦ inl k
+      | inl k ↦ inl k
       | inr c ↦ inr (in_template t (templates_of rs) g
           (subst (λ l. Contains l g) (ap (λ table. map (number table) ns) (sym e) ∙ sym (all_gaps after t.items h.1.read.pieces h.1.read.reads)) c))
     ]
@@ -102,6 +101,6 @@ each_stands before [] [] after g h l = inl (subst (λ table. g < length table) h
 each_stands before [] (r ∷ rs) after g h l = absurd h
 each_stands before (d ∷ ds) [] after g h l = absurd h
 each_stands before (d ∷ ds) (r ∷ rs) after g h l = elim (each_stands h.0 ds rs after g h.2 l) [
-  inl k ↦ place_here before d r h.0 rs g h.1 k
+  | inl k ↦ place_here before d r h.0 rs g h.1 k
   | inr c ↦ inr (later_stands r rs g c)
 ]

@@ -1,6 +1,6 @@
 -- What every service is that was read.
-use Rattle.std.proofs.Common.{◌≡◌, ℕ, ◌<◌, ◌≤◌, ◌⊎◌, inl, inr, List, [], ◌∷◌, map, length, Some, refl, ap, sym, subst, ◌∙◌, arith}
-use Rattle.std.specs.List.{All, Contains}
+use Rattle.std.proofs.Common.{◌≡◌, ℕ, ◌<◌, ◌≤◌, inl, inr, List, [], length, Some, ap, sym, subst, arith}
+use Rattle.std.specs.List.{All}
 use Rattle.std.specs.Coded.{le_prop}
 use Rattle.std.proofs.Math.Logic.{∥∥₁_elim}
 use Rattle.bw_lang.specs.declared.declaration.Declaration.{Declaration}
@@ -13,14 +13,14 @@ use Rattle.bw_lang.specs.Drafts.{IsShareable}
 use Rattle.bw_lang.specs.Forest.{Forest}
 use Rattle.bw_lang.specs.Measures.{constant_weight, nest}
 use Rattle.bw_lang.specs.Reads.{Reads}
-use Rattle.bw_lang.specs.Sorted.{as_template, as_shared, as_session, templates_of, shared_of, sessions_of}
+use Rattle.bw_lang.specs.Sorted.{as_template, as_shared, as_session, templates_of}
 use Rattle.bw_lang.specs.Spelling.{IsCode}
 use Rattle.bw_lang.proofs.Small.{all_within, of_each}
 use Rattle.bw_types.proofs.Differing.{all_sorted}
-use Rattle.bw_types.specs.Gaps.{gap_uses, template_uses}
+use Rattle.bw_types.specs.Gaps.{gap_uses}
 use Rattle.bw_typed.specs.Formed.{BodiesAreCode, SharedAreNoLists}
 use Rattle.bw_typed.specs.Measured.{IsMeasured, TemplatesAreMeasured}
-use Rattle.bw_typed.specs.Numbered.{numbers, GapsAreNumbered, NumbersAreGaps}
+use Rattle.bw_typed.specs.Numbered.{GapsAreNumbered}
 use Rattle.bw_typed.proofs.Props.{code_prop}
 use Rattle.bw_typed.proofs.Read.{IsSound, Stands, all_sound, each_stands}
 

@@ -1,5 +1,5 @@
 -- The names of a service that was read are short.
-use Rattle.std.proofs.Common.{◌≡◌, ℕ, ◌≤◌, List, [], ◌∷◌, ◌++◌, get_or, length, Some, ap, sym, subst}
+use Rattle.std.proofs.Common.{◌≡◌, ℕ, ◌≤◌, List, [], get_or, length, Some, ap, sym, subst}
 use Rattle.std.specs.Prelude.{flat_map}
 use Rattle.std.specs.Coded.{le_prop}
 use Rattle.std.specs.List.{All}

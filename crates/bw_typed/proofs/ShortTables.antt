@@ -1,7 +1,7 @@
 -- The names of gaps are short.
-use Rattle.std.proofs.Common.{◌≡◌, ℕ, ◌<◌, ◌≤◌, Bool, List, [], ◌∷◌, ◌++◌, get_or, length, ap, sym, ◌∙◌, subst}
-use Rattle.std.specs.Prelude.{slice_get, unwrap_or, ◌&&◌, codes}
-use Rattle.std.specs.List.{All, Contains}
+use Rattle.std.proofs.Common.{ℕ, ◌<◌, ◌≤◌, Bool, List, [], ◌∷◌, ◌++◌, length, ap, subst}
+use Rattle.std.specs.Prelude.{unwrap_or, ◌&&◌, codes}
+use Rattle.std.specs.List.{All}
 use Rattle.std.proofs.lemmas.List.Elements.{All-cons, All-nil, All-append, All-map, All-contains}
 use Rattle.std.proofs.lemmas.Option.{slice_get-get_or}
 use Rattle.bw_lang.specs.declared.items.Attr.{Attr}
@@ -54,6 +54,6 @@ module _ (gaps : List (List ℕ)) where
   table_short templates short stands = λ k d l.
       let uses = template_uses templates in
       let at : gap_length gaps k ≤ 64 =
-              All-contains (λ g. gap_length gaps g ≤ 64) (numbers uses) k
-              (All-map (λ g. gap_length gaps g ≤ 64) (λ (x : ℕ × GapKind). x.0) uses (all_parts (λ (t : Template). gap_uses t.items) IsShortUse templates short)) (stands k l) in
+      All-contains (λ g. gap_length gaps g ≤ 64) (numbers uses) k
+      (All-map (λ g. gap_length gaps g ≤ 64) (λ (x : ℕ × GapKind). x.0) uses (all_parts (λ (t : Template). gap_uses t.items) IsShortUse templates short)) (stands k l) in
       subst (λ n. n ≤ 64) (ap (λ o. length (unwrap_or o [])) (slice_get-get_or gaps k d l)) at

@@ -8,7 +8,7 @@ use Rattle.bw_lang.specs.declared.stmt.Kind.{Kind}
 use Rattle.bw_lang.specs.declared.stmt.Kind.TheVariants.{Int, Bool as Truth, Str, Html}
 use Rattle.bw_lang.specs.Names.{number}
 use Rattle.bw_lang.specs.Reads.{IsReadable}
-use Rattle.bw_lang.specs.Term.{Term, Fillings, no_more, filling, name}
+use Rattle.bw_lang.specs.Term.{Fillings, no_more, filling}
 use Rattle.bw_types.specs.declared.fault.GapKind.{GapKind}
 use Rattle.bw_types.specs.Faults.{IsWellTyped}
 use Rattle.bw_types.specs.Gaps.{gap_number, kind_of_gap, kind_of_number}
