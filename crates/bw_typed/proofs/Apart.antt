@@ -92,7 +92,8 @@ module _ (s : Service) where
   apart k (if_else e y n c) more h =
       let g =
       same_names k _ (local_names y ++ (local_names n ++ (local_names c ++ more)))
-      (append_assoc (local_names y) (local_names n ++ local_names c) more ∙ ap (λ l. local_names y ++ l) (append_assoc (local_names n) (local_names c) more)) h in
+      (append_assoc (local_names y) (local_names n ++ local_names c) more
+      ∙ ap (λ l. local_names y ++ l) (append_assoc (local_names n) (local_names c) more)) h in
       let m = gone k (local_names y) (local_names n ++ (local_names c ++ more)) g in (
         apart_now k (if_else e y n c) more h,
         apart k y (local_names n ++ (local_names c ++ more)) g,
@@ -124,5 +125,6 @@ module _ (s : Service) where
 pub locals_are_apart : LocalsAreApart
 locals_are_apart s r h =
     all_so (Walked s) (λ (x : Session). AreApart s no_locals x.body [])
-    (λ x f. let o = locals_own s no_locals x.body f.body (record { differ = none_differ; apart = All-nil (Undeclared s) }) in from_start s x.body o.differ o.apart)
+    (λ x f. let o = locals_own s no_locals x.body f.body (record { differ = none_differ; apart = All-nil (Undeclared s) }) in
+    from_start s x.body o.differ o.apart)
     s.sessions (sessions_none s (readable_is_woven s r) h)

@@ -29,7 +29,8 @@ pub found : (uses : List (ℕ × GapKind)) (g : ℕ) → is_some (gap_kind uses 
 found [] g h = absurd (cc)
 found (x ∷ uses) g h = by_test (is_gap g x.0) refl (sym (ap is_some (seek-cons is_gap g x uses)) ∙ h) (found uses g)
   where
-    by_test : (b : Bool) → is_gap g x.0 ≡ b → is_some (if b then Some x.1 else gap_kind uses g) ≡ true → (is_some (gap_kind uses g) ≡ true → Contains (numbers uses) g)
+    by_test : (b : Bool) → is_gap g x.0 ≡ b → is_some (if b then Some x.1 else gap_kind uses g) ≡ true
+        → (is_some (gap_kind uses g) ≡ true → Contains (numbers uses) g)
         → Contains (numbers (x ∷ uses)) g
     by_test true e h ih = (0, omega arith, sym (same_gap g x.0 e))
     by_test false e h ih = let c = ih h in (suc c.0, omega (arith, c.1), c.2)

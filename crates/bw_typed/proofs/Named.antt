@@ -36,7 +36,8 @@ at_place p xs h = ap (λ (b : Bool). cond b (Some (position_or_len p xs)) None) 
 -- ---- templates
 
 -- a template that has the name has a place
-placed : (w : List ℕ) (ts : List Template) → is_among w (map (λ (t : Template). t.name) ts) ≡ true → position_or_len (λ (t : Template). same w t.name) ts < length ts
+placed : (w : List ℕ) (ts : List Template) → is_among w (map (λ (t : Template). t.name) ts) ≡ true
+    → position_or_len (λ (t : Template). same w t.name) ts < length ts
 placed w [] h = absurd (cc)
 placed w (t ∷ ts) h = by_test (same w t.name) h (placed w ts)
   where
@@ -48,7 +49,8 @@ placed w (t ∷ ts) h = by_test (same w t.name) h (placed w ts)
 
 names_template : (s : Service) (w : List ℕ) → is_among w (template_names s) ≡ true → NamesTemplate s w
 names_template s w h =
-    let l = placed w s.templates h in (position_or_len (λ (t : Template). same w t.name) s.templates, at_place (λ (t : Template). same w t.name) s.templates l, l)
+    let l = placed w s.templates h in
+    (position_or_len (λ (t : Template). same w t.name) s.templates, at_place (λ (t : Template). same w t.name) s.templates l, l)
 
 named_kind : (b : Bool) (kind : Kind) → (if b then Some Html else None) ≡ Some kind → (b ≡ true) × (kind ≡ Html)
 named_kind true kind h = (refl, sym (some_is h))

@@ -45,7 +45,9 @@ module _ (gaps : List (List ℕ)) where
       → Short (option_to_list (unless_empty (fixed (codes "name") attrs)))
   fixed_short [] h = All-nil IsShortName
   fixed_short (a ∷ attrs) h =
-      let p = both 64 (value_lengths gaps (true && same a.name (codes "name")) a.value) (flat_map (λ a. value_lengths gaps (true && same a.name (codes "name")) a.value) attrs) h in
+      let p =
+      both 64 (value_lengths gaps (true && same a.name (codes "name")) a.value)
+      (flat_map (λ a. value_lengths gaps (true && same a.name (codes "name")) a.value) attrs) h in
       by_test (same a.name (codes "name")) p.0 (fixed_short attrs p.1)
     where
       by_test : (b : Bool) → AreMost 64 (value_lengths gaps (true && b) a.value) → Short (option_to_list (unless_empty (fixed (codes "name") attrs)))
@@ -77,7 +79,8 @@ received_short (declare t w e c) h = received_short c h.2
 received_short (assign w e c) h = received_short c h.2
 received_short (if_then e y c) h = join (received_fields y) (received_fields c) (received_short y h.1) (received_short c h.2)
 received_short (if_else e y n c) h =
-    join (received_fields y) (received_fields n ++ received_fields c) (received_short y h.1) (join (received_fields n) (received_fields c) (received_short n h.2) (received_short c h.3))
+    join (received_fields y) (received_fields n ++ received_fields c) (received_short y h.1)
+    (join (received_fields n) (received_fields c) (received_short n h.2) (received_short c h.3))
 received_short (while_loop e y c) h = join (received_fields y) (received_fields c) (received_short y h.1) (received_short c h.2)
 received_short (block y c) h = join (received_fields y) (received_fields c) (received_short y h.0) (received_short c h.1)
 received_short (for_each w e y c) h = join (received_fields y) (received_fields c) (received_short y h.2) (received_short c h.3)
@@ -95,7 +98,8 @@ module _ (bytes : List ℕ) (s : Service) (r : Reads bytes s) where
   pub fields_short : Short (field_names s)
   fields_short =
       subst (λ ds. Short (flat_map declared_fields ds)) (sym (declarations_are bytes s r))
-      (all_parts declared_fields IsShortName r.declarations (All-weaker (HasNames bytes s r) (λ d. Short (declared_fields d)) declared_short r.declarations (names bytes s r)))
+      (all_parts declared_fields IsShortName r.declarations
+      (All-weaker (HasNames bytes s r) (λ d. Short (declared_fields d)) declared_short r.declarations (names bytes s r)))
 
 pub fields_are_short : FieldsAreShort
 fields_are_short s h = λ i d l. ∥∥₁_elim h le_prop (λ r. fields_short r.0 s r.1 i d l)

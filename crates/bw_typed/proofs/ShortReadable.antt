@@ -68,15 +68,22 @@ module _ (bytes : List ℕ) (s : Service) (r : Reads bytes s) where
 
   templates_short : All IsShortTemplate s.templates
   templates_short =
-      subst (All IsShortTemplate) (sym (ap (λ (t : Service). t.templates) r.whole)) (all_sorted as_template HasNames IsShortTemplate template_names r.declarations names)
+      subst (All IsShortTemplate) (sym (ap (λ (t : Service). t.templates) r.whole))
+      (all_sorted as_template HasNames IsShortTemplate template_names r.declarations names)
 
   pub names_short : NamesAreShort s
   names_short = record {
     own = all_names.0;
-    gaps = table_short s.gaps s.templates (All-weaker IsShortTemplate (λ t. All (IsShortUse s.gaps) (gap_uses t.items)) (λ t h. h.1) s.templates templates_short) (stands bytes s r);
+    gaps =
+        table_short s.gaps s.templates
+        (All-weaker IsShortTemplate (λ t. All (IsShortUse s.gaps) (gap_uses t.items)) (λ t h. h.1) s.templates templates_short) (stands bytes s r);
     templates = All-weaker IsShortTemplate (λ t. IsShortName t.name) (λ t h. h.0) s.templates templates_short;
-    shared = subst (All IsShortShared) (sym (ap (λ (t : Service). t.shared) r.whole)) (all_sorted as_shared HasNames IsShortShared shared_names r.declarations names);
-    sessions = subst (All IsShortSession) (sym (ap (λ (t : Service). t.sessions) r.whole)) (all_sorted as_session HasNames IsShortSession session_names r.declarations names);
+    shared =
+        subst (All IsShortShared) (sym (ap (λ (t : Service). t.shared) r.whole))
+        (all_sorted as_shared HasNames IsShortShared shared_names r.declarations names);
+    sessions =
+        subst (All IsShortSession) (sym (ap (λ (t : Service). t.sessions) r.whole))
+        (all_sorted as_session HasNames IsShortSession session_names r.declarations names);
   }
 
 pub readable_has_short_names : ReadableHasShortNames

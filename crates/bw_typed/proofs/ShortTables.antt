@@ -41,7 +41,8 @@ module _ (gaps : List (List ℕ)) where
   items_short none h = All-nil IsShortUse
   items_short (text s f) h = items_short f h
   items_short (gap g f) h =
-      All-cons IsShortUse (g, Content) (gap_uses f) (this 64 (gap_length gaps g) (item_lengths gaps f) h) (items_short f (next 64 (gap_length gaps g) (item_lengths gaps f) h))
+      All-cons IsShortUse (g, Content) (gap_uses f) (this 64 (gap_length gaps g) (item_lengths gaps f) h)
+      (items_short f (next 64 (gap_length gaps g) (item_lengths gaps f) h))
   items_short (element tag attrs inner f) h =
       let p = both 64 (attr_lengths gaps tag attrs) (item_lengths gaps inner ++ item_lengths gaps f) h in
       let q = both 64 (item_lengths gaps inner) (item_lengths gaps f) p.1 in
@@ -55,5 +56,6 @@ module _ (gaps : List (List ℕ)) where
       let uses = template_uses templates in
       let at : gap_length gaps k ≤ 64 =
       All-contains (λ g. gap_length gaps g ≤ 64) (numbers uses) k
-      (All-map (λ g. gap_length gaps g ≤ 64) (λ (x : ℕ × GapKind). x.0) uses (all_parts (λ (t : Template). gap_uses t.items) IsShortUse templates short)) (stands k l) in
+      (All-map (λ g. gap_length gaps g ≤ 64) (λ (x : ℕ × GapKind). x.0) uses
+      (all_parts (λ (t : Template). gap_uses t.items) IsShortUse templates short)) (stands k l) in
       subst (λ n. n ≤ 64) (ap (λ o. length (unwrap_or o [])) (slice_get-get_or gaps k d l)) at

@@ -30,7 +30,8 @@ MeetsKinds service scope (assign w e rest) =
 MeetsKinds service scope (if_then t y rest) =
     (kind_of service scope t ≡ Some Truth) × MeetsKinds service scope y × MeetsKinds service (behind scope y) rest
 MeetsKinds service scope (if_else t y n rest) =
-    (kind_of service scope t ≡ Some Truth) × MeetsKinds service scope y × MeetsKinds service (behind scope y) n × MeetsKinds service (behind (behind scope y) n) rest
+    (kind_of service scope t ≡ Some Truth) × MeetsKinds service scope y × MeetsKinds service (behind scope y) n
+    × MeetsKinds service (behind (behind scope y) n) rest
 MeetsKinds service scope (while_loop t b rest) =
     (kind_of service scope t ≡ Some Truth) × MeetsKinds service scope b × MeetsKinds service (behind scope b) rest
 MeetsKinds service scope (block b rest) = MeetsKinds service scope b × MeetsKinds service (behind scope b) rest

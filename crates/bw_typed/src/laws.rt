@@ -59,14 +59,14 @@ pub fn names_stand_for()
     ensures kinds { GapsHaveKinds }
 {}
 
-/// At each place of a session of a service that is well typed, the locals in scope have names that differ from each other
-/// and from those of the service's declarations, and the session declares none of them from there on.
+/// At each place of a session of a service that is well typed, the locals in scope have names that differ from each
+/// other and from those of the service's declarations, and the session declares none of them from there on.
 pub fn locals_are_apart()
     ensures { LocalsAreApart }
 {}
 
 /// A gap or a field that is tested against the kind of its first place in all templates passes exactly where it would
-/// pass against its first place in front: so the first fault is the same.
+/// pass if its kind were that of its first place in front, and any kind where there is none: at each place of the list.
 pub fn earlier_says()
     ensures gap { EarlierGapSays }
     ensures field { EarlierFieldSays }
