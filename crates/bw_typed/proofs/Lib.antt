@@ -12,3 +12,4 @@ pub mod Named
 pub mod Apart
 pub mod Earlier
 pub mod ShortFields
+pub mod Spelled

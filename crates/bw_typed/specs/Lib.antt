@@ -7,3 +7,4 @@ pub mod Kinds
 pub mod Named
 pub mod Apart
 pub mod Earlier
+pub mod Strings

@@ -8,6 +8,7 @@ ghost use Rattle.bw_typed.specs.Kinds.{KindIsOne, KindsAgree, KindsAreMet, Sessi
 ghost use Rattle.bw_typed.specs.Named.{GapsHaveKinds, GapsHaveNumbers, PlugsAreKnown, SharedBegin};
 ghost use Rattle.bw_typed.specs.ShortNames.{FieldsAreShort, ReadableHasShortNames};
 ghost use Rattle.bw_typed.specs.ShortStrings.{SessionsHaveShort, SharedBeginShort};
+ghost use Rattle.bw_typed.specs.Strings.{SessionsSayTokens, SharedSayTokens};
 
 /// The constant of each template is within the limits on documents, and is small: its weight is at most 262144, and at
 /// most 64 of its elements stand inside one another.
@@ -70,4 +71,11 @@ pub fn locals_are_apart()
 pub fn earlier_says()
     ensures gap { EarlierGapSays }
     ensures field { EarlierFieldSays }
+{}
+
+/// Each string of a service that was read is one that a token of its bytes says: what is known of the strings of tokens,
+/// as that they are UTF-8, is so known of these.
+pub fn strings_are_tokens()
+    ensures sessions { SessionsSayTokens }
+    ensures shared { SharedSayTokens }
 {}
