@@ -71,7 +71,10 @@ module _ (P : List ℕ → Type 0) where
   spelled_code (if_then t y c) k h =
       let a = spelled t _ h.1.1 in let b = spelled_code y _ a.1.1.1 in let d = spelled_code c k b.1.1 in ((a.0, b.0, d.0), d.1)
   spelled_code (if_else t y n c) k h =
-      let a = spelled t _ h.1.1 in let b = spelled_code y _ a.1.1.1 in let m = spelled_code n _ b.1.1.1.1 in let d = spelled_code c k m.1.1 in
+      let last = lex.Sign (codes "}") ∷ spell_code c k in
+      let other = lex.Sign (codes "}") ∷ (lex.Word (codes "else") ∷ (lex.Sign (codes "{") ∷ spell_code n last)) in
+      let a = spelled t (lex.Sign (codes ")") ∷ (lex.Sign (codes "{") ∷ spell_code y other)) h.1.1 in let b = spelled_code y other a.1.1.1 in
+      let m = spelled_code n last b.1.1.1.1 in let d = spelled_code c k m.1.1 in
       ((a.0, b.0, m.0, d.0), d.1)
   spelled_code (while_loop t y c) k h =
       let a = spelled t _ h.1.1 in let b = spelled_code y _ a.1.1.1 in let d = spelled_code c k b.1.1 in ((a.0, b.0, d.0), d.1)

@@ -67,14 +67,14 @@ pub fn locals_are_apart()
 {}
 
 /// A gap or a field that is tested against the kind of its first place in all templates passes exactly where it would
-/// pass if its kind were that of its first place in front, and any kind where there is none: at each place of the list.
+/// pass if it were tested against its first place in front, or not at all where there is none.
 pub fn earlier_says()
     ensures gap { EarlierGapSays }
     ensures field { EarlierFieldSays }
 {}
 
-/// Each string of a service that was read is one that a token of its bytes says: what is known of the strings of tokens,
-/// as that they are UTF-8, is so known of these.
+/// Each string of a service that was read is one that a token of its bytes says. So what is known of the strings of
+/// tokens is known of these.
 pub fn strings_are_tokens()
     ensures sessions { SessionsSayTokens }
     ensures shared { SharedSayTokens }
