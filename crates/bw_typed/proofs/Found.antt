@@ -1,11 +1,10 @@
 -- The kinds of the gaps that stand in templates.
-use Rattle.std.proofs.Common.{◌≡◌, ℕ, zero, suc, ◌<◌, Bool, true, false, List, [], ◌∷◌, get_or, length, Option, Some, None, refl, ap, sym, ◌∙◌, arith}
+use Rattle.std.proofs.Common.{◌≡◌, ℕ, zero, suc, ◌<◌, Bool, true, false, List, [], ◌∷◌, get_or, length, Some, refl, ap, sym, ◌∙◌, arith}
 use Rattle.std.proofs.lemmas.List.{length-map}
 use Rattle.bw_lang.specs.Reads.{IsReadable}
-use Rattle.std.specs.Prelude.{◌==◌, is_some, if◌then◌else◌}
-use Rattle.std.specs.List.{All, Contains}
+use Rattle.std.specs.Prelude.{is_some, if◌then◌else◌}
+use Rattle.std.specs.List.{Contains}
 use Rattle.std.proofs.lemmas.Bool.{eq-eqb}
-use Rattle.std.proofs.lemmas.List.Elements.{All-head, All-tail}
 use Rattle.std.proofs.Math.Bool.{Bool-set}
 use Rattle.std.proofs.Math.Logic.{∥∥₁_elim}
 use Rattle.bw_lang.specs.declared.service.Service.{Service}
@@ -26,11 +25,12 @@ has_kind (x ∷ uses) g (suc i) l e = ap is_some (seek-cons is_gap g x uses) ∙
     by_test false h = h
 
 -- what has a kind is the first of its uses
-found : (uses : List (ℕ × GapKind)) (g : ℕ) → is_some (gap_kind uses g) ≡ true → Contains (numbers uses) g
+pub found : (uses : List (ℕ × GapKind)) (g : ℕ) → is_some (gap_kind uses g) ≡ true → Contains (numbers uses) g
 found [] g h = absurd (cc)
 found (x ∷ uses) g h = by_test (is_gap g x.0) refl (sym (ap is_some (seek-cons is_gap g x uses)) ∙ h) (found uses g)
   where
-    by_test : (b : Bool) → is_gap g x.0 ≡ b → is_some (if b then Some x.1 else gap_kind uses g) ≡ true → (is_some (gap_kind uses g) ≡ true → Contains (numbers uses) g)
+    by_test : (b : Bool) → is_gap g x.0 ≡ b → is_some (if b then Some x.1 else gap_kind uses g) ≡ true
+        → (is_some (gap_kind uses g) ≡ true → Contains (numbers uses) g)
         → Contains (numbers (x ∷ uses)) g
     by_test true e h ih = (0, omega arith, sym (same_gap g x.0 e))
     by_test false e h ih = let c = ih h in (suc c.0, omega (arith, c.1), c.2)

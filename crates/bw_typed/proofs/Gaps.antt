@@ -1,11 +1,11 @@
 -- The gaps of items, by the numbers of the table that they were read by.
-use Rattle.std.proofs.Common.{◌≡◌, ℕ, zero, suc, ◌+◌, ◌<◌, ◌⊎◌, inl, inr, Bool, true, false, cond, List, [], ◌∷◌, ◌++◌, map, length, refl, ap, sym, subst, ◌∙◌, append_assoc, append-nil, arith}
+use Rattle.std.proofs.Common.{◌≡◌, ℕ, suc, ◌+◌, ◌<◌, ◌⊎◌, inl, inr, Bool, true, false, cond, List, [], ◌∷◌, ◌++◌, map, length, refl, ap, sym, subst}
+use Rattle.std.proofs.Common.{◌∙◌, append_assoc, append-nil, arith}
 use Rattle.std.specs.Prelude.{◌||◌, if◌then◌else◌, not}
 use Rattle.std.specs.List.{All, Contains, list_any}
 use Rattle.std.proofs.lemmas.Cmp.{nat_list_eq_equiv}
 use Rattle.std.proofs.lemmas.List.{map-append, length-append}
 use Rattle.std.proofs.lemmas.List.Elements.{All-map}
-use Rattle.bw_lang.specs.declared.items.Attr.{Attr}
 use Rattle.bw_lang.specs.declared.pieces.Piece.{Piece}
 use Rattle.bw_lang.specs.declared.pieces.Piece.TheVariants as piece
 use Rattle.bw_lang.specs.declared.pieces.RawAttr.{RawAttr}
@@ -14,10 +14,10 @@ use Rattle.bw_lang.specs.declared.pieces.RawValue.TheVariants as raw
 use Rattle.bw_lang.specs.Forest.{Forest, none, text, gap, element}
 use Rattle.bw_lang.specs.Names.{same, number, with_name, with_names}
 use Rattle.bw_lang.specs.NumberedGaps.{numbered, numbered_value}
-use Rattle.bw_lang.specs.PieceGaps.{value_gaps, attr_gaps, piece_gaps, gap_names}
+use Rattle.bw_lang.specs.PieceGaps.{value_gaps, attr_gaps, gap_names}
 use Rattle.bw_lang.specs.PieceItems.{ReadsPieces}
 use Rattle.bw_lang.proofs.Small.{of_each}
-use Rattle.bw_lang.proofs.TableLaws.{known, names_stay, numbers_stay, added_are_there}
+use Rattle.bw_lang.proofs.TableLaws.{names_stay, numbers_stay, added_are_there}
 use Rattle.bw_types.specs.declared.fault.GapKind.{GapKind}
 use Rattle.bw_types.specs.Gaps.{value_use, attr_uses, gap_uses}
 use Rattle.bw_typed.specs.Numbered.{numbers}
@@ -50,7 +50,8 @@ module _ (names : List (List ℕ)) where
       ∙ append_assoc (numbers a) (numbers b ++ numbers c) d ∙ ap (λ l. numbers a ++ l) (append_assoc (numbers b) (numbers c) d)
 
   -- the gaps of items are those of their pieces
-  pub reads_gaps : (f : Forest) (ps rest : List Piece) → ReadsPieces names f ps rest → numbers (gap_uses f) ++ numbered_names (gap_names rest) ≡ numbered_names (gap_names ps)
+  pub reads_gaps : (f : Forest) (ps rest : List Piece) → ReadsPieces names f ps rest
+      → numbers (gap_uses f) ++ numbered_names (gap_names rest) ≡ numbered_names (gap_names ps)
   reads_gaps none ps rest h = ap (λ l. numbered_names (gap_names l)) (sym h)
   reads_gaps (text s f) ps rest h = reads_gaps f h.0 rest h.2 ∙ ap (λ l. numbered_names (gap_names l)) (sym h.1)
   reads_gaps (gap g f) ps rest h =
@@ -72,7 +73,9 @@ module _ (names : List (List ℕ)) where
     where
       empty_reads : (raws : List RawAttr) (inner : Forest) (qs : List Piece) → inner ≡ none
           → numbered_names (attr_gaps raws) ++ (numbers (gap_uses inner) ++ numbered_names (gap_names qs)) ≡ numbered_names (attr_gaps raws ++ gap_names qs)
-      empty_reads raws inner qs e = ap (λ d. numbered_names (attr_gaps raws) ++ (numbers (gap_uses d) ++ numbered_names (gap_names qs))) e ∙ sym (names-append (attr_gaps raws) (gap_names qs))
+      empty_reads raws inner qs e =
+          ap (λ d. numbered_names (attr_gaps raws) ++ (numbers (gap_uses d) ++ numbered_names (gap_names qs))) e
+          ∙ sym (names-append (attr_gaps raws) (gap_names qs))
 
   pub all_gaps : (f : Forest) (ps : List Piece) → ReadsPieces names f ps [] → numbers (gap_uses f) ≡ numbered_names (gap_names ps)
   all_gaps f ps h = sym (append-nil (numbers (gap_uses f))) ∙ reads_gaps f ps [] h
@@ -99,7 +102,8 @@ number_new (m ∷ names) n h = by_test (same n m) h (number_new names n)
     by_test false h ih = omega (arith, ih h)
 
 -- a place that the name brought in is its number
-brought : (old : List (List ℕ)) (n : List ℕ) (g : ℕ) → g < length (with_name old n) → (g < length old) ⊎ ((number (with_name old n) n ≡ g) × (g < length (with_name old n)))
+brought : (old : List (List ℕ)) (n : List ℕ) (g : ℕ) → g < length (with_name old n)
+    → (g < length old) ⊎ ((number (with_name old n) n ≡ g) × (g < length (with_name old n)))
 brought old n g h = by_test (list_any (same n) old) refl h
   where
     last : (a : ℕ) → g < suc a → (g < a) ⊎ (a ≡ g)
@@ -111,12 +115,17 @@ brought old n g h = by_test (list_any (same n) old) refl h
     by_test false e h = elim (last (length old) (omega (arith, h, length-append old (n ∷ [])))) [ inl l ↦ inl l | inr s ↦ inr (number_new old n e ∙ s, h) ]
 
 -- each place of the table is one that it had, or the number of a name that was taken in
-pub covered : (old added : List (List ℕ)) (g : ℕ) → g < length (with_names old added) → (g < length old) ⊎ Contains (map (number (with_names old added)) added) g
+pub covered : (old added : List (List ℕ)) (g : ℕ) → g < length (with_names old added)
+    → (g < length old) ⊎ Contains (map (number (with_names old added)) added) g
 covered old [] g h = inl h
 covered old (n ∷ added) g h = elim (covered (with_name old n) added g h) [
   | inl l ↦ elim (brought old n g l) [
     | inl k ↦ inl k
-    | inr k ↦ inr (0, omega arith, numbers_stay (with_name old n) (with_names (with_name old n) added) n (names_stay (with_name old n) added) (omega (arith, k.0, k.1)) ∙ k.0)
+    | inr k ↦ inr (
+      0,
+      omega arith,
+      numbers_stay (with_name old n) (with_names (with_name old n) added) n (names_stay (with_name old n) added) (omega (arith, k.0, k.1)) ∙ k.0,
+    )
   ]
   | inr c ↦ inr (suc c.0, omega (arith, c.1), c.2)
 ]

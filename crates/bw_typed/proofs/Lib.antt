@@ -5,3 +5,11 @@ pub mod Props
 pub mod Services
 pub mod Short
 pub mod ShortServices
+pub mod ShortReadable
+pub mod ShortTables
+pub mod OneKind
+pub mod Named
+pub mod Apart
+pub mod Earlier
+pub mod ShortFields
+pub mod Spelled

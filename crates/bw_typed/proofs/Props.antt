@@ -1,16 +1,18 @@
 -- What is so in at most one way.
-use Rattle.std.proofs.Common.{◌≡◌, ℕ, Bool, List, [], ◌∷◌, refl}
+use Rattle.std.proofs.Common.{List, [], ◌∷◌}
 use Rattle.std.proofs.Math.Bool.{Bool-set}
 use Rattle.std.specs.Coded.{le_prop}
 use Rattle.bw_lang.specs.declared.service.Literal.{Literal}
 use Rattle.bw_lang.specs.declared.service.Literal.TheVariants as literals
+use Rattle.bw_lang.specs.declared.service.Session.{Session}
+use Rattle.bw_lang.specs.declared.service.Shared.{Shared}
 use Rattle.bw_lang.specs.declared.stmt.Receive.{Receive}
 use Rattle.bw_lang.specs.Code.{Code, done, declare, assign, if_then, if_else, while_loop, block, for_each, show, exit}
-use Rattle.bw_lang.specs.Keywords.{is_keyword}
 use Rattle.bw_lang.specs.Levels.{IsSome, IsWritable, Levelled, AreLevelled}
 use Rattle.bw_lang.specs.Spelling.{HaveTargets, IsCode}
 use Rattle.bw_lang.specs.Term.{Term, int, truth, string, name, paren, not, neg, binary, call, plug, nothing, Fillings, no_more, filling}
 use Rattle.std.specs.Prelude.{ℤ, pos, negsuc}
+use Rattle.bw_typed.specs.ShortNames.{HasShortNames, HaveShortNames, CodeHasShortNames, NamesShort, IsShortShared, IsShortSession}
 use Rattle.bw_typed.specs.ShortStrings.{HasShort, HaveShort, CodeHasShort, IsShortLiteral}
 
 writable_prop : (n : ℤ) → IsProp (IsWritable n)
@@ -92,3 +94,47 @@ short_literal_prop (literals.Int n) = hlevel le_prop
 short_literal_prop (literals.Bool b) = hlevel le_prop
 short_literal_prop (literals.Str s) = hlevel le_prop
 short_literal_prop (literals.Tmpl w) = hlevel le_prop
+
+-- ---- short names
+
+mutual
+  has_names_prop : (e : Term) → IsProp (HasShortNames e)
+  has_names_prop (int n) = hlevel le_prop
+  has_names_prop (truth b) = hlevel le_prop
+  has_names_prop (string s) = hlevel le_prop
+  has_names_prop (name w) = hlevel le_prop
+  has_names_prop (paren e) = has_names_prop e
+  has_names_prop (not e) = has_names_prop e
+  has_names_prop (neg e) = has_names_prop e
+  has_names_prop (binary op l r) = hlevel (has_names_prop l, has_names_prop r)
+  has_names_prop (call f e) = has_names_prop e
+  has_names_prop (plug b ps) = hlevel (has_names_prop b, have_names_prop ps)
+  has_names_prop nothing = hlevel le_prop
+
+  have_names_prop : (ps : Fillings) → IsProp (HaveShortNames ps)
+  have_names_prop no_more = hlevel le_prop
+  have_names_prop (filling w e ps) = hlevel (le_prop, has_names_prop e, have_names_prop ps)
+
+names_prop : (c : Code) → IsProp (CodeHasShortNames c)
+names_prop done = hlevel le_prop
+names_prop (declare t w e rest) = hlevel (le_prop, has_names_prop e, names_prop rest)
+names_prop (assign w e rest) = hlevel (le_prop, has_names_prop e, names_prop rest)
+names_prop (if_then t y rest) = hlevel (has_names_prop t, names_prop y, names_prop rest)
+names_prop (if_else t y n rest) = hlevel (has_names_prop t, names_prop y, names_prop n, names_prop rest)
+names_prop (while_loop t b rest) = hlevel (has_names_prop t, names_prop b, names_prop rest)
+names_prop (block b rest) = hlevel (names_prop b, names_prop rest)
+names_prop (for_each w e b rest) = hlevel (le_prop, has_names_prop e, names_prop b, names_prop rest)
+names_prop (show p rs rest) = hlevel (le_prop, has_names_prop p, names_prop rest)
+names_prop (exit p rest) = hlevel (has_names_prop p, names_prop rest)
+
+literal_names_prop : (l : Literal) → IsProp (NamesShort l)
+literal_names_prop (literals.Int n) = hlevel le_prop
+literal_names_prop (literals.Bool b) = hlevel le_prop
+literal_names_prop (literals.Str s) = hlevel le_prop
+literal_names_prop (literals.Tmpl w) = hlevel le_prop
+
+pub short_shared_prop : (v : Shared) → IsProp (IsShortShared v)
+short_shared_prop v = hlevel (le_prop, literal_names_prop v.init)
+
+pub short_session_prop : (x : Session) → IsProp (IsShortSession x)
+short_session_prop x = hlevel (le_prop, names_prop x.body)

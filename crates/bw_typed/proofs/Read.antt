@@ -1,5 +1,5 @@
 -- What every declaration is that was read, and every place of the table of gaps.
-use Rattle.std.proofs.Common.{◌≡◌, ℕ, ◌<◌, ◌≤◌, ◌⊎◌, inl, inr, List, [], ◌∷◌, ◌++◌, map, length, refl, ap, sym, subst, ◌∙◌, arith}
+use Rattle.std.proofs.Common.{ℕ, ◌<◌, ◌≤◌, ◌⊎◌, inl, inr, List, [], ◌∷◌, map, length, ap, sym, subst, ◌∙◌, arith}
 use Rattle.std.specs.List.{All, Contains}
 use Rattle.std.proofs.lemmas.List.{map-append, length-append}
 use Rattle.std.proofs.lemmas.List.Elements.{All-cons, All-nil, All-weaker, Contains-append_left, Contains-append_right}
@@ -8,10 +8,9 @@ use Rattle.bw_lang.specs.declared.declaration.Declaration.TheVariants as declara
 use Rattle.bw_lang.specs.declared.declaration.Draft.{Draft}
 use Rattle.bw_lang.specs.declared.declaration.Draft.TheVariants as drafts
 use Rattle.bw_lang.specs.declared.service.Template.{Template}
-use Rattle.bw_lang.specs.declared.stmt.Kind.{Kind}
 use Rattle.bw_lang.specs.Drafts.{IsFormed, AreFormed, IsShareable}
 use Rattle.bw_lang.specs.Measures.{nest}
-use Rattle.bw_lang.specs.Names.{number, with_names, Extends}
+use Rattle.bw_lang.specs.Names.{number, Extends}
 use Rattle.bw_lang.specs.PieceGaps.{gap_names}
 use Rattle.bw_lang.specs.Reads.{IsRead, AreRead}
 use Rattle.bw_lang.specs.Sorted.{templates_of}
@@ -36,7 +35,8 @@ grows before (drafts.Session s) (declarations.Session t) after h = subst (Extend
 grows before draft d after h = absurd h
 
 sound_here : (before : List (List ℕ)) (draft : Draft) (d : Declaration) (after : List (List ℕ)) → IsFormed draft → IsRead before draft d after → IsSound after d
-sound_here before (drafts.Template n i) (declarations.Template t) after f h = (h.1.read.nested, gaps_inside before after t.items h.1.read.pieces h.1.names h.1.read.reads)
+sound_here before (drafts.Template n i) (declarations.Template t) after f h =
+    (h.1.read.nested, gaps_inside before after t.items h.1.read.pieces h.1.names h.1.read.reads)
 sound_here before (drafts.Shared k n i) (declarations.Shared v) after f h = λ e. f.0 (sym (ap (λ v. v.kind) h.0) ∙ e)
 sound_here before (drafts.Session s) (declarations.Session t) after f h = subst (λ x. IsCode x.body) (sym h.0) f.1
 sound_here before draft d after f h = absurd h
@@ -78,7 +78,8 @@ in_template t ts g c =
     (Contains-append_left (numbers (gap_uses t.items)) (numbers (template_uses ts)) g c)
 
 -- a place behind one declaration was there, or is that of a gap in it
-place_here : (before : List (List ℕ)) (draft : Draft) (d : Declaration) (after : List (List ℕ)) (rs : List Declaration) (g : ℕ) → IsRead before draft d after → g < length after
+place_here : (before : List (List ℕ)) (draft : Draft) (d : Declaration) (after : List (List ℕ)) (rs : List Declaration) (g : ℕ)
+    → IsRead before draft d after → g < length after
     → (g < length before) ⊎ Stands (templates_of (d ∷ rs)) g
 place_here before (drafts.Template n i) (declarations.Template t) after rs g h l =
     let e = h.1.names in let ns = gap_names h.1.read.pieces in
@@ -96,7 +97,8 @@ later_stands (declarations.Template t) rs g c = more_templates t (templates_of r
 later_stands (declarations.Shared v) rs g c = c
 later_stands (declarations.Session s) rs g c = c
 
-pub each_stands : (before : List (List ℕ)) (ds : List Draft) (rs : List Declaration) (after : List (List ℕ)) (g : ℕ) → AreRead before ds rs after → g < length after
+pub each_stands : (before : List (List ℕ)) (ds : List Draft) (rs : List Declaration) (after : List (List ℕ)) (g : ℕ) → AreRead before ds rs after
+    → g < length after
     → (g < length before) ⊎ Stands (templates_of rs) g
 each_stands before [] [] after g h l = inl (subst (λ table. g < length table) h l)
 each_stands before [] (r ∷ rs) after g h l = absurd h

@@ -1,6 +1,6 @@
 -- What every service is that was read.
-use Rattle.std.proofs.Common.{◌≡◌, ℕ, ◌<◌, ◌≤◌, ◌⊎◌, inl, inr, List, [], ◌∷◌, map, length, Some, refl, ap, sym, subst, ◌∙◌, arith}
-use Rattle.std.specs.List.{All, Contains}
+use Rattle.std.proofs.Common.{◌≡◌, ℕ, ◌<◌, ◌≤◌, inl, inr, List, [], length, Some, ap, sym, subst, arith}
+use Rattle.std.specs.List.{All}
 use Rattle.std.specs.Coded.{le_prop}
 use Rattle.std.proofs.Math.Logic.{∥∥₁_elim}
 use Rattle.bw_lang.specs.declared.declaration.Declaration.{Declaration}
@@ -13,14 +13,14 @@ use Rattle.bw_lang.specs.Drafts.{IsShareable}
 use Rattle.bw_lang.specs.Forest.{Forest}
 use Rattle.bw_lang.specs.Measures.{constant_weight, nest}
 use Rattle.bw_lang.specs.Reads.{Reads}
-use Rattle.bw_lang.specs.Sorted.{as_template, as_shared, as_session, templates_of, shared_of, sessions_of}
+use Rattle.bw_lang.specs.Sorted.{as_template, as_shared, as_session, templates_of}
 use Rattle.bw_lang.specs.Spelling.{IsCode}
 use Rattle.bw_lang.proofs.Small.{all_within, of_each}
 use Rattle.bw_types.proofs.Differing.{all_sorted}
-use Rattle.bw_types.specs.Gaps.{gap_uses, template_uses}
+use Rattle.bw_types.specs.Gaps.{gap_uses}
 use Rattle.bw_typed.specs.Formed.{BodiesAreCode, SharedAreNoLists}
 use Rattle.bw_typed.specs.Measured.{IsMeasured, TemplatesAreMeasured}
-use Rattle.bw_typed.specs.Numbered.{numbers, GapsAreNumbered, NumbersAreGaps}
+use Rattle.bw_typed.specs.Numbered.{GapsAreNumbered}
 use Rattle.bw_typed.proofs.Props.{code_prop}
 use Rattle.bw_typed.proofs.Read.{IsSound, Stands, all_sound, each_stands}
 
@@ -64,16 +64,20 @@ module _ (bytes : List ℕ) (s : Service) (r : Reads bytes s) where
   pub weights : All (λ t. constant_weight t.items ≤ 262144) s.templates
   weights =
       subst (All (λ (t : Template). constant_weight t.items ≤ 262144)) (sym (ap (λ (t : Service). t.templates) r.whole))
-      (of_each (λ n. n ≤ 262144) (λ (t : Template). constant_weight t.items) (templates_of r.declarations) (all_within s.name s.gaps r.declarations r.within).weights)
+      (of_each (λ n. n ≤ 262144) (λ (t : Template). constant_weight t.items) (templates_of r.declarations)
+      (all_within s.name s.gaps r.declarations r.within).weights)
 
   pub stands : (g : ℕ) → g < length s.gaps → Stands s.templates g
-  stands g l = subst (λ ts. Stands ts g) (sym (ap (λ (t : Service). t.templates) r.whole)) (elim (each_stands [] r.drafts r.declarations s.gaps g r.read l) [ inl k ↦ absurd (omega (arith, k)) | inr c ↦ c ])
+  stands g l =
+      subst (λ ts. Stands ts g) (sym (ap (λ (t : Service). t.templates) r.whole))
+      (elim (each_stands [] r.drafts r.declarations s.gaps g r.read l) [ inl k ↦ absurd (omega (arith, k)) | inr c ↦ c ])
 
 small : (items : Forest) → constant_weight items ≤ 262144 → nest items ≤ 64 → IsMeasured items
 small items w n = record { weight = w; nest = n; within = record { weight = omega (arith, w); depth = omega arith; nest = omega (arith, n) } }
 
 pub templates_are_measured : TemplatesAreMeasured
-templates_are_measured s h = λ i d l. small _ (∥∥₁_elim h le_prop (λ r. weights r.0 s r.1 i d l)) (∥∥₁_elim h le_prop (λ r. (templates_sound r.0 s r.1 i d l).0))
+templates_are_measured s h =
+    λ i d l. small _ (∥∥₁_elim h le_prop (λ r. weights r.0 s r.1 i d l)) (∥∥₁_elim h le_prop (λ r. (templates_sound r.0 s r.1 i d l).0))
 
 pub gaps_are_numbered : GapsAreNumbered
 gaps_are_numbered s h = λ i d l j e m. ∥∥₁_elim h le_prop (λ r. (templates_sound r.0 s r.1 i d l).1 j e m)

@@ -50,15 +50,23 @@ code_short done h = tt
 code_short (declare t w e rest) h = let a = both 16384 (term_lengths leaves.Text e) _ h in (term_short e a.0, code_short rest a.1)
 code_short (assign w e rest) h = let a = both 16384 (term_lengths leaves.Text e) _ h in (term_short e a.0, code_short rest a.1)
 code_short (if_then t y rest) h =
-    let a = both 16384 (term_lengths leaves.Text t) _ h in let b = both 16384 (code_lengths leaves.Text y) _ a.1 in (term_short t a.0, code_short y b.0, code_short rest b.1)
+    let a = both 16384 (term_lengths leaves.Text t) _ h in
+    let b = both 16384 (code_lengths leaves.Text y) _ a.1 in
+    (term_short t a.0, code_short y b.0, code_short rest b.1)
 code_short (if_else t y n rest) h =
-    let a = both 16384 (term_lengths leaves.Text t) _ h in let b = both 16384 (code_lengths leaves.Text y) _ a.1 in let c = both 16384 (code_lengths leaves.Text n) _ b.1 in
+    let a = both 16384 (term_lengths leaves.Text t) _ h in
+    let b = both 16384 (code_lengths leaves.Text y) _ a.1 in
+    let c = both 16384 (code_lengths leaves.Text n) _ b.1 in
     (term_short t a.0, code_short y b.0, code_short n c.0, code_short rest c.1)
 code_short (while_loop t y rest) h =
-    let a = both 16384 (term_lengths leaves.Text t) _ h in let b = both 16384 (code_lengths leaves.Text y) _ a.1 in (term_short t a.0, code_short y b.0, code_short rest b.1)
+    let a = both 16384 (term_lengths leaves.Text t) _ h in
+    let b = both 16384 (code_lengths leaves.Text y) _ a.1 in
+    (term_short t a.0, code_short y b.0, code_short rest b.1)
 code_short (block y rest) h = let a = both 16384 (code_lengths leaves.Text y) _ h in (code_short y a.0, code_short rest a.1)
 code_short (for_each w t y rest) h =
-    let a = both 16384 (term_lengths leaves.Text t) _ h in let b = both 16384 (code_lengths leaves.Text y) _ a.1 in (term_short t a.0, code_short y b.0, code_short rest b.1)
+    let a = both 16384 (term_lengths leaves.Text t) _ h in
+    let b = both 16384 (code_lengths leaves.Text y) _ a.1 in
+    (term_short t a.0, code_short y b.0, code_short rest b.1)
 code_short (show p rs rest) h =
     let a = both 16384 (term_lengths leaves.Text p) _ h in let b = both 16384 (receive_lengths leaves.Text rs) _ a.1 in (term_short p a.0, code_short rest b.1)
 code_short (exit p rest) h = let a = both 16384 (term_lengths leaves.Text p) _ h in (term_short p a.0, code_short rest a.1)
@@ -103,12 +111,18 @@ code_names (assign w e rest) h =
     let n = named w (term_lengths leaves.Name e ++ code_lengths leaves.Name rest) h in let a = both 64 (term_lengths leaves.Name e) _ n.1 in
     (n.0, term_names e a.0, code_names rest a.1)
 code_names (if_then t y rest) h =
-    let a = both 64 (term_lengths leaves.Name t) _ h in let b = both 64 (code_lengths leaves.Name y) _ a.1 in (term_names t a.0, code_names y b.0, code_names rest b.1)
+    let a = both 64 (term_lengths leaves.Name t) _ h in
+    let b = both 64 (code_lengths leaves.Name y) _ a.1 in
+    (term_names t a.0, code_names y b.0, code_names rest b.1)
 code_names (if_else t y n rest) h =
-    let a = both 64 (term_lengths leaves.Name t) _ h in let b = both 64 (code_lengths leaves.Name y) _ a.1 in let c = both 64 (code_lengths leaves.Name n) _ b.1 in
+    let a = both 64 (term_lengths leaves.Name t) _ h in
+    let b = both 64 (code_lengths leaves.Name y) _ a.1 in
+    let c = both 64 (code_lengths leaves.Name n) _ b.1 in
     (term_names t a.0, code_names y b.0, code_names n c.0, code_names rest c.1)
 code_names (while_loop t y rest) h =
-    let a = both 64 (term_lengths leaves.Name t) _ h in let b = both 64 (code_lengths leaves.Name y) _ a.1 in (term_names t a.0, code_names y b.0, code_names rest b.1)
+    let a = both 64 (term_lengths leaves.Name t) _ h in
+    let b = both 64 (code_lengths leaves.Name y) _ a.1 in
+    (term_names t a.0, code_names y b.0, code_names rest b.1)
 code_names (block y rest) h = let a = both 64 (code_lengths leaves.Name y) _ h in (code_names y a.0, code_names rest a.1)
 code_names (for_each w t y rest) h =
     let n = named w (term_lengths leaves.Name t ++ (code_lengths leaves.Name y ++ code_lengths leaves.Name rest)) h in

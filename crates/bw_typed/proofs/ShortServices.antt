@@ -1,6 +1,5 @@
 -- The strings and the names of a service that was read are short.
-use Rattle.std.proofs.Common.{◌≡◌, ℕ, ◌≤◌, List, [], ◌∷◌, ◌++◌, length, Some, ap, sym, subst}
-use Rattle.std.specs.Coded.{le_prop}
+use Rattle.std.proofs.Common.{◌≡◌, ℕ, ◌≤◌, List, [], length, Some, ap, sym, subst}
 use Rattle.std.specs.List.{All}
 use Rattle.std.proofs.Math.Logic.{∥∥₁_elim}
 use Rattle.bw_lang.specs.declared.declaration.Declaration.{Declaration}

@@ -3,3 +3,8 @@ pub mod Measured
 pub mod Numbered
 pub mod ShortNames
 pub mod ShortStrings
+pub mod Kinds
+pub mod Named
+pub mod Apart
+pub mod Earlier
+pub mod Strings

@@ -9,6 +9,7 @@ use Rattle.bw_lang.specs.declared.service.Shared.{Shared}
 use Rattle.bw_lang.specs.declared.stmt.Receive.{Receive}
 use Rattle.bw_lang.specs.Code.{Code, done, declare, assign, if_then, if_else, while_loop, block, for_each, show, exit}
 use Rattle.bw_lang.specs.Reads.{IsReadable}
+use Rattle.bw_types.specs.Fields.{field_names}
 use Rattle.bw_lang.specs.Term.{Term, int, truth, string, name, paren, not, neg, binary, call, plug, nothing, Fillings, no_more, filling}
 
 abbrev pub IsShortName : List ℕ → Type 0
@@ -72,3 +73,7 @@ pub record NamesAreShort (service : Service) : Type 0 where
 
 abbrev pub ReadableHasShortNames : Type 0
 ReadableHasShortNames = (service : Service) → ∥ IsReadable service ∥₁ → NamesAreShort service
+
+-- so it is with the names of its controls and the fields that its sessions receive
+abbrev pub FieldsAreShort : Type 0
+FieldsAreShort = (service : Service) → ∥ IsReadable service ∥₁ → All IsShortName (field_names service)
