@@ -13,3 +13,4 @@ pub mod Apart
 pub mod Earlier
 pub mod ShortFields
 pub mod Spelled
+pub mod Utf8

@@ -1,5 +1,5 @@
 -- What is so in at most one way.
-use Rattle.std.proofs.Common.{List, [], ◌∷◌}
+use Rattle.std.proofs.Common.{ℕ, List, [], ◌∷◌}
 use Rattle.std.proofs.Math.Bool.{Bool-set}
 use Rattle.std.specs.Coded.{le_prop}
 use Rattle.bw_lang.specs.declared.service.Literal.{Literal}
@@ -13,7 +13,7 @@ use Rattle.bw_lang.specs.Spelling.{HaveTargets, IsCode}
 use Rattle.bw_lang.specs.Term.{Term, int, truth, string, name, paren, not, neg, binary, call, plug, nothing, Fillings, no_more, filling}
 use Rattle.std.specs.Prelude.{ℤ, pos, negsuc}
 use Rattle.bw_typed.specs.ShortNames.{HasShortNames, HaveShortNames, CodeHasShortNames, NamesShort, IsShortShared, IsShortSession}
-use Rattle.bw_typed.specs.ShortStrings.{HasShort, HaveShort, CodeHasShort, IsShortLiteral}
+use Rattle.bw_typed.specs.Strings.{EachString, EachFilled, CodeStrings, LiteralString}
 
 writable_prop : (n : ℤ) → IsProp (IsWritable n)
 writable_prop (pos n) = hlevel le_prop
@@ -57,43 +57,44 @@ code_prop (for_each w e b rest) = hlevel (Bool-set, levelled_prop e, code_prop b
 code_prop (show p rs rest) = hlevel (levelled_prop p, targets_prop rs, code_prop rest)
 code_prop (exit p rest) = hlevel (levelled_prop p, code_prop rest)
 
--- ---- short strings
+-- ---- strings
 
-mutual
-  has_short_prop : (e : Term) → IsProp (HasShort e)
-  has_short_prop (int n) = hlevel le_prop
-  has_short_prop (truth b) = hlevel le_prop
-  has_short_prop (string s) = hlevel le_prop
-  has_short_prop (name w) = hlevel le_prop
-  has_short_prop (paren e) = has_short_prop e
-  has_short_prop (not e) = has_short_prop e
-  has_short_prop (neg e) = has_short_prop e
-  has_short_prop (binary op l r) = hlevel (has_short_prop l, has_short_prop r)
-  has_short_prop (call f e) = has_short_prop e
-  has_short_prop (plug b ps) = hlevel (has_short_prop b, have_short_prop ps)
-  has_short_prop nothing = hlevel le_prop
+module _ (P : List ℕ → Type 0) (p : (s : List ℕ) → IsProp (P s)) where
+  mutual
+    each_string_prop : (e : Term) → IsProp (EachString P e)
+    each_string_prop (int n) = hlevel le_prop
+    each_string_prop (truth b) = hlevel le_prop
+    each_string_prop (string s) = p s
+    each_string_prop (name w) = hlevel le_prop
+    each_string_prop (paren e) = each_string_prop e
+    each_string_prop (not e) = each_string_prop e
+    each_string_prop (neg e) = each_string_prop e
+    each_string_prop (binary op l r) = hlevel (each_string_prop l, each_string_prop r)
+    each_string_prop (call f e) = each_string_prop e
+    each_string_prop (plug b ps) = hlevel (each_string_prop b, each_filled_prop ps)
+    each_string_prop nothing = hlevel le_prop
 
-  have_short_prop : (ps : Fillings) → IsProp (HaveShort ps)
-  have_short_prop no_more = hlevel le_prop
-  have_short_prop (filling w e ps) = hlevel (has_short_prop e, have_short_prop ps)
+    each_filled_prop : (ps : Fillings) → IsProp (EachFilled P ps)
+    each_filled_prop no_more = hlevel le_prop
+    each_filled_prop (filling w e ps) = hlevel (each_string_prop e, each_filled_prop ps)
 
-pub short_prop : (c : Code) → IsProp (CodeHasShort c)
-short_prop done = hlevel le_prop
-short_prop (declare t w e rest) = hlevel (has_short_prop e, short_prop rest)
-short_prop (assign w e rest) = hlevel (has_short_prop e, short_prop rest)
-short_prop (if_then t y rest) = hlevel (has_short_prop t, short_prop y, short_prop rest)
-short_prop (if_else t y n rest) = hlevel (has_short_prop t, short_prop y, short_prop n, short_prop rest)
-short_prop (while_loop t b rest) = hlevel (has_short_prop t, short_prop b, short_prop rest)
-short_prop (block b rest) = hlevel (short_prop b, short_prop rest)
-short_prop (for_each w e b rest) = hlevel (has_short_prop e, short_prop b, short_prop rest)
-short_prop (show p rs rest) = hlevel (has_short_prop p, short_prop rest)
-short_prop (exit p rest) = hlevel (has_short_prop p, short_prop rest)
+  pub code_strings_prop : (c : Code) → IsProp (CodeStrings P c)
+  code_strings_prop done = hlevel le_prop
+  code_strings_prop (declare t w e rest) = hlevel (each_string_prop e, code_strings_prop rest)
+  code_strings_prop (assign w e rest) = hlevel (each_string_prop e, code_strings_prop rest)
+  code_strings_prop (if_then t y rest) = hlevel (each_string_prop t, code_strings_prop y, code_strings_prop rest)
+  code_strings_prop (if_else t y n rest) = hlevel (each_string_prop t, code_strings_prop y, code_strings_prop n, code_strings_prop rest)
+  code_strings_prop (while_loop t b rest) = hlevel (each_string_prop t, code_strings_prop b, code_strings_prop rest)
+  code_strings_prop (block b rest) = hlevel (code_strings_prop b, code_strings_prop rest)
+  code_strings_prop (for_each w e b rest) = hlevel (each_string_prop e, code_strings_prop b, code_strings_prop rest)
+  code_strings_prop (show page rs rest) = hlevel (each_string_prop page, code_strings_prop rest)
+  code_strings_prop (exit page rest) = hlevel (each_string_prop page, code_strings_prop rest)
 
-pub short_literal_prop : (l : Literal) → IsProp (IsShortLiteral l)
-short_literal_prop (literals.Int n) = hlevel le_prop
-short_literal_prop (literals.Bool b) = hlevel le_prop
-short_literal_prop (literals.Str s) = hlevel le_prop
-short_literal_prop (literals.Tmpl w) = hlevel le_prop
+  pub literal_string_prop : (l : Literal) → IsProp (LiteralString P l)
+  literal_string_prop (literals.Int n) = hlevel le_prop
+  literal_string_prop (literals.Bool b) = hlevel le_prop
+  literal_string_prop (literals.Str s) = p s
+  literal_string_prop (literals.Tmpl w) = hlevel le_prop
 
 -- ---- short names
 

@@ -16,15 +16,17 @@ use Rattle.bw_lang.specs.Reads.{IsRead, AreRead}
 use Rattle.bw_lang.specs.Sorted.{templates_of}
 use Rattle.bw_lang.specs.Spelling.{IsCode}
 use Rattle.bw_lang.proofs.TableLaws.{extends_refl, extends_trans, names_stay}
+use Rattle.bw_tmpl.specs.Markup.{IsMarkup}
+use Rattle.bw_tmpl.proofs.Made.{reads_markup}
 use Rattle.bw_types.specs.declared.fault.GapKind.{GapKind}
 use Rattle.bw_types.specs.Gaps.{gap_uses, template_uses}
 use Rattle.bw_typed.specs.Numbered.{numbers}
 use Rattle.bw_typed.proofs.Gaps.{all_gaps, gaps_inside, covered}
 
--- a template has few elements inside one another and gaps of this table, a shared variable is no list, and a session's
+-- a template is markup with few elements inside one another and gaps of this table, a shared variable is no list, and a session's
 -- body is code
 abbrev pub IsSound : List (List ℕ) → Declaration → Type 0
-IsSound table (declarations.Template t) = (nest t.items ≤ 64) × All (λ x. x.0 < length table) (gap_uses t.items)
+IsSound table (declarations.Template t) = (nest t.items ≤ 64) × All (λ x. x.0 < length table) (gap_uses t.items) × IsMarkup t.items
 IsSound table (declarations.Shared v) = IsShareable v.kind
 IsSound table (declarations.Session s) = IsCode s.body
 
@@ -36,14 +38,14 @@ grows before draft d after h = absurd h
 
 sound_here : (before : List (List ℕ)) (draft : Draft) (d : Declaration) (after : List (List ℕ)) → IsFormed draft → IsRead before draft d after → IsSound after d
 sound_here before (drafts.Template n i) (declarations.Template t) after f h =
-    (h.1.read.nested, gaps_inside before after t.items h.1.read.pieces h.1.names h.1.read.reads)
+    (h.1.read.nested, gaps_inside before after t.items h.1.read.pieces h.1.names h.1.read.reads, reads_markup after 64 i t.items h.1.read)
 sound_here before (drafts.Shared k n i) (declarations.Shared v) after f h = λ e. f.0 (sym (ap (λ v. v.kind) h.0) ∙ e)
 sound_here before (drafts.Session s) (declarations.Session t) after f h = subst (λ x. IsCode x.body) (sym h.0) f.1
 sound_here before draft d after f h = absurd h
 
 sound_later : (old new : List (List ℕ)) (d : Declaration) → Extends old new → IsSound old d → IsSound new d
 sound_later old new (declarations.Template t) e h =
-    (h.0, All-weaker (λ x. x.0 < length old) (λ x. x.0 < length new) (λ x l. longer x.0 l) (gap_uses t.items) h.1)
+    (h.0, All-weaker (λ x. x.0 < length old) (λ x. x.0 < length new) (λ x l. longer x.0 l) (gap_uses t.items) h.1, h.2)
   where
     longer : (g : ℕ) → g < length old → g < length new
     longer g l = omega (arith, l, ap length e.is, length-append old e.more)

@@ -16,9 +16,11 @@ use Rattle.bw_lang.specs.Reads.{Reads}
 use Rattle.bw_lang.specs.Sorted.{as_template, as_shared, as_session, templates_of}
 use Rattle.bw_lang.specs.Spelling.{IsCode}
 use Rattle.bw_lang.proofs.Small.{all_within, of_each}
+use Rattle.bw_tmpl.specs.Markup.{IsMarkup}
 use Rattle.bw_types.proofs.Differing.{all_sorted}
 use Rattle.bw_types.specs.Gaps.{gap_uses}
 use Rattle.bw_typed.specs.Formed.{BodiesAreCode, SharedAreNoLists}
+use Rattle.bw_typed.specs.Markup.{TemplatesAreMarkup}
 use Rattle.bw_typed.specs.Measured.{IsMeasured, TemplatesAreMeasured}
 use Rattle.bw_typed.specs.Numbered.{GapsAreNumbered}
 use Rattle.bw_typed.proofs.Props.{code_prop}
@@ -29,7 +31,7 @@ module _ (bytes : List ℕ) (s : Service) (r : Reads bytes s) where
   sound = (all_sound [] r.drafts r.declarations s.gaps r.drafted.formed r.read).0
 
   abbrev IsSoundTemplate : Template → Type 0
-  IsSoundTemplate t = (nest t.items ≤ 64) × All (λ x. x.0 < length s.gaps) (gap_uses t.items)
+  IsSoundTemplate t = (nest t.items ≤ 64) × All (λ x. x.0 < length s.gaps) (gap_uses t.items) × IsMarkup t.items
 
   template_sound : (d : Declaration) (t : Template) → as_template d ≡ Some t → IsSound s.gaps d → IsSoundTemplate t
   template_sound (declarations.Template u) t e h = let same : u ≡ t = cc in subst IsSoundTemplate same h
@@ -78,6 +80,9 @@ small items w n = record { weight = w; nest = n; within = record { weight = omeg
 pub templates_are_measured : TemplatesAreMeasured
 templates_are_measured s h =
     λ i d l. small _ (∥∥₁_elim h le_prop (λ r. weights r.0 s r.1 i d l)) (∥∥₁_elim h le_prop (λ r. (templates_sound r.0 s r.1 i d l).0))
+
+pub templates_are_markup : TemplatesAreMarkup
+templates_are_markup bytes s r = λ i d l. (templates_sound bytes s r i d l).2
 
 pub gaps_are_numbered : GapsAreNumbered
 gaps_are_numbered s h = λ i d l j e m. ∥∥₁_elim h le_prop (λ r. (templates_sound r.0 s r.1 i d l).1 j e m)

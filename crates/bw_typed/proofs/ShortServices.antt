@@ -1,6 +1,7 @@
 -- The strings and the names of a service that was read are short.
 use Rattle.std.proofs.Common.{◌≡◌, ℕ, ◌≤◌, List, [], length, Some, ap, sym, subst}
 use Rattle.std.specs.List.{All}
+use Rattle.std.specs.Coded.{le_prop}
 use Rattle.std.proofs.Math.Logic.{∥∥₁_elim}
 use Rattle.bw_lang.specs.declared.declaration.Declaration.{Declaration}
 use Rattle.bw_lang.specs.declared.declaration.Declaration.TheVariants as declarations
@@ -16,8 +17,8 @@ use Rattle.bw_lang.specs.Sorted.{as_shared, as_session}
 use Rattle.bw_lang.proofs.Small.{all_within}
 use Rattle.bw_types.proofs.Differing.{all_sorted}
 use Rattle.bw_types.proofs.Parts.{parts_of_all}
-use Rattle.bw_typed.specs.ShortStrings.{CodeHasShort, IsShortLiteral, SessionsHaveShort, SharedBeginShort}
-use Rattle.bw_typed.proofs.Props.{short_prop, short_literal_prop}
+use Rattle.bw_typed.specs.ShortStrings.{IsShort, CodeHasShort, IsShortLiteral, SessionsHaveShort, SharedBeginShort}
+use Rattle.bw_typed.proofs.Props.{code_strings_prop, literal_string_prop}
 use Rattle.bw_typed.proofs.Short.{AreMost, this, code_short}
 
 module _ (bytes : List ℕ) (s : Service) (r : Reads bytes s) where
@@ -55,7 +56,7 @@ module _ (bytes : List ℕ) (s : Service) (r : Reads bytes s) where
       (all_sorted as_shared HasStrings (λ (v : Shared). IsShortLiteral v.init) shared_short r.declarations strings)
 
 pub sessions_have_short : SessionsHaveShort
-sessions_have_short s h = λ i d l. ∥∥₁_elim h (short_prop _) (λ r. sessions_short r.0 s r.1 i d l)
+sessions_have_short s h = λ i d l. ∥∥₁_elim h (code_strings_prop IsShort (λ v. hlevel le_prop) _) (λ r. sessions_short r.0 s r.1 i d l)
 
 pub shared_begin_short : SharedBeginShort
-shared_begin_short s h = λ i d l. ∥∥₁_elim h (short_literal_prop _) (λ r. shareds_short r.0 s r.1 i d l)
+shared_begin_short s h = λ i d l. ∥∥₁_elim h (literal_string_prop IsShort (λ v. hlevel le_prop) _) (λ r. shareds_short r.0 s r.1 i d l)

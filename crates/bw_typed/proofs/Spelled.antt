@@ -27,7 +27,7 @@ use Rattle.bw_typed.specs.Strings.{EachString, EachFilled, CodeStrings, LiteralS
 
 module _ (P : List ℕ → Type 0) where
   -- the lexeme says no string, or one that is so
-  abbrev Says : Lexeme → Type 0
+  abbrev pub Says : Lexeme → Type 0
   Says (lex.Str s) = P s
   Says l = Unit {0}
 
@@ -138,12 +138,12 @@ module _ (P : List ℕ → Type 0) where
         let all : AllSay (spell_service s.name r.drafts) = subst AllSay r.drafted.spelled (by_recursion r.drafted.lexemes say) in
         spelled_drafts [] r.drafts r.declarations s.gaps (lex.Sign (codes "}") ∷ []) r.read all.1.1.1
 
-    sessions_strings : All (λ x. CodeStrings P x.body) s.sessions
+    pub sessions_strings : All (λ x. CodeStrings P x.body) s.sessions
     sessions_strings =
         subst (All (λ (x : Session). CodeStrings P x.body)) (sym (ap (λ (t : Service). t.sessions) r.whole))
         (all_sorted as_session DeclaredStrings (λ (x : Session). CodeStrings P x.body) session_strings r.declarations declared_strings)
 
-    shareds_strings : All (λ v. LiteralString P v.init) s.shared
+    pub shareds_strings : All (λ v. LiteralString P v.init) s.shared
     shareds_strings =
         subst (All (λ (v : Shared). LiteralString P v.init)) (sym (ap (λ (t : Service). t.shared) r.whole))
         (all_sorted as_shared DeclaredStrings (λ (v : Shared). LiteralString P v.init) shared_strings r.declarations declared_strings)

@@ -4,6 +4,7 @@ pub mod Numbered
 pub mod ShortNames
 pub mod ShortStrings
 pub mod Kinds
+pub mod Markup
 pub mod Named
 pub mod Apart
 pub mod Earlier

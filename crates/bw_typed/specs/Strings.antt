@@ -1,12 +1,13 @@
 -- The strings that stand in a service, and the tokens that say them.
-use Rattle.std.specs.Prelude.{ℕ, List}
+use Rattle.std.specs.Prelude.{◌≡◌, ℕ, true, List}
 use Rattle.std.specs.List.{All, Contains}
+use Rattle.std.specs.Str.{is_utf8}
 use Rattle.bw_lang.specs.declared.service.Literal.{Literal}
 use Rattle.bw_lang.specs.declared.service.Literal.TheVariants as literals
 use Rattle.bw_lang.specs.declared.service.Service.{Service}
 use Rattle.bw_lang.specs.declared.token.Lexeme.TheVariants as lex
 use Rattle.bw_lang.specs.Code.{Code, done, declare, assign, if_then, if_else, while_loop, block, for_each, show, exit}
-use Rattle.bw_lang.specs.Reads.{Reads}
+use Rattle.bw_lang.specs.Reads.{Reads, IsReadable}
 use Rattle.bw_lang.specs.Term.{Term, int, truth, string, name, paren, not, neg, binary, call, plug, nothing, Fillings, no_more, filling}
 
 -- each string of the expression is so
@@ -55,3 +56,14 @@ SessionsSayTokens = (bytes : List ℕ) (service : Service) (r : Reads bytes serv
 abbrev pub SharedSayTokens : Type 0
 SharedSayTokens = (bytes : List ℕ) (service : Service) (r : Reads bytes service)
     → All (λ v. LiteralString (λ w. Contains r.drafted.lexemes (lex.Str w)) v.init) service.shared
+
+abbrev pub IsUtf8Text : List ℕ → Type 0
+IsUtf8Text s = is_utf8 s ≡ true
+
+-- each string of a session of a service that was read is UTF-8
+abbrev pub SessionsAreUtf8 : Type 0
+SessionsAreUtf8 = (service : Service) → ∥ IsReadable service ∥₁ → All (λ s. CodeStrings IsUtf8Text s.body) service.sessions
+
+-- and so is each string that a shared variable begins with
+abbrev pub SharedAreUtf8 : Type 0
+SharedAreUtf8 = (service : Service) → ∥ IsReadable service ∥₁ → All (λ v. LiteralString IsUtf8Text v.init) service.shared

@@ -1,6 +1,7 @@
 //! Laws of services that were read, and of services that are well typed. A law is the contract of an empty function.
 ghost use Rattle.bw_typed.specs.Apart.{LocalsAreApart};
 ghost use Rattle.bw_typed.specs.Earlier.{EarlierFieldSays, EarlierGapSays};
+ghost use Rattle.bw_typed.specs.Markup.{TemplatesAreMarkup};
 ghost use Rattle.bw_typed.specs.Measured.{TemplatesAreMeasured};
 ghost use Rattle.bw_typed.specs.Numbered.{GapsAreNumbered, NumbersAreGaps};
 ghost use Rattle.bw_typed.specs.Formed.{BodiesAreCode, SharedAreNoLists};
@@ -8,12 +9,18 @@ ghost use Rattle.bw_typed.specs.Kinds.{KindIsOne, KindsAgree, KindsAreMet, Sessi
 ghost use Rattle.bw_typed.specs.Named.{GapsHaveKinds, GapsHaveNumbers, PlugsAreKnown, SharedBegin};
 ghost use Rattle.bw_typed.specs.ShortNames.{FieldsAreShort, ReadableHasShortNames};
 ghost use Rattle.bw_typed.specs.ShortStrings.{SessionsHaveShort, SharedBeginShort};
-ghost use Rattle.bw_typed.specs.Strings.{SessionsSayTokens, SharedSayTokens};
+ghost use Rattle.bw_typed.specs.Strings.{SessionsAreUtf8, SessionsSayTokens, SharedAreUtf8, SharedSayTokens};
 
 /// The constant of each template is within the limits on documents, and is small: its weight is at most 262144, and at
 /// most 64 of its elements stand inside one another.
 pub fn templates_are_measured()
     ensures { TemplatesAreMeasured }
+{}
+
+/// The items of each template are markup: texts are UTF-8, names are names, no element names an attribute twice, and one
+/// that has no end tag has no items.
+pub fn templates_are_markup()
+    ensures { TemplatesAreMarkup }
 {}
 
 /// The gaps of a service's templates are those that its table names: each gap that stands in a template has a number of
@@ -34,6 +41,12 @@ pub fn bodies_are_code()
 pub fn strings_are_short()
     ensures sessions { SessionsHaveShort }
     ensures shared { SharedBeginShort }
+{}
+
+/// Each string that stands in a session, and each that a shared variable begins with, is UTF-8.
+pub fn strings_are_utf8()
+    ensures sessions { SessionsAreUtf8 }
+    ensures shared { SharedAreUtf8 }
 {}
 
 /// No name is longer than 64 bytes: neither the service's, nor one of its declarations, gaps and fields, nor one that
@@ -73,8 +86,8 @@ pub fn earlier_says()
     ensures field { EarlierFieldSays }
 {}
 
-/// Each string of a service that was read is one that a token of its bytes says. So what is known of the strings of
-/// tokens is known of these.
+/// Each string of a service that was read is one that a token of its bytes says: what is known of the strings of tokens
+/// is known of these.
 pub fn strings_are_tokens()
     ensures sessions { SessionsSayTokens }
     ensures shared { SharedSayTokens }
