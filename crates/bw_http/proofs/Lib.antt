@@ -7,3 +7,4 @@ pub mod Filling
 pub mod Spellings
 pub mod SpeltAscii
 pub mod Written
+pub mod OnePath

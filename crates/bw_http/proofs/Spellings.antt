@@ -175,7 +175,7 @@ no_more : (mark b : ℕ) (text : List ℕ) → HasNo mark (b ∷ text) → HasNo
 no_more mark b text none front rest e = none (b ∷ front) rest (ap (λ (t : List ℕ). b ∷ t) e)
 
 -- a text is cut at its first mark in one way
-one_cut : (mark : ℕ) (a z b y : List ℕ) → HasNo mark a → HasNo mark b → a ++ mark ∷ z ≡ b ++ mark ∷ y → (a ≡ b) × (z ≡ y)
+pub one_cut : (mark : ℕ) (a z b y : List ℕ) → HasNo mark a → HasNo mark b → a ++ mark ∷ z ≡ b ++ mark ∷ y → (a ≡ b) × (z ≡ y)
 one_cut mark [] z [] y p q e = (refl, ap (drop 1) e)
 one_cut mark [] z (c ∷ b) y p q e = absurd (q [] b (ap (λ (t : List ℕ). t ++ b) (ap (take 1) (sym e))))
 one_cut mark (c ∷ a) z [] y p q e = absurd (p [] a (ap (λ (t : List ℕ). t ++ a) (ap (take 1) e)))
@@ -184,7 +184,7 @@ one_cut mark (c ∷ a) z (d ∷ b) y p q e =
     (ap (λ (t : List ℕ). t ++ a) (ap (take 1) e) ∙ ap (λ (t : List ℕ). d ∷ t) rest.0, rest.1)
 
 -- a number has no dash, and a key no slash
-no_dash : (n : ℕ) → IsCount n → HasNo 45 (decimal n)
+pub no_dash : (n : ℕ) → IsCount n → HasNo 45 (decimal n)
 no_dash n count = has_no 45 (decimal n) (digits_no_dash (decimal n) (decimal_is_IsNumeral n (omega (arith, count.1))).0.1)
   where
     dash : (d : ℕ) → digit_value d < 10 → d ≡ 45 → ⊥
@@ -195,7 +195,7 @@ no_dash n count = has_no 45 (decimal n) (digits_no_dash (decimal n) (decimal_is_
     digits_no_dash (d ∷ ds) all zero within = λ e. absurd (dash d all.0 e)
     digits_no_dash (d ∷ ds) all (suc i) within = digits_no_dash ds all.1 i (omega (arith, within))
 
-no_slash : (key : ℕ) → HasNo 47 (hex_digits 16 key)
+pub no_slash : (key : ℕ) → HasNo 47 (hex_digits 16 key)
 no_slash key =
     has_no 47 (hex_digits 16 key) (λ i within.
     (key_digit _ (AllPass-from_list_all is_key_digit (hex_digits 16 key) (hex-all 16 key) i 0 within)).no_slash)

@@ -5,7 +5,7 @@ use Rattle.bw_http.specs.declared.request.Request.{Request}
 use Rattle.bw_http.specs.declared.request.ReadOutcome.{ReadOutcome}
 use Rattle.bw_http.specs.declared.request.ReadOutcome.TheVariants.{End, ReadFault, Memory}
 use Rattle.bw_http.specs.Heads.{HasNoHead, IsTooLong}
-use Rattle.bw_http.specs.Messages.{IsMessage, IsDenied}
+use Rattle.bw_http.specs.Messages.{IsMessage, IsDenied, IsRequest}
 use Rattle.bw_http.specs.Cuts.{Cut}
 
 -- a stream begins with one message at most
@@ -47,3 +47,7 @@ abbrev pub MemoryGoesOn : Type 0
 MemoryGoesOn =
     (stream : List ℕ) (q : Request) (rest after : List ℕ)
     → Cut stream (Err Memory) rest → Cut stream (Ok q) after → rest ≡ after
+
+-- a head and a body send one request
+abbrev pub OneRequest : Type 0
+OneRequest = (h : RequestHead) (body : List ℕ) (q r : Request) → IsRequest h body q → IsRequest h body r → q ≡ r

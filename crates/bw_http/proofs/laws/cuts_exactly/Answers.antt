@@ -1,5 +1,6 @@
 use Rattle.bw_http.proofs.Streams.{message_unique, denied_exact, message_exact, end_exact}
+use Rattle.bw_http.proofs.OnePath.{one_request}
 use Rattle.bw_http.proofs.laws.cuts_exactly.Goals as goal
 
 pub returns : goal.returns
-returns c = record { one = message_unique; refused = denied_exact; read = message_exact; end = end_exact }
+returns c = record { one = message_unique; request = one_request; refused = denied_exact; read = message_exact; end = end_exact }
