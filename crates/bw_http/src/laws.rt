@@ -1,8 +1,9 @@
 //! Laws of cuts. A law is the contract of an empty function.
 ghost use Rattle.bw_http.specs.Laws.{OneMessage, OneRequest, RefusesExactly, ReadsExactly, EndsExactly, StaysRefused, StaysTooLong, MemoryGoesOn};
 
-/// A stream has one first message at most, which sends one request, and what is due comes: a head that a test refuses comes as that refusal, a
-/// whole message as its request or as want of memory, an empty stream as its end. Only a failed read comes before.
+/// A stream has one first message at most, which sends one request, and what is due comes: a head that a test refuses
+/// comes as that refusal, a whole message as its request or as want of memory, an empty stream as its end. Only a failed
+/// read comes before.
 pub fn cuts_exactly()
     ensures one { OneMessage }
     ensures request { OneRequest }
