@@ -4,7 +4,7 @@ ghost use Rattle.bw_http.specs.Replies.{IsReply};
 
 use crate::fault::Fault;
 use bw_http::{Allow, Reply, write_reply};
-use bw_lang::{FieldNames, Name, Text, TurnFault};
+use bw_lang::{FieldNames, NameTable, Text, TurnFault};
 use bw_out::MemSink;
 use bw_page::Sheet;
 use std::alloc::Global;
@@ -15,7 +15,11 @@ pub fn written(alloc: Global, kind: &str) -> Result<String, Fault> {
     if kind == "lacking" {
         write_lacking(alloc, &mut sink)?;
     } else {
-        write_reply(reply(alloc, kind)?, &FieldNames::new(alloc), &mut sink)?;
+        write_reply(
+            reply(alloc, kind)?,
+            &FieldNames::of(NameTable::new(alloc)),
+            &mut sink,
+        )?;
     }
     let text = String::from_utf8_lossy(alloc, sink.bytes())?;
     let lines = text.replace(alloc, "\r\n", "|")?;
@@ -24,9 +28,10 @@ pub fn written(alloc: Global, kind: &str) -> Result<String, Fault> {
 
 /// Writes the reply to a form that lacks a field whose name has the ends of lines.
 fn write_lacking(alloc: Global, sink: &mut MemSink<'_>) -> Result<(), Fault> {
-    let mut fields = FieldNames::new(alloc);
-    let field = fields.add(&Name::of(alloc, "a\r\nb\n")?)?;
-    Ok(write_reply(Reply::Lacking(field), &fields, sink)?)
+    let mut names = NameTable::new(alloc);
+    names.add("a\r\nb\n")?;
+    let fields = FieldNames::of(names);
+    Ok(write_reply(Reply::Lacking(fields.number("a\r\nb\n")), &fields, sink)?)
 }
 
 /// The reply of this kind, none of which names a field.
