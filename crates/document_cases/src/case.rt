@@ -30,15 +30,24 @@ pub struct Case<'a> {
 }
 
 impl<'a> Case<'a> {
-    /// The case of this name, before its first step.
-    pub fn new(alloc: Global, name: &'a str) -> Case<'a> {
+    /// A case without a name, before its first step.
+    pub fn new(alloc: Global) -> Case<'a> {
         Case {
-            name,
+            name: "",
             typed: None,
             documents: Vec::new(alloc),
             results: String::new(alloc),
             is_over: false,
         }
+    }
+
+    /// Begins the case of this name, with nothing of the last one.
+    pub fn begin(&mut self, name: &'a str) {
+        self.name = name;
+        self.typed = None;
+        self.documents.clear();
+        self.results.clear();
+        self.is_over = false;
     }
 
     pub fn name(&self) -> &str {
@@ -51,10 +60,11 @@ impl<'a> Case<'a> {
     }
 
     /// Takes a step, unless the case is over.
-    pub fn step(&mut self, alloc: Global, line: &'a str) -> Result<(), Fault> {
+    pub fn step(&mut self, line: &'a str) -> Result<(), Fault> {
         if self.is_over {
             return Ok(());
         }
+        let alloc = *self.results.allocator();
         let (verb, words) = cut(line);
         let (name, rest) = cut(words);
         match verb {

@@ -45,28 +45,36 @@ fn main(rt: HostRuntime) -> ExitCode {
 
 /// Tries the cases of the file, and prints a line for each.
 fn try_file<R: Files + AllocGlobal + Print>(rt: &R) -> Result<(), Fault> {
-    let alloc = rt.alloc();
     let file = fs::read_to_string(rt, FILE_NAME)?;
-    let mut case: Option<Case> = None;
-    for line in file.lines() {
-        let line = line.trim();
-        if line.is_empty() || line.starts_with('#') {
-            continue;
-        }
-        if let Some(name) = line.strip_prefix("case ") {
-            print_case(rt, &case)?;
-            case = Some(Case::new(alloc, name));
-        } else {
-            case.as_mut().ok_or(Fault::Malformed)?.step(alloc, line)?;
-        }
-    }
-    print_case(rt, &case)
+    let mut case = Case::new(rt.alloc());
+    try_lines(rt, &file, &mut case)
 }
 
-/// Prints the line of a case that is over.
-fn print_case<R: Print>(rt: &R, case: &Option<Case<'_>>) -> Result<(), Fault> {
-    if let Some(case) = case {
-        let name = case.name();
+/// Takes the lines of the file, and prints a line for each case.
+fn try_lines<'a, R: Print>(rt: &R, file: &'a str, case: &mut Case<'a>) -> Result<(), Fault> {
+    for line in file.lines() {
+        take_line(rt, case, line.trim())?;
+    }
+    print_case(rt, case)
+}
+
+/// Begins the next case, or takes a step of the one that was begun last.
+fn take_line<'a, R: Print>(rt: &R, case: &mut Case<'a>, line: &'a str) -> Result<(), Fault> {
+    if line.is_empty() || line.starts_with('#') {
+        return Ok(());
+    }
+    if let Some(name) = line.strip_prefix("case ") {
+        print_case(rt, case)?;
+        case.begin(name);
+        return Ok(());
+    }
+    case.step(line)
+}
+
+/// Prints the line of a case that is over. In front of the first case there is one without a name, which is not printed.
+fn print_case<R: Print>(rt: &R, case: &Case<'_>) -> Result<(), Fault> {
+    let name = case.name();
+    if !name.is_empty() {
         let results = case.results();
         println!(rt; "{name}: {results}")?;
     }
