@@ -174,7 +174,7 @@ fn write_number<W: Sink>(
 
 /// How many bytes a line of two parts has, its end among them.
 fn line_length(words: &[u8], ending: &[u8]) -> u64
-    requires { length words.now + length ending.now < 2 ^ 64 - 1 }
+    requires { length words.now + length ending.now < 2 ^ 64 - 2 }
     ensures { result ≡ length words.now + length ending.now + 1 }
 {
     words.len() as u64 + ending.len() as u64 + 1
