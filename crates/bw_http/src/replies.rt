@@ -1,5 +1,5 @@
 //! Replies, and how they are written.
-ghost use Rattle.std.specs.Prelude.{◌≡◌, ◌++◌, ◌<◌, ◌+◌, ◌^◌, [], length, map, codes, decimal, MatchOption};
+ghost use Rattle.std.specs.Prelude.{◌≡◌, ◌++◌, ◌<◌, ◌+◌, ◌-◌, ◌^◌, [], length, map, codes, decimal, MatchOption};
 ghost use Rattle.bw_out.specs.Sends.{Sends};
 ghost use Rattle.bw_lang.specs.declared.turn.TurnFault.TheVariants as faults;
 ghost use Rattle.bw_http.specs.Replies as spec;
@@ -172,6 +172,14 @@ fn write_number<W: Sink>(
     write_text(status, b"", words, digits.format(number).as_bytes(), sink)
 }
 
+/// How many bytes a line of two parts has, its end among them.
+fn line_length(words: &[u8], ending: &[u8]) -> u64
+    requires { length words.now + length ending.now < 2 ^ 64 - 2 }
+    ensures { result ≡ length words.now + length ending.now + 1 }
+{
+    words.len() as u64 + ending.len() as u64 + 1
+}
+
 /// Writes a reply in plain text: words, what follows them, and the end of the line.
 fn write_text<'a, W: Sink>(
     status: &'a [u8],
@@ -184,14 +192,8 @@ fn write_text<'a, W: Sink>(
     ensures { Sends W.Channel sink.old sink.new
         (message status.now text_type more.now ((words.now ++ ending.now) ++ codes "\n")) result }
 {
-    let length = words.len() + ending.len() + 1;
-    write_head(
-        status,
-        b"text/plain; charset=utf-8",
-        more,
-        length as u64,
-        sink,
-    )?;
+    let length = line_length(words, ending);
+    write_head(status, b"text/plain; charset=utf-8", more, length, sink)?;
     write_parts(sink, &[words, ending, b"\n"])
 }
 
@@ -219,12 +221,12 @@ fn write_name<W: Sink>(words: &[u8], name: &[u8], sink: &mut W) -> Result<(), Wr
     ensures { Sends W.Channel sink.old sink.new
         (plain (codes "422 Unprocessable Content") (words.now ++ map spec.shown name.now)) result }
 {
-    let length = words.len() + name.len() + 1;
+    let length = line_length(words, name);
     write_head(
         b"422 Unprocessable Content",
         b"text/plain; charset=utf-8",
         b"",
-        length as u64,
+        length,
         sink,
     )?;
     write_all(sink, words)?;
