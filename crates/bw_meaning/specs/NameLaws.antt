@@ -1,4 +1,5 @@
--- Laws of names with values: they are maps. So no meaning tells two orders apart, and what a block declares is gone behind it.
+-- Laws of names with values: expressions, weights and updates treat them as maps, and what a block declares is gone behind it.
+-- That a whole run of statements doesn't tell two orders apart is not stated here.
 use Rattle.std.specs.Prelude.{◌≡◌, ℕ, true, List, [], ◌∷◌, ◌++◌, if◌then◌else◌, IsPermutation, Some, None}
 use Rattle.std.specs.List.{list_any, IsDistinct}
 use Rattle.std.specs.Option.{option_map, option_or}
