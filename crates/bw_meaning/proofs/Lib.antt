@@ -1,4 +1,5 @@
 pub mod BehindLaw
+pub mod AnyOrder
 pub mod Blocks
 pub mod Costs
 pub mod ExecLaw
@@ -6,4 +7,5 @@ pub mod Good
 pub mod Loops
 pub mod Maps
 pub mod OneMore
+pub mod Reordered
 pub mod Seen

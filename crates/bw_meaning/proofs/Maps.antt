@@ -13,7 +13,7 @@ use Rattle.bw_lang.specs.Names.{same, beside}
 use Rattle.bw_meaning.specs.Values.{Value, Values, names_of, weight, replaced, without}
 use Rattle.bw_meaning.specs.NameLaws.{OrdersAgree, OrdersWeighTheSame, StoringIsOfOneName, DeclaringAddsOneName, LeavingTakesNames}
 
-exact : (x y : List ℕ) → same x y ≡ true → x ≡ y
+pub exact : (x y : List ℕ) → same x y ≡ true → x ≡ y
 exact x y e = same_text x y (sym e)
 
 -- ---- the order of names

@@ -25,7 +25,7 @@ if_alike false o p q e = e
 
 module _ (service : Service) (l m s t : Values) (locals : Agree l m) (shared : Agree s t) where
   mutual
-    eval_alike : (e : Term) (units : ℕ) → eval service l s e units ≡ eval service m t e units
+    pub eval_alike : (e : Term) (units : ℕ) → eval service l s e units ≡ eval service m t e units
     eval_alike (int n) units = refl
     eval_alike (truth b) units = refl
     eval_alike (string x) units = refl

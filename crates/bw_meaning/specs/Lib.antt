@@ -7,6 +7,7 @@ pub mod Laws
 pub mod NameLaws
 pub mod Numbers
 pub mod Operators
+pub mod Orders
 pub mod Pages
 pub mod Samples
 pub mod StatementExamples

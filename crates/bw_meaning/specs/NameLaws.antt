@@ -1,5 +1,5 @@
 -- Laws of names with values: expressions, weights and updates treat them as maps, and what a block declares is gone behind it.
--- That a whole run of statements doesn't tell two orders apart is not stated here.
+-- That statements and turns treat them so as well is stated in Orders.
 use Rattle.std.specs.Prelude.{◌≡◌, ℕ, true, List, [], ◌∷◌, ◌++◌, if◌then◌else◌, IsPermutation, Some, None}
 use Rattle.std.specs.List.{list_any, IsDistinct}
 use Rattle.std.specs.Option.{option_map, option_or}

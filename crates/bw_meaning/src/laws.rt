@@ -1,5 +1,6 @@
 //! Laws of the meaning. A law is the contract of an empty function.
 ghost use Rattle.bw_meaning.specs.NameLaws.{OrdersAgree, OrdersWeighTheSame, ExpressionsSeeNames, StoringIsOfOneName, DeclaringAddsOneName, LeavingTakesNames, BlocksLeave, AnsweredBlocksLeave};
+ghost use Rattle.bw_meaning.specs.Orders.{OrdersAreReordered, StatementsSeeNoOrder, TurnsSeeNoOrder, GoingOnSeesNoOrder};
 ghost use Rattle.bw_meaning.specs.Laws.{TurnGoesOn, GoingOnGoesOn, TurnCosts, GoingOnCosts, LoopsAgain};
 
 /// A turn over one more input is what stands behind the show at which the session waited, with that input alone, its
@@ -29,6 +30,16 @@ pub fn names_are_maps()
     ensures storing { StoringIsOfOneName }
     ensures declaring { DeclaringAddsOneName }
     ensures leaving { LeavingTakesNames }
+{}
+
+/// In which order names stand doesn't matter: statements, a session's turn and a session that goes on do the same over
+/// locals, shared variables and inputs that differ by the order of different names alone. Where no name stands twice
+/// that is any other order.
+pub fn no_order_is_seen()
+    ensures orders { OrdersAreReordered }
+    ensures statements { StatementsSeeNoOrder }
+    ensures turn { TurnsSeeNoOrder }
+    ensures going_on { GoingOnSeesNoOrder }
 {}
 
 /// The locals that a block declares are gone behind it, also where a session goes on from a show in the block.
