@@ -123,7 +123,8 @@ on_no_fault (Some f) u o o1 h = failed f u
 
 waited : (n : ℕ) (rs : List Receive) (d : Document) (l m s t : Values) (u : ℕ) (st st1 : State) (is js : List Input) → IsReordered l m → IsReordered s t →
     AreInputsAlike is js → AreOutcomesAlike
-    (wait n rs d (record { locals = l; shared = s; units = u; inputs = st.inputs }) is) (wait n rs d (record { locals = m; shared = t; units = u; inputs = st1.inputs }) js)
+    (wait n rs d (record { locals = l; shared = s; units = u; inputs = st.inputs }) is)
+    (wait n rs d (record { locals = m; shared = t; units = u; inputs = st1.inputs }) js)
 waited n rs d l m s t u st st1 _ _ hl hs no_input = shown n l m [] d s t u hl hs
 waited n rs d l m s t u st st1 _ _ hl hs (one_input form p q is js h k) =
     went _ _ (all_received rs form _ _ (states l m p q budget is js hl h k))
@@ -134,13 +135,15 @@ on_shown n around rs d _ _ (states l m s t u is js hl hs hi) =
     let st1 : State = record { locals = m; shared = t; units = u; inputs = js } in
     let test = λ (x y : ℕ). option_or (over 4194304 PageTooLong (page_length d))
         (option_or (over 1048576 SessionHeavy (x + around + d.measure.weight)) (over 8388608 SharedHeavy y)) in
-    let e : show_fault d l around s ≡ show_fault d m around t = ap (λ x. test x (weights s)) (weights_alike l m hl) ∙ ap (test (weights m)) (weights_alike s t hs) in
+    let e : show_fault d l around s ≡ show_fault d m around t =
+        ap (λ x. test x (weights s)) (weights_alike l m hl) ∙ ap (test (weights m)) (weights_alike s t hs) in
     subst (λ f. AreOutcomesAlike (shows n around rs d st) (unless_fault f u (wait n rs d st1 js))) e
     (on_no_fault (show_fault d l around s) u (wait n rs d st is) (wait n rs d st1 js) (waited n rs d l m s t u st st1 is js hl hs hi))
 
 on_exit : (d : Document) → Follow (exits d) (exits d)
 on_exit d _ _ (states l m s t u is js hl hs hi) =
-    let e : exit_fault d s ≡ exit_fault d t = ap (λ y. option_or (over 4194304 PageTooLong (page_length d)) (over 8388608 SharedHeavy y)) (weights_alike s t hs) in
+    let e : exit_fault d s ≡ exit_fault d t =
+        ap (λ y. option_or (over 4194304 PageTooLong (page_length d)) (over 8388608 SharedHeavy y)) (weights_alike s t hs) in
     subst (λ f. AreOutcomesAlike (unless_fault (exit_fault d s) u (Exited d s u)) (unless_fault f u (Exited d t u))) e
     (on_no_fault (exit_fault d s) u (Exited d s u) (Exited d t u) (exited d s t u hs))
 
@@ -164,7 +167,8 @@ on_each : (vs : List (List ℕ)) (w : List ℕ) (names : List (List ℕ)) (body 
 on_each [] w names body k = on_unit Went Went (λ st st1 h. went st st1 h)
 on_each (v ∷ vs) w names body k =
     let go = λ (st : State). then_do (leave names (add_rest vs (body vs (add_local w (text v) st)))) (each vs w names body) in
-    on_unit go go (λ st st1 h. on (leave names (add_rest vs (body vs (add_local w (text v) st)))) (leave names (add_rest vs (body vs (add_local w (text v) st1))))
+    on_unit go go (λ st st1 h.
+    on (leave names (add_rest vs (body vs (add_local w (text v) st)))) (leave names (add_rest vs (body vs (add_local w (text v) st1))))
     (each vs w names body) (each vs w names body)
     (left names _ _ (rest_added vs _ _ (k vs (add_local w (text v) st) (add_local w (text v) st1) (added w (text v) st st1 h))))
     (on_each vs w names body k))
