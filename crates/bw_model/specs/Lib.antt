@@ -1,0 +1,7 @@
+pub mod Answers
+pub mod Laws
+pub mod Received
+pub mod Runs
+pub mod Sessions
+pub mod Steps
+pub mod Talks

@@ -1,0 +1,27 @@
+//! Laws of the world. A law is the contract of an empty function.
+ghost use Rattle.bw_model.specs.Laws.{OthersChangeNothing, StepsAreShort, EmptyIsWorld, StepsKeepWorlds, SessionsAreAlone, RunsAgree};
+
+/// A request that is refused, spent or fails changes no session and no shared variable: each reply but a page leaves the
+/// world as it was.
+pub fn others_change_nothing()
+    ensures { OthersChangeNothing }
+{}
+
+/// A request takes 100,000 units at most.
+pub fn steps_are_short()
+    ensures { StepsAreShort }
+{}
+
+/// In each world that requests reach, no two live sessions have one number, and at most 1,000 are live.
+pub fn worlds_stay()
+    ensures empty { EmptyIsWorld }
+    ensures steps { StepsKeepWorlds }
+{}
+
+/// Sessions don't meet: what a session is answered depends on its own submissions and on the shared variables at its own
+/// requests alone. So two sessions that have come to the same are answered alike, but for numbers and keys, in any two
+/// runs that say the same to them.
+pub fn sessions_are_alone()
+    ensures own { SessionsAreAlone }
+    ensures alike { RunsAgree }
+{}
