@@ -1,12 +1,12 @@
 -- What a session is answered: by what it has come to, what it is sent, and the shared variables then. Neither numbers and
 -- keys of sessions nor other sessions stand here.
-use Rattle.std.specs.Prelude.{ℕ, suc, ◌==◌, if◌then◌else◌, List, [], ◌∷◌, ◌++◌, Option, Some, None}
+use Rattle.std.specs.Prelude.{ℕ, suc, ◌==◌, if◌then◌else◌, [], ◌∷◌, ◌++◌, Option, Some, None}
 use Rattle.bw_http.specs.declared.replies.Reply.{Reply}
 use Rattle.bw_http.specs.declared.replies.Reply.TheVariants as replies
 use Rattle.bw_http.specs.declared.request.Method.{Method}
-use Rattle.bw_http.specs.declared.request.Method.TheVariants.{Get, Post, Other}
+use Rattle.bw_http.specs.declared.request.Method.TheVariants.{Get, Post}
 use Rattle.bw_lang.specs.declared.service.Service.{Service}
-use Rattle.bw_meaning.specs.States.{Form, Input, Outcome, Went, Shown, Exited, Failed, cost}
+use Rattle.bw_meaning.specs.States.{Form, Outcome, Went, Shown, Exited, Failed, cost}
 use Rattle.bw_meaning.specs.Values.{Document, Values}
 use Rattle.bw_model.specs.Received.{receives_of, first_refusal}
 use Rattle.bw_model.specs.Sessions.{Talk, now, current}
@@ -64,9 +64,9 @@ takes service first talk form shared None =
 
 -- the session waits here: its page is sent again, or it takes a form
 abbrev pub waits : Service → ℕ → Talk → Method → Form → Values → Outcome → Answered
-waits service first talk Get form shared (Shown at locals rests d then units) =
+waits service first talk Get form shared (Shown at locals rests d after units) =
     record { answer = Shows d (current first talk); fate = IsUsed; cost = 0 }
-waits service first talk Post form shared (Shown at locals rests d then units) =
+waits service first talk Post form shared (Shown at locals rests d after units) =
     takes service first talk form shared (first_refusal service (receives_of service talk.session at) locals form)
 waits service first talk method form shared o = refuses replies.NoSuch
 

@@ -1,4 +1,5 @@
 pub mod Answers
+pub mod Examples
 pub mod Laws
 pub mod Received
 pub mod Runs

@@ -31,7 +31,7 @@ receives_at (exit p rest) n k = receives_at rest (n + 1) k
 
 -- what a show of a session receives
 abbrev pub receives_of : Service → ℕ → ℕ → List Receive
-receives_of service session show = receives_at (body_of service session) (first_number service session) show
+receives_of service session at = receives_at (body_of service session) (first_number service session) at
 
 -- the number of a field, which replies know it by: its place among the names of all fields
 abbrev pub number_of_field : Service → List ℕ → ℕ

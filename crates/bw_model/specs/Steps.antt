@@ -1,23 +1,21 @@
 -- One request is one step of the world.
-use Rattle.std.specs.Prelude.{ℕ, suc, nat_lt, ◌==◌, ◌&&◌, if◌then◌else◌, List, [], ◌∷◌, ◌++◌, codes, flat_map, take, position, Option, Some, None}
+use Rattle.std.specs.Prelude.{ℕ, suc, Bool, nat_lt, ◌==◌, ◌&&◌, if◌then◌else◌, List, [], ◌∷◌, ◌++◌, codes, flat_map, take, Option, Some, None}
 use Rattle.std.specs.Option.{option_map}
 use Rattle.bw_http.specs.declared.replies.Allow.TheVariants as methods
 use Rattle.bw_http.specs.declared.replies.Reply.{Reply}
 use Rattle.bw_http.specs.declared.replies.Reply.TheVariants as replies
 use Rattle.bw_http.specs.declared.request.Method.{Method}
-use Rattle.bw_http.specs.declared.request.Method.TheVariants.{Get, Post, Other}
+use Rattle.bw_http.specs.declared.request.Method.TheVariants.{Get, Other}
 use Rattle.bw_http.specs.declared.request.Path.{Path}
 use Rattle.bw_http.specs.declared.request.Path.TheVariants as paths
 use Rattle.bw_http.specs.declared.request.Request.{Request}
 use Rattle.bw_http.specs.Paths.{spelling}
 use Rattle.bw_lang.specs.declared.service.Service.{Service}
-use Rattle.bw_lang.specs.Names.{same}
 use Rattle.bw_lang.specs.Print.{print}
 use Rattle.bw_meaning.specs.States.{Form}
-use Rattle.bw_meaning.specs.Values.{Document, Values}
 use Rattle.bw_types.specs.Scopes.{session_of}
 use Rattle.bw_page.specs.Pages.{show_page, exit_page}
-use Rattle.bw_model.specs.Answers.{Answer, Shows, Ends, Says, Fate, Stays, IsUsed, GoesOn, Leaves, Answered, Said, turned, answered}
+use Rattle.bw_model.specs.Answers.{Answer, Shows, Ends, Says, Fate, Stays, IsUsed, GoesOn, Leaves, Answered, turned, answered}
 use Rattle.bw_model.specs.Sessions.{Started, Talk, Live, World, now}
 
 -- what a request comes to: the reply, the world afterwards, and the units that it took

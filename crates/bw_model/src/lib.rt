@@ -2,4 +2,5 @@
 //! stream of messages as one run.
 #![tactic(auto)]
 
+pub mod examples;
 pub mod laws;

@@ -1,0 +1,8 @@
+use Rattle.bw_model.proofs.laws.sessions_are_alone.Goals as goal
+use Rattle.bw_model.proofs.Alone.{sessions_are_alone, runs_agree}
+
+pub returns-clause-own : goal.returns-clause-own
+returns-clause-own c = sessions_are_alone
+
+pub returns-clause-alike : goal.returns-clause-alike
+returns-clause-alike c = runs_agree
