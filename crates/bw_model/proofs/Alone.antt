@@ -163,9 +163,11 @@ moved service number key w l Get form drawn (paths.Start name) h e =
 moved service number key w l Post form drawn (paths.Start name) h e = inl e
 moved service number key w l Other form drawn (paths.Start name) h e = inl e
 moved service number key w l Get form drawn (paths.Turn n k turn) h e =
-    by_turn service number key n k w l Get form turn (record { method = Get; form = form; turn = turn; shared = w.shared }) (number == n && key == k) h refl refl e
+    by_turn service number key n k w l Get form turn (record { method = Get; form = form; turn = turn; shared = w.shared })
+    (number == n && key == k) h refl refl e
 moved service number key w l Post form drawn (paths.Turn n k turn) h e =
-    by_turn service number key n k w l Post form turn (record { method = Post; form = form; turn = turn; shared = w.shared }) (number == n && key == k) h refl refl e
+    by_turn service number key n k w l Post form turn (record { method = Post; form = form; turn = turn; shared = w.shared })
+    (number == n && key == k) h refl refl e
 moved service number key w l Other form drawn (paths.Turn n k turn) h e =
     subst (Moves service number key w l w) (sym (no_said (number == n && key == k) None refl)) (inl e)
 

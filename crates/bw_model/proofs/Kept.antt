@@ -19,7 +19,8 @@ use Rattle.bw_model.proofs.Found.{Out, here, later, IsOut, no_session, session, 
 -- ---- by the path of a request
 
 -- what holds of refusals, of starts and of visits holds of each step
-pub by_path : (P : Step → Type 0) (service : Service) (w : World) (method : Method) (form : Form) (key : ℕ) (path : Path) → ((reply : Reply) → P (refuses w reply)) →
+pub by_path : (P : Step → Type 0) (service : Service) (w : World) (method : Method) (form : Form) (key : ℕ) (path : Path) →
+    ((reply : Reply) → P (refuses w reply)) →
     ((o : Option ℕ) → P (starts service w key o)) →
     ((m : Method) (turn number k : ℕ) → P (asks service w m form turn (taken_out number k w.live))) → P (on_path service w method form key path)
 by_path P service w method form key paths.Other r s a = r _
@@ -132,7 +133,8 @@ founded_world w key (GoesOn talk shared) h =
       few = short_taken 1000 (l ∷ w.live);
     }
 
-fated_world : (w : World) (number k : ℕ) (m : Live) (others : List Live) (fate : Fate) → Out number k w.live m others → IsWorld w → IsWorld (fated w m others fate)
+fated_world : (w : World) (number k : ℕ) (m : Live) (others : List Live) (fate : Fate) → Out number k w.live m others → IsWorld w →
+    IsWorld (fated w m others fate)
 fated_world w number k m others Stays o h = h
 fated_world w number k m others IsUsed o h =
     record { apart = out_apart w.next number k w.live m others o h.apart; few = omega (arith, out_length number k w.live m others o, h.few) }

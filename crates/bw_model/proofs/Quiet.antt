@@ -37,7 +37,8 @@ quiet_if : (b : Bool) (a c : Answered) → IsQuiet a → IsQuiet c → IsQuiet (
 quiet_if true a c h k = h
 quiet_if false a c h k = k
 
-takes_is_quiet : (service : Service) (first : ℕ) (talk : Talk) (form : Form) (shared : Values) (o : Option Reply) → IsQuiet (takes service first talk form shared o)
+takes_is_quiet : (service : Service) (first : ℕ) (talk : Talk) (form : Form) (shared : Values) (o : Option Reply) →
+    IsQuiet (takes service first talk form shared o)
 takes_is_quiet service first talk form shared (Some reply) = refused reply
 takes_is_quiet service first talk form shared None =
     let next = with_input talk form shared in

@@ -1,5 +1,5 @@
 -- A worked example of a session: it shows a list, receives one string, and exits with a row that holds it.
-use Rattle.std.specs.Prelude.{◌≡◌, ℕ, List, [], ◌∷◌, length, codes}
+use Rattle.std.specs.Prelude.{◌≡◌, ℕ, List, [], ◌∷◌, ◌++◌, length, codes}
 use Rattle.bw_http.specs.declared.replies.Allow.TheVariants as methods
 use Rattle.bw_http.specs.declared.replies.Reply.TheVariants as replies
 use Rattle.bw_http.specs.declared.request.Method.{Method}
@@ -47,8 +47,9 @@ pub record StartExamples : Type 0 where
   pub index : (asks Get paths.Index [] before).reply ≡ replies.Index (codes "go\n")
   pub no_session : (asks Get (paths.Start (codes "stay")) [] before).reply ≡ replies.NoSuch
   pub no_form_yet : (asks Post start [] before).reply ≡ replies.Method methods.Get
-  pub first_page : (asks Get start [] before).reply ≡ replies.Page (codes
-      "<html><head><title>Sample</title></head><body><form action=\"/s/1-000000000000002a/1\" method=\"post\"><ul></ul><p><input type=\"submit\" value=\"Continue\"/></p></form></body></html>")
+  pub first_page : (asks Get start [] before).reply ≡ replies.Page
+      (codes "<html><head><title>Sample</title></head><body><form action=\"/s/1-000000000000002a/1\" method=\"post\"><ul></ul>"
+      ++ codes "<p><input type=\"submit\" value=\"Continue\"/></p></form></body></html>")
   -- string x = ""; takes two units, show List two
   pub cost : (asks Get start [] before).cost ≡ 4
   pub one_lives : length waiting.live ≡ 1
