@@ -83,28 +83,53 @@ impl<'a> TemplateCase<'a> {
 
     /// What comes.
     fn got(&self, alloc: Global) -> Result<String, Fault> {
+        let open = self.open(alloc)?;
+        let closed = shown_closed(alloc, &self.text, self.most)?;
+        Ok(format!(in alloc; "{open}; closed {closed}")?)
+    }
+
+    /// What comes where gaps are allowed.
+    fn open(&self, alloc: Global) -> Result<String, Fault> {
         let mut names = GapNames::new(alloc);
-        let (items, left) = match read_template(alloc, &self.text, &mut names) {
-            Ok(items) => {
-                let tree = Tree { items };
-                (
-                    shown_items(alloc, &tree.items)?,
-                    shown_items(alloc, &tree.close()?.items)?,
-                )
-            }
-            Err(fault) => (shown_fault(alloc, fault)?, shown_fault(alloc, fault)?),
-        };
-        let closed = match read_closed(alloc, &self.text, self.most) {
-            Ok(items) => shown_items(alloc, &items)?,
-            Err(fault) => shown_fault(alloc, fault)?,
-        };
+        let (items, left) = shown_open(alloc, &self.text, &mut names)?;
+        let gaps = self.numbers(alloc, &names)?;
+        let count = names.len();
+        Ok(format!(in alloc; "{items}; {count} gaps{gaps}; left {left}")?)
+    }
+
+    /// The gaps that are wanted, with their numbers.
+    fn numbers(&self, alloc: Global, names: &GapNames) -> Result<String, AllocError> {
         let mut gaps = String::new(alloc);
         for name in self.gaps.split_whitespace() {
             let number = names.number(name).number();
             write!(gaps, " {name} {number}")?;
         }
-        let count = names.len();
-        Ok(format!(in alloc; "{items}; {count} gaps{gaps}; left {left}; closed {closed}")?)
+        Ok(gaps)
+    }
+}
+
+/// The items that the text reads as, and what is left of them without their gaps.
+fn shown_open(
+    alloc: Global,
+    text: &[u8],
+    names: &mut GapNames,
+) -> Result<(String, String), Fault> {
+    match read_template(alloc, text, names) {
+        Ok(items) => shown_both(alloc, Tree { items }),
+        Err(fault) => Ok((shown_fault(alloc, fault)?, shown_fault(alloc, fault)?)),
+    }
+}
+
+fn shown_both(alloc: Global, tree: Tree) -> Result<(String, String), Fault> {
+    let left = tree.close()?;
+    Ok((shown_items(alloc, &tree.items)?, shown_items(alloc, &left.items)?))
+}
+
+/// The items that the text reads as where no gap is allowed.
+fn shown_closed(alloc: Global, text: &[u8], most: u32) -> Result<String, AllocError> {
+    match read_closed(alloc, text, most) {
+        Ok(items) => shown_items(alloc, &items),
+        Err(fault) => shown_fault(alloc, fault),
     }
 }
 
