@@ -134,16 +134,16 @@ on_shown n around rs d _ _ (states l m s t u is js hl hs hi) =
     let st : State = record { locals = l; shared = s; units = u; inputs = is } in
     let st1 : State = record { locals = m; shared = t; units = u; inputs = js } in
     let test = λ (x y : ℕ). option_or (over 4194304 PageTooLong (page_length d))
-        (option_or (over 1048576 SessionHeavy (x + around + d.measure.weight)) (over 8388608 SharedHeavy y)) in
+    (option_or (over 1048576 SessionHeavy (x + around + d.measure.weight)) (over 8388608 SharedHeavy y)) in
     let e : show_fault d l around s ≡ show_fault d m around t =
-        ap (λ x. test x (weights s)) (weights_alike l m hl) ∙ ap (test (weights m)) (weights_alike s t hs) in
+    ap (λ x. test x (weights s)) (weights_alike l m hl) ∙ ap (test (weights m)) (weights_alike s t hs) in
     subst (λ f. AreOutcomesAlike (shows n around rs d st) (unless_fault f u (wait n rs d st1 js))) e
     (on_no_fault (show_fault d l around s) u (wait n rs d st is) (wait n rs d st1 js) (waited n rs d l m s t u st st1 is js hl hs hi))
 
 on_exit : (d : Document) → Follow (exits d) (exits d)
 on_exit d _ _ (states l m s t u is js hl hs hi) =
     let e : exit_fault d s ≡ exit_fault d t =
-        ap (λ y. option_or (over 4194304 PageTooLong (page_length d)) (over 8388608 SharedHeavy y)) (weights_alike s t hs) in
+    ap (λ y. option_or (over 4194304 PageTooLong (page_length d)) (over 8388608 SharedHeavy y)) (weights_alike s t hs) in
     subst (λ f. AreOutcomesAlike (unless_fault (exit_fault d s) u (Exited d s u)) (unless_fault f u (Exited d t u))) e
     (on_no_fault (exit_fault d s) u (Exited d s u) (Exited d t u) (exited d s t u hs))
 

@@ -236,11 +236,12 @@ own_longer service first (Some talk) (s ∷ xs) ys =
 pub runs_agree : RunsAgree
 runs_agree service w w1 number number1 key key1 l l1 asked asked1 h h1 same e e1 talks more longer =
     let saids = map (λ x. x.0) (conversation service number key w asked) in
-    let p = own_longer service w.first (Some l.talk) saids more in
-    (p.0,
-    sessions_are_alone service w1 number1 key1 l1 asked1 h1 e1
-    ∙ ap (own_answers service w1.first (Some l1.talk)) longer
-    ∙ ap (λ n. own_answers service n (Some l1.talk) (saids ++ more)) (sym same)
-    ∙ ap (λ t. own_answers service w.first (Some t) (saids ++ more)) (sym talks)
-    ∙ p.1
-    ∙ ap (λ xs. xs ++ p.0) (sym (sessions_are_alone service w number key l asked h e)))
+    let p = own_longer service w.first (Some l.talk) saids more in (
+      p.0,
+      sessions_are_alone service w1 number1 key1 l1 asked1 h1 e1
+          ∙ ap (own_answers service w1.first (Some l1.talk)) longer
+          ∙ ap (λ n. own_answers service n (Some l1.talk) (saids ++ more)) (sym same)
+          ∙ ap (λ t. own_answers service w.first (Some t) (saids ++ more)) (sym talks)
+          ∙ p.1
+          ∙ ap (λ xs. xs ++ p.0) (sym (sessions_are_alone service w number key l asked h e)),
+    )

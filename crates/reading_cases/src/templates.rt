@@ -109,11 +109,7 @@ impl<'a> TemplateCase<'a> {
 }
 
 /// The items that the text reads as, and what is left of them without their gaps.
-fn shown_open(
-    alloc: Global,
-    text: &[u8],
-    names: &mut GapNames,
-) -> Result<(String, String), Fault> {
+fn shown_open(alloc: Global, text: &[u8], names: &mut GapNames) -> Result<(String, String), Fault> {
     match read_template(alloc, text, names) {
         Ok(items) => shown_both(alloc, Tree { items }),
         Err(fault) => Ok((shown_fault(alloc, fault)?, shown_fault(alloc, fault)?)),
@@ -122,7 +118,10 @@ fn shown_open(
 
 fn shown_both(alloc: Global, tree: Tree) -> Result<(String, String), Fault> {
     let left = tree.close()?;
-    Ok((shown_items(alloc, &tree.items)?, shown_items(alloc, &left.items)?))
+    Ok((
+        shown_items(alloc, &tree.items)?,
+        shown_items(alloc, &left.items)?,
+    ))
 }
 
 /// The items that the text reads as where no gap is allowed.
