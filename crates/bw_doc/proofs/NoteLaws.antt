@@ -15,10 +15,9 @@ use Rattle.bw_lang.proofs.Counts.{elements_room, count_le-open_gaps}
 use Rattle.bw_lang.proofs.Forests.{forest_at_read, size_at_read}
 use Rattle.bw_doc.specs.declared.notes.Note.{Note}
 use Rattle.bw_doc.specs.declared.spots.Open.{Open}
-use Rattle.bw_doc.specs.declared.spots.Spot.{Spot}
 use Rattle.bw_doc.specs.Notes.{level, content_at, hole_at, value_notes, attr_notes, notes, all_noted, IsCounted, AreFew}
-use Rattle.bw_doc.specs.Spots.{nowhere, join, inside, once, times, closed, both, only, content, hole, holes, opened, at, IsTable, IsTableOf, added_at}
-use Rattle.bw_doc.proofs.SpotLaws.{spot, opened_as, counted, join_assoc, join_nowhere, nowhere_join, join_times, times_inside, times_once, both_assoc, closed_both, both_closed}
+use Rattle.bw_doc.specs.Spots.{nowhere, join, inside, once, times, both, only, content, hole, holes, opened, at, IsTableOf, added_at}
+use Rattle.bw_doc.proofs.SpotLaws.{spot, opened_as, counted, join_assoc, nowhere_join, join_times, times_inside, times_once, both_assoc, closed_both, both_closed}
 
 -- ---- the walk
 

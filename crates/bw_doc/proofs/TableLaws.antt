@@ -1,7 +1,8 @@
 -- Laws of tables of open gaps.
-use Rattle.std.proofs.Common.{◌≡◌, ℕ, zero, suc, ◌+◌, ◌<◌, ◌≤◌, Bool, true, false, ◌==◌, if◌then◌else◌, List, [], ◌∷◌, ◌++◌, length, refl, ap, sym, ◌∙◌, arith}
+use Rattle.std.proofs.Common.{◌≡◌, ◌≢◌, ℕ, zero, suc, ◌+◌, ◌<◌, ◌≤◌, Bool, true, false, ◌==◌, List, [], ◌∷◌, ◌++◌, length, refl, ap, sym, ◌∙◌, arith}
 use Rattle.std.proofs.Common.{length-append, length-take, take, get_or, eq-or-lt_of_le}
-use Rattle.std.proofs.lemmas.Bool.{cases_lt, eqb-true}
+use Rattle.std.proofs.lemmas.Bool.{cases_lt}
+use Rattle.std.proofs.lemmas.Bool.Decides.{eqb_tells}
 use Rattle.std.proofs.Math.ListN.{set}
 use borrow.Author.Count.{below_more}
 use mathlib.Core.Logic.{◌⊎◌, inl, inr}
@@ -28,6 +29,13 @@ at_old (x ∷ table) o (suc g) h = at_old table o g (omega (arith, h))
 at_new : (table : List Open) (o : Open) → at (table ++ o ∷ []) (length table) ≡ o
 at_new [] o = refl
 at_new (x ∷ table) o = at_new table o
+
+-- an entry more at the end that says nothing
+pub at_padded : (table : List Open) (g : ℕ) → at (table ++ closed ∷ []) g ≡ at table g
+at_padded [] zero = refl
+at_padded [] (suc g) = refl
+at_padded (x ∷ table) zero = refl
+at_padded (x ∷ table) (suc g) = at_padded table g
 
 pub no_table : (f : ℕ → Open) → IsFirst f 0 []
 no_table f = record { size = refl; below = λ g h. absurd (omega (arith, h)) }
@@ -107,17 +115,27 @@ at_is (y ∷ table) (suc n) x e h = at_is table n x e (omega (arith, h))
 
 -- ---- more that is open of one name
 
-at_set : (table : List Open) (g h : ℕ) (o : Open) → g < length table → at (set table g o) h ≡ (if g == h then o else at table h)
-at_set [] g h o k = absurd (omega (arith, k))
-at_set (x ∷ table) zero zero o k = refl
-at_set (x ∷ table) zero (suc h) o k = refl
-at_set (x ∷ table) (suc g) zero o k = refl
-at_set (x ∷ table) (suc g) (suc h) o k = at_set table g h o (omega (arith, k))
+at_set : (table : List Open) (g : ℕ) (o : Open) → g < length table → at (set table g o) g ≡ o
+at_set [] g o k = absurd (omega (arith, k))
+at_set (x ∷ table) zero o k = refl
+at_set (x ∷ table) (suc g) o k = at_set table g o (omega (arith, k))
+
+at_other : (table : List Open) (g h : ℕ) (o : Open) → g ≢ h → at (set table g o) h ≡ at table h
+at_other [] g h o n = refl
+at_other (x ∷ table) zero zero o n = absurd (n refl)
+at_other (x ∷ table) zero (suc h) o n = refl
+at_other (x ∷ table) (suc g) zero o n = refl
+at_other (x ∷ table) (suc g) (suc h) o n = at_other table g h o (λ e. n (ap suc e))
 
 pub table_added : (old reached new : List Open) (g : ℕ) (more : Open) → IsTableOf (at old) reached → g < length reached → new ≡ set reached g (both (at reached g) more) → IsTableOf (added_at g more old) new
-table_added old reached new g more alike room is h =
-    ap (λ t. at t h) is ∙ at_set reached g h (both (at reached g) more) room ∙ by_test (g == h) refl
+table_added old reached new g more alike room is h = ap (λ t. at t h) is ∙ by_case (eqb_tells g h)
   where
-    by_test : (b : Bool) → (g == h) ≡ b → (if b then both (at reached g) more else at reached h) ≡ both (at old h) (only b more)
-    by_test true p = ap (λ k. both (at reached k) more) (eqb-true g h p) ∙ ap (λ o. both o more) (alike h)
-    by_test false p = alike h ∙ sym (both_closed (at old h))
+    whole : Open
+    whole = both (at reached g) more
+
+    by_case : (((g == h) ≡ true) × (g ≡ h)) ⊎ (((g == h) ≡ false) × (g ≢ h)) → at (set reached g whole) h ≡ added_at g more old h
+    by_case (inl (p, e)) =
+        ap (λ k. at (set reached g whole) k) (sym e) ∙ at_set reached g whole room
+        ∙ ap (λ k. both (at reached k) more) e ∙ ap (λ o. both o more) (alike h) ∙ ap (λ b. both (at old h) (only b more)) (sym p)
+    by_case (inr (p, n)) =
+        at_other reached g h whole n ∙ alike h ∙ sym (both_closed (at old h)) ∙ ap (λ b. both (at old h) (only b more)) (sym p)

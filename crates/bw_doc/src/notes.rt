@@ -25,7 +25,8 @@ pub(crate) fn openings(items: &Items) -> Result<Openings, Memory>
 {
     let mut notes = Vec::new(items.alloc());
     note_items(items, 0, &mut notes)?;
-    table_of(items.alloc(), &notes)
+    let table = table_of(items.alloc(), &notes)?;
+    Ok(table)
 }
 
 /// The table of these notes.

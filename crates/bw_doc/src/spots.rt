@@ -214,6 +214,17 @@ fn trim(list: &mut Vec<Open>)
     list.truncate(size);
 }
 
+/// Makes room for an entry, with entries that say nothing.
+fn reach(list: &mut Vec<Open>, gap: usize) -> Result<(), Memory>
+    ensures same { OnOk result (spec.IsTableOf (spec.at list.old.items) list.new.items) }
+    ensures room { OnOk result (gap < length list.new.items) }
+{
+    while list.len() <= gap {
+        list.push(Open::closed())?;
+    }
+    Ok(())
+}
+
 impl Openings {
     /// The table of these entries, by their places.
     pub(crate) fn from_vec(list: Vec<Open>) -> Openings
@@ -237,24 +248,13 @@ impl Openings {
         }
     }
 
-    /// Makes room for an entry, with entries that say nothing.
-    fn reach(&mut self, gap: usize) -> Result<(), Memory>
-        ensures same { OnOk result (spec.IsTableOf (spec.at self.old) self.new) }
-        ensures room { OnOk result (gap < length self.new) }
-    {
-        while self.list.len() <= gap {
-            self.list.push(Open::closed())?;
-        }
-        Ok(())
-    }
-
     /// Takes in that more is open of that number.
     pub(crate) fn add(&mut self, gap: GapId, more: Open) -> Result<(), Memory>
         requires { IsCounted (spec.both (spec.at self.old gap) more) }
         ensures { OnOk result (spec.IsTableOf (spec.added_at gap more self.old) self.new) }
     {
         let gap = gap.number() as usize;
-        self.reach(gap)?;
+        reach(&mut self.list, gap)?;
         self.list[gap] = self.list[gap].join(more);
         Ok(())
     }
