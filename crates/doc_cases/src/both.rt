@@ -115,22 +115,38 @@ impl Both {
     pub fn is_same(&self, alloc: Global, gap: GapId) -> Result<bool, Fault> {
         let gaps = self.plain.gaps(gap);
         let page = Sheet::of(alloc, &self.plain.tree)?;
-        Ok(self.doc.measure() == self.plain.measure
-            && self.doc.count(gap) == gaps.count
-            && self.doc.around(gap) == gaps.around
-            && self.doc.length()? == page.length())
+        Ok(
+            self.doc.measure() == self.plain.measure
+                && self.doc.count(gap) == gaps.count
+                && self.doc.around(gap) == gaps.around
+                && self.doc.length()? == page.length(),
+        )
     }
 }
 
 /// A document where both ways give one, or the limit where both give the same.
 fn joined(doc: Result<Doc, DocFault>, plain: Result<Plain, DocFault>) -> Result<Both, Refusal> {
-    match (doc, plain) {
-        (Err(DocFault::Memory), _) | (_, Err(DocFault::Memory)) => {
-            Err(Refusal::Fault(Fault::Memory))
-        }
-        (Ok(doc), Ok(plain)) => Ok(Both { doc, plain }),
-        (Err(fault), Err(other)) if fault == other => Err(Refusal::Limit(fault)),
-        _ => Err(Refusal::Differs),
+    match doc {
+        Ok(doc) => match plain {
+            Ok(plain) => Ok(Both { doc, plain }),
+            Err(fault) => Err(refusal(fault, None)),
+        },
+        Err(fault) => match plain {
+            Ok(_) => Err(refusal(fault, None)),
+            Err(other) => Err(refusal(fault, Some(other))),
+        },
+    }
+}
+
+/// Why there is no document, where one way gave this fault.
+fn refusal(fault: DocFault, other: Option<DocFault>) -> Refusal {
+    if fault == DocFault::Memory || other == Some(DocFault::Memory) {
+        return Refusal::Fault(Fault::Memory);
+    }
+    if other == Some(fault) {
+        Refusal::Limit(fault)
+    } else {
+        Refusal::Differs
     }
 }
 

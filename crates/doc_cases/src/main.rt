@@ -2,8 +2,8 @@
 //! document is made twice: as `Doc`, and as a plain tree with its measure, by the definition. A case has the line
 //! `service PARTS`, a service, and then steps, which work on a stack of documents:
 //!
-//! - `constant TEMPLATE` puts the constant of that template on top, `copy` a copy of the document on top, and `swap`
-//!   changes the places of the two on top
+//! - `constant TEMPLATE` puts the constant of that template on top, `copy` a copy of the document on top, `swap`
+//!   changes the places of the two on top, and `rotate` brings the third to the top
 //! - `plug GAP` takes the document on top and puts it into the gaps of the one below, `fill GAP PARTS` puts a text into
 //!   the gaps of the one on top
 //! - `times N STEPS` takes these steps, which `;` parts, so many times; `mix SEED N` takes so many plugs and fills of

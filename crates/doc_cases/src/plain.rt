@@ -1,10 +1,10 @@
 //! Documents as plain trees, by the definition and nothing else.
 
+use bw_doc::DocFault;
 use bw_lang::{
     AttrValue, Element, GapId, Item, Items, MAX_DEPTH, MAX_NEST, MAX_WEIGHT, Measure, Memory,
     Template, Tree,
 };
-use bw_doc::DocFault;
 
 /// A document as a tree, with its measure.
 #[derive(Drop)]
@@ -106,7 +106,10 @@ impl Gaps {
         if is_there {
             Gaps { count: 1, around }
         } else {
-            Gaps { count: 0, around: 0 }
+            Gaps {
+                count: 0,
+                around: 0,
+            }
         }
     }
 }
@@ -156,7 +159,9 @@ fn item_weight(item: &Item) -> u64 {
     match item {
         Item::Text(text) => text.as_bytes().len() as u64,
         Item::Gap(_) => 0,
-        Item::Element(element) => attrs_weight(element).saturating_add(items_weight(&element.items)),
+        Item::Element(element) => attrs_weight(element).saturating_add(items_weight(
+            &element.items,
+        )),
     }
 }
 

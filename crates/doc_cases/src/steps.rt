@@ -26,12 +26,7 @@ pub fn try_case(alloc: Global, texts: &Texts<'_>, case: &Case<'_>) -> Result<Ver
 }
 
 /// What the case shows over the service of this text.
-fn shown(
-    alloc: Global,
-    texts: &Texts<'_>,
-    case: &Case<'_>,
-    text: &[u8],
-) -> Result<String, Fault> {
+fn shown(alloc: Global, texts: &Texts<'_>, case: &Case<'_>, text: &[u8]) -> Result<String, Fault> {
     let typed = typed_service(alloc, text)?;
     shown_over(alloc, texts, case, &typed)
 }
@@ -49,11 +44,11 @@ fn typed_service(alloc: Global, text: &[u8]) -> Result<Typed, Fault> {
     }
 }
 
-fn shown_over(
+fn shown_over<'a>(
     alloc: Global,
-    texts: &Texts<'_>,
+    texts: &'a Texts<'a>,
     case: &Case<'_>,
-    typed: &Typed,
+    typed: &'a Typed,
 ) -> Result<String, Fault> {
     let mut steps = Steps {
         alloc,
@@ -161,6 +156,7 @@ impl<'a> Steps<'a> {
                 self.push(document)
             }
             "swap" => self.swap(),
+            "rotate" => self.rotate(),
             _ => Ok(self.tell(key, value)?),
         }
     }
@@ -201,6 +197,15 @@ impl<'a> Steps<'a> {
         let below = self.pop()?;
         self.push(top)?;
         self.push(below)
+    }
+
+    fn rotate(&mut self) -> Result<(), Refusal> {
+        let top = self.pop()?;
+        let below = self.pop()?;
+        let third = self.pop()?;
+        self.push(below)?;
+        self.push(top)?;
+        self.push(third)
     }
 
     fn top(&self) -> Result<&Both, Fault> {
