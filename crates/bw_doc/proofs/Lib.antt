@@ -6,6 +6,7 @@ pub mod OutsideLaws
 pub mod PageLaws
 pub mod SeenLaws
 pub mod ShortLaws
+pub mod SpotAlgebra
 pub mod SpotLaws
 pub mod TableLaws
 pub mod TemplateLaws

@@ -17,7 +17,8 @@ use Rattle.bw_doc.specs.declared.notes.Note.{Note}
 use Rattle.bw_doc.specs.declared.spots.Open.{Open}
 use Rattle.bw_doc.specs.Notes.{level, content_at, hole_at, value_notes, attr_notes, notes, all_noted, IsCounted, AreFew}
 use Rattle.bw_doc.specs.Spots.{nowhere, join, inside, once, times, both, only, content, hole, holes, opened, at, IsTableOf, added_at}
-use Rattle.bw_doc.proofs.SpotLaws.{spot, opened_as, counted, join_assoc, nowhere_join, join_times, times_inside, times_once, both_assoc, closed_both, both_closed}
+use Rattle.bw_doc.proofs.SpotLaws.{counted}
+use Rattle.bw_doc.proofs.SpotAlgebra.{spot, opened_as, join_assoc, nowhere_join, join_times, times_inside, times_once, both_assoc, closed_both, both_closed}
 
 -- ---- the walk
 

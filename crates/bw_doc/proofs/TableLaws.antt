@@ -9,7 +9,7 @@ use mathlib.Core.Logic.{◌⊎◌, inl, inr}
 use Rattle.bw_doc.specs.declared.spots.Spot.{Spot}
 use Rattle.bw_doc.specs.declared.spots.Open.{Open}
 use Rattle.bw_doc.specs.Spots.{nowhere, join, times, unless, closed, at, IsTableOf, both, only, added_at, plugged_open, filled_open, plugged_at, filled_at}
-use Rattle.bw_doc.proofs.SpotLaws.{times_nowhere, both_closed}
+use Rattle.bw_doc.proofs.SpotAlgebra.{times_nowhere, both_closed}
 
 -- the table has below this place what the function gives, and nothing from there on
 pub record IsFirst (f : ℕ → Open) (n : ℕ) (table : List Open) : Type 0 where

@@ -8,10 +8,12 @@ pub mod laws;
 mod notes;
 mod output;
 mod outside;
+mod part;
 mod sheet;
 mod spots;
 mod walk;
 
-pub use doc::{Doc, Part};
+pub use doc::Doc;
 pub use fault::DocFault;
+pub use part::Part;
 pub use sheet::Sheet;

@@ -129,17 +129,17 @@ fn joined(doc: Result<Doc, DocFault>, plain: Result<Plain, DocFault>) -> Result<
     match doc {
         Ok(doc) => match plain {
             Ok(plain) => Ok(Both { doc, plain }),
-            Err(fault) => Err(refusal(fault, None)),
+            Err(fault) => Err(why_refused(fault, None)),
         },
         Err(fault) => match plain {
-            Ok(_) => Err(refusal(fault, None)),
-            Err(other) => Err(refusal(fault, Some(other))),
+            Ok(_) => Err(why_refused(fault, None)),
+            Err(other) => Err(why_refused(fault, Some(other))),
         },
     }
 }
 
 /// Why there is no document, where one way gave this fault.
-fn refusal(fault: DocFault, other: Option<DocFault>) -> Refusal {
+fn why_refused(fault: DocFault, other: Option<DocFault>) -> Refusal {
     if fault == DocFault::Memory || other == Some(DocFault::Memory) {
         return Refusal::Fault(Fault::Memory);
     }

@@ -114,6 +114,7 @@ impl Gaps {
     }
 }
 
+#[tactic(auto, using(bw_lang::proofs::Forests::forest_steps))]
 #[cycle(gaps)]
 fn items_gaps(items: &Items, gap: GapId, around: u32) -> Gaps {
     let mut gaps = Gaps::one(false, 0);
@@ -123,6 +124,7 @@ fn items_gaps(items: &Items, gap: GapId, around: u32) -> Gaps {
     gaps
 }
 
+#[tactic(auto, using(bw_lang::proofs::Forests::forest_steps))]
 #[cycle(gaps)]
 fn item_gaps(item: &Item, gap: GapId, around: u32) -> Gaps {
     match item {
@@ -145,6 +147,7 @@ fn own_gaps(element: &Element, gap: GapId, around: u32) -> Gaps {
     gaps
 }
 
+#[tactic(auto, using(bw_lang::proofs::Forests::forest_steps))]
 #[cycle(weight)]
 fn items_weight(items: &Items) -> u64 {
     let mut weight = 0u64;
@@ -154,6 +157,7 @@ fn items_weight(items: &Items) -> u64 {
     weight
 }
 
+#[tactic(auto, using(bw_lang::proofs::Forests::forest_steps))]
 #[cycle(weight)]
 fn item_weight(item: &Item) -> u64 {
     match item {
@@ -176,13 +180,21 @@ fn attrs_weight(element: &Element) -> u64 {
     weight
 }
 
+#[tactic(auto, using(bw_lang::proofs::Forests::forest_steps))]
 #[cycle(nest)]
 fn items_nest(items: &Items) -> u32 {
     let mut nest = 0;
     for item in items.as_slice() {
-        if let Item::Element(element) = item {
-            nest = nest.max(items_nest(&element.items).saturating_add(1));
-        }
+        nest = nest.max(item_nest(item));
     }
     nest
+}
+
+#[tactic(auto, using(bw_lang::proofs::Forests::forest_steps))]
+#[cycle(nest)]
+fn item_nest(item: &Item) -> u32 {
+    match item {
+        Item::Element(element) => items_nest(&element.items).saturating_add(1),
+        Item::Text(_) | Item::Gap(_) => 0,
+    }
 }
