@@ -34,7 +34,7 @@ impl<'a> Mix<'a> {
 
     /// Makes the next document, and fails where its two sides differ. After one that is over a limit there is none left.
     pub fn step(&mut self) -> Result<(), Refusal> {
-        let gap = GapId::of(self.below(self.typed.service().gaps.len() as u64) as u32);
+        let gap = GapId::of(self.below(self.typed.service().gaps.len()));
         match self.next(gap) {
             Ok(document) => self.keep(gap, document),
             Err(Refusal::Limit(_)) => {
@@ -46,18 +46,20 @@ impl<'a> Mix<'a> {
     }
 
     /// The next number, below another one.
-    fn below(&mut self, bound: u64) -> u64 {
+    fn below(&mut self, bound: usize) -> u32 {
         let next = self.number.wrapping_mul(6_364_136_223_846_793_005);
         self.number = next.wrapping_add(1_442_695_040_888_963_407);
-        (self.number >> 33).checked_rem(bound).unwrap_or(0)
+        let high = u32::try_from(self.number >> 33).unwrap_or(0);
+        let bound = u32::try_from(bound).unwrap_or(0);
+        high.checked_rem(bound).unwrap_or(0)
     }
 
     /// The next document.
     fn next(&mut self, gap: GapId) -> Result<Both, Refusal> {
         let way = self.below(5);
-        let base = self.below(KEPT as u64) as usize;
-        let other = self.below(KEPT as u64) as usize;
-        let text = self.below(4) as usize;
+        let base = self.below(KEPT) as usize;
+        let other = self.below(KEPT) as usize;
+        let text = self.below(TEXTS.len()) as usize;
         match (self.last.get(base), self.last.get(other)) {
             (Some(base), Some(other)) if way < 3 => base.plug(gap, other),
             (Some(base), _) if way == 3 => base.fill(gap, TEXTS.get(text).unwrap_or(&"")),
@@ -68,7 +70,7 @@ impl<'a> Mix<'a> {
     /// The constant of some template.
     fn constant(&mut self) -> Result<Both, Fault> {
         let templates = self.typed.service().templates.as_slice();
-        let place = self.below(templates.len() as u64) as usize;
+        let place = self.below(templates.len()) as usize;
         let template = templates.get(place).ok_or(Fault::Malformed)?;
         Both::constant(self.typed, template.name.as_str())
     }
