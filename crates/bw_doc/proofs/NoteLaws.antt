@@ -1,5 +1,6 @@
 -- Laws of the notes of open gaps.
-use Rattle.std.proofs.Common.{◌≡◌, ℕ, ◌+◌, ◌<◌, ◌≤◌, ◌^◌, Bool, true, false, ◌==◌, List, [], ◌∷◌, ◌++◌, length, get_or, take, drop, flat_map, refl, ap, sym, ◌∙◌, arith, Some, None}
+use Rattle.std.proofs.Common.{◌≡◌, ℕ, ◌+◌, ◌<◌, ◌≤◌, ◌^◌, Bool, true, false, ◌==◌, List, [], ◌∷◌, ◌++◌, length, get_or, take, drop, flat_map, refl}
+use Rattle.std.proofs.Common.{ap, sym, ◌∙◌, arith, Some, None}
 use Rattle.std.proofs.lemmas.List.{append_assoc, append-nil, take_more, take-append-drop}
 use Rattle.std.proofs.lemmas.List.Concat.{flat_map-cons}
 use Rattle.std.proofs.lemmas.Grind.{flat_map-append}
@@ -32,13 +33,15 @@ notes-append n (element t a i r) b =
     ∙ ap (λ x. own ++ x) (sym (append_assoc inner (notes n r) (notes n b)))
     ∙ sym (append_assoc own (inner ++ notes n r) (notes n b))
 
-pub notes_at_read : (n : ℕ) (xs : List Item) (i : ℕ) (d : Item) → i < length xs → (get_or xs i d ≡ get_or xs i d) × (notes n (forest (take (i + 1) xs)) ≡ notes n (forest (take i xs)) ++ notes n (before (get_or xs i d) none))
+pub notes_at_read : (n : ℕ) (xs : List Item) (i : ℕ) (d : Item) → i < length xs
+    → (get_or xs i d ≡ get_or xs i d) × (notes n (forest (take (i + 1) xs)) ≡ notes n (forest (take i xs)) ++ notes n (before (get_or xs i d) none))
 notes_at_read n xs i d h = (refl, ap (notes n) (forest_at_read xs i d h).1 ∙ notes-append n (forest (take i xs)) (before (get_or xs i d) none))
 
 one_attr : (n : ℕ) (x : Attr) → attr_notes n (x ∷ []) ≡ value_notes n x.value
 one_attr n x = append-nil (value_notes n x.value)
 
-pub attr_notes_at_read : (n : ℕ) (xs : List Attr) (i : ℕ) (d : Attr) → i < length xs → (get_or xs i d ≡ get_or xs i d) × (attr_notes n (take (i + 1) xs) ≡ attr_notes n (take i xs) ++ value_notes n (get_or xs i d).value)
+pub attr_notes_at_read : (n : ℕ) (xs : List Attr) (i : ℕ) (d : Attr) → i < length xs
+    → (get_or xs i d ≡ get_or xs i d) × (attr_notes n (take (i + 1) xs) ≡ attr_notes n (take i xs) ++ value_notes n (get_or xs i d).value)
 attr_notes_at_read n xs i d h =
     (refl, ap (attr_notes n) (take_more xs i d h) ∙ flat_map-append (λ a. value_notes n a.value) (take i xs) (get_or xs i d ∷ []) ∙ ap (λ x. attr_notes n (take i xs) ++ x) (one_attr n (get_or xs i d)))
 
@@ -98,7 +101,8 @@ attrs_noted g n (x ∷ a) =
     ∙ opened_as (both (record { content = nowhere; hole = times (level n) own }) (held g n a)) (held g n (x ∷ a)) refl (sym (join_times (level n) own (holes g a)))
 
 -- an element's attributes, what is in it and what is behind it
-element_noted : (g n : ℕ) (t : List ℕ) (a : List Attr) (i r : Forest) → both (held g (n + 1) a) (both (sunk (n + 1) (opened g i)) (sunk n (opened g r))) ≡ sunk n (opened g (element t a i r))
+element_noted : (g n : ℕ) (t : List ℕ) (a : List Attr) (i r : Forest)
+    → both (held g (n + 1) a) (both (sunk (n + 1) (opened g i)) (sunk n (opened g r))) ≡ sunk n (opened g (element t a i r))
 element_noted g n t a i r =
     let deep = level (n + 1) in let whole = sunk n (opened g (element t a i r)) in
     opened_as (both (held g (n + 1) a) (both (sunk (n + 1) (opened g i)) (sunk n (opened g r)))) whole
@@ -142,11 +146,13 @@ notes_are_few f h g = record {
 
 -- ---- one note more
 
-noted_more : (g : ℕ) (xs : List Note) (i : ℕ) (d : Note) → i < length xs → all_noted g (take (i + 1) xs) ≡ both (all_noted g (take i xs)) (only ((get_or xs i d).gap == g) (get_or xs i d).says)
+noted_more : (g : ℕ) (xs : List Note) (i : ℕ) (d : Note) → i < length xs
+    → all_noted g (take (i + 1) xs) ≡ both (all_noted g (take i xs)) (only ((get_or xs i d).gap == g) (get_or xs i d).says)
 noted_more g xs i d h =
     ap (all_noted g) (take_more xs i d h) ∙ all_noted-append g (take i xs) (get_or xs i d ∷ []) ∙ ap (both (all_noted g (take i xs))) (one_noted g (get_or xs i d))
 
-pub table_noted : (xs : List Note) (i : ℕ) (d x : Note) (old new : List Open) → x ≡ get_or xs i d → i < length xs → IsTableOf (λ g. all_noted g (take i xs)) old → IsTableOf (added_at x.gap x.says old) new → IsTableOf (λ g. all_noted g (take (i + 1) xs)) new
+pub table_noted : (xs : List Note) (i : ℕ) (d x : Note) (old new : List Open) → x ≡ get_or xs i d → i < length xs
+    → IsTableOf (λ g. all_noted g (take i xs)) old → IsTableOf (added_at x.gap x.says old) new → IsTableOf (λ g. all_noted g (take (i + 1) xs)) new
 table_noted xs i d x old new is h before after g =
     after g ∙ ap (λ o. both o (only (x.gap == g) x.says)) (before g)
     ∙ ap (λ y. both (all_noted g (take i xs)) (only (y.gap == g) y.says)) is ∙ sym (noted_more g xs i d h)
@@ -155,7 +161,8 @@ same_gap : (o : Open) (g : ℕ) → only (g == g) o ≡ o
 same_gap o g = ap (λ b. only b o) (eq-eqb g g refl)
 
 -- a note and those before it are among all
-pub note_room : (xs : List Note) (i : ℕ) (d x : Note) (table : List Open) → x ≡ get_or xs i d → i < length xs → IsTableOf (λ g. all_noted g (take i xs)) table → AreFew xs → IsCounted (both (at table x.gap) x.says)
+pub note_room : (xs : List Note) (i : ℕ) (d x : Note) (table : List Open) → x ≡ get_or xs i d → i < length xs
+    → IsTableOf (λ g. all_noted g (take i xs)) table → AreFew xs → IsCounted (both (at table x.gap) x.says)
 note_room xs i d x table is h before few =
     let g = x.gap in let ahead = all_noted g (take i xs) in let behind = all_noted g (drop (i + 1) xs) in
     let whole : all_noted g xs ≡ both (both (at table g) x.says) behind =

@@ -13,7 +13,8 @@ use Rattle.bw_page.specs.Pages.{show_page, exit_page}
 use Rattle.bw_page.proofs.Printed.{print-append}
 
 -- an element with an end tag, and what follows it
-element_bytes : (tag : List ℕ) (attrs : List Attr) (i r : Forest) → is_void tag ≡ false → print (element tag attrs i r) ≡ (printed_start tag attrs ++ codes ">") ++ (print i ++ (printed_end tag ++ print r))
+element_bytes : (tag : List ℕ) (attrs : List Attr) (i r : Forest) → is_void tag ≡ false
+    → print (element tag attrs i r) ≡ (printed_start tag attrs ++ codes ">") ++ (print i ++ (printed_end tag ++ print r))
 element_bytes tag attrs i r e =
     let s = printed_start tag attrs in
     ap (λ b. (s ++ (if b then codes "/>" else codes ">" ++ (print i ++ printed_end tag))) ++ print r) e
@@ -46,10 +47,12 @@ page_bytes title body b e =
 closed_bytes : (d e : Forest) → print (append (close d) e) ≡ print d ++ print e
 closed_bytes d e = print-append (close d) e ∙ ap (λ x. x ++ print e) (closed_alike d)
 
-pub exit_bytes : (title : List ℕ) (d : Forest) → print (exit_page title d) ≡ codes "<html><head><title>" ++ (escaped title ++ (codes "</title></head><body>" ++ (print d ++ codes "</body></html>")))
+pub exit_bytes : (title : List ℕ) (d : Forest)
+    → print (exit_page title d) ≡ codes "<html><head><title>" ++ (escaped title ++ (codes "</title></head><body>" ++ (print d ++ codes "</body></html>")))
 exit_bytes title d = page_bytes title (append (close d) none) (print d) (closed_bytes d none ∙ append-nil (print d))
 
-form_bytes : (target : List ℕ) (d : Forest) → print (element (codes "form") (attr (codes "action") (Fixed target) ∷ attr (codes "method") (Fixed (codes "post")) ∷ []) (append (close d) button) none)
+form_bytes : (target : List ℕ) (d : Forest)
+    → print (element (codes "form") (attr (codes "action") (Fixed target) ∷ attr (codes "method") (Fixed (codes "post")) ∷ []) (append (close d) button) none)
     ≡ codes "<form action=\"" ++ (escaped target ++ (codes "\" method=\"post\">" ++ (print d ++ codes "<p><input type=\"submit\" value=\"Continue\"/></p></form>")))
 form_bytes target d =
     let attrs = attr (codes "action") (Fixed target) ∷ attr (codes "method") (Fixed (codes "post")) ∷ [] in

@@ -11,7 +11,8 @@ use Rattle.bw_lang.specs.Forest.{Forest, none, text, gap, element}
 use Rattle.bw_lang.specs.Documents.{append, plug, plug_text, count, depth, deeper, here, is_hole, filled_value, filled_attr}
 use Rattle.bw_doc.specs.declared.spots.Spot.{Spot}
 use Rattle.bw_doc.specs.Spots.{nowhere, join, inside, once, times, unless, content, holes, hole, opened, plugged_open, filled_open}
-use Rattle.bw_doc.proofs.SpotAlgebra.{spot, swap, join_assoc, join_comm, join_nowhere, nowhere_join, inside_join, times_join, inside_times, times_once, nowhere_times}
+use Rattle.bw_doc.proofs.SpotAlgebra.{spot, swap, join_assoc, join_comm, join_nowhere, nowhere_join, inside_join, times_join, inside_times}
+use Rattle.bw_doc.proofs.SpotAlgebra.{times_once, nowhere_times}
 
 -- ---- where gaps are open in two forests
 
@@ -19,7 +20,8 @@ pub content-append : (g : ℕ) (a b : Forest) → content g (append a b) ≡ joi
 content-append g none b = sym (nowhere_join (content g b))
 content-append g (text s r) b = content-append g r b
 content-append g (gap h r) b = ap (join (once (h == g))) (content-append g r b) ∙ sym (join_assoc (once (h == g)) (content g r) (content g b))
-content-append g (element t a i r) b = ap (join (inside (content g i))) (content-append g r b) ∙ sym (join_assoc (inside (content g i)) (content g r) (content g b))
+content-append g (element t a i r) b =
+    ap (join (inside (content g i))) (content-append g r b) ∙ sym (join_assoc (inside (content g i)) (content g r) (content g b))
 
 pub hole-append : (g : ℕ) (a b : Forest) → hole g (append a b) ≡ join (hole g a) (hole g b)
 hole-append g none b = sym (nowhere_join (hole g b))
@@ -37,7 +39,8 @@ content_same g e none = sym (nowhere_times (content g e))
 content_same g e (text s r) = content_same g e r
 content_same g e (gap k r) = by_test (k == g) refl (content_same g e r)
   where
-    by_test : (b : Bool) → (k == g) ≡ b → content g (plug g e r) ≡ times (content g r) (content g e) → content g (if b then append e (plug g e r) else gap k (plug g e r)) ≡ times (join (once b) (content g r)) (content g e)
+    by_test : (b : Bool) → (k == g) ≡ b → content g (plug g e r) ≡ times (content g r) (content g e)
+        → content g (if b then append e (plug g e r) else gap k (plug g e r)) ≡ times (join (once b) (content g r)) (content g e)
     by_test true p ih =
         content-append g e (plug g e r)
         ∙ ap (join (content g e)) (ih)
@@ -65,7 +68,8 @@ content_other g h e none q = sym (nowhere_join (times nowhere (content h e)) ∙
 content_other g h e (text s r) q = content_other g h e r q
 content_other g h e (gap k r) q = by_test (k == g) refl (content_other g h e r q)
   where
-    by_test : (b : Bool) → (k == g) ≡ b → content h (plug g e r) ≡ join (content h r) (times (content g r) (content h e)) → content h (if b then append e (plug g e r) else gap k (plug g e r)) ≡ join (join (once (k == h)) (content h r)) (times (join (once b) (content g r)) (content h e))
+    by_test : (b : Bool) → (k == g) ≡ b → content h (plug g e r) ≡ join (content h r) (times (content g r) (content h e))
+        → content h (if b then append e (plug g e r) else gap k (plug g e r)) ≡ join (join (once (k == h)) (content h r)) (times (join (once b) (content g r)) (content h e))
     by_test true p ih =
         content-append h e (plug g e r)
         ∙ ap (join (content h e)) ih
@@ -93,7 +97,8 @@ hole_plug g h e none = sym (nowhere_join (times nowhere (hole h e)) ∙ nowhere_
 hole_plug g h e (text s r) = hole_plug g h e r
 hole_plug g h e (gap k r) = by_test (k == g) (hole_plug g h e r)
   where
-    by_test : (b : Bool) → hole h (plug g e r) ≡ join (hole h r) (times (content g r) (hole h e)) → hole h (if b then append e (plug g e r) else gap k (plug g e r)) ≡ join (hole h r) (times (join (once b) (content g r)) (hole h e))
+    by_test : (b : Bool) → hole h (plug g e r) ≡ join (hole h r) (times (content g r) (hole h e))
+        → hole h (if b then append e (plug g e r) else gap k (plug g e r)) ≡ join (hole h r) (times (join (once b) (content g r)) (hole h e))
     by_test true ih =
         hole-append h e (plug g e r)
         ∙ ap (join (hole h e)) (ih)
@@ -129,7 +134,9 @@ opened_plug g h e f = λ i. record { content = by_test (h == g) refl i; hole = h
 
 holes_same : (g : ℕ) (s : List ℕ) (a : List Attr) → holes g (map (filled_attr g s) a) ≡ nowhere
 holes_same g s [] = refl
-holes_same g s (x ∷ a) = ap (join (once (is_hole g (filled_value g s x.value)))) (holes_same g s a) ∙ join_nowhere (once (is_hole g (filled_value g s x.value))) ∙ by_value x.value
+holes_same g s (x ∷ a) =
+    ap (join (once (is_hole g (filled_value g s x.value)))) (holes_same g s a) ∙ join_nowhere (once (is_hole g (filled_value g s x.value)))
+    ∙ by_value x.value
   where
     by_value : (v : AttrValue) → once (is_hole g (filled_value g s v)) ≡ nowhere
     by_value (Fixed t) = refl
@@ -144,7 +151,8 @@ content_filled g s none = refl
 content_filled g s (text t r) = content_filled g s r
 content_filled g s (gap k r) = by_test (k == g) refl (content_filled g s r)
   where
-    by_test : (b : Bool) → (k == g) ≡ b → content g (plug_text g s r) ≡ nowhere → content g (if b then text s (plug_text g s r) else gap k (plug_text g s r)) ≡ nowhere
+    by_test : (b : Bool) → (k == g) ≡ b → content g (plug_text g s r) ≡ nowhere
+        → content g (if b then text s (plug_text g s r) else gap k (plug_text g s r)) ≡ nowhere
     by_test true p ih = ih
     by_test false p ih = ap (λ b. join (once b) (content g (plug_text g s r))) p ∙ nowhere_join (content g (plug_text g s r)) ∙ ih
 content_filled g s (element t a i r) =
@@ -181,7 +189,8 @@ content_unfilled g h s none q = refl
 content_unfilled g h s (text t r) q = content_unfilled g h s r q
 content_unfilled g h s (gap k r) q = by_test (k == g) refl (content_unfilled g h s r q)
   where
-    by_test : (b : Bool) → (k == g) ≡ b → content h (plug_text g s r) ≡ content h r → content h (if b then text s (plug_text g s r) else gap k (plug_text g s r)) ≡ join (once (k == h)) (content h r)
+    by_test : (b : Bool) → (k == g) ≡ b → content h (plug_text g s r) ≡ content h r
+        → content h (if b then text s (plug_text g s r) else gap k (plug_text g s r)) ≡ join (once (k == h)) (content h r)
     by_test true p ih = ih ∙ sym (nowhere_join (content h r)) ∙ ap (λ b. join (once b) (content h r)) (sym (apart k g h p q))
     by_test false p ih = ap (join (once (k == h))) (ih)
 content_unfilled g h s (element t a i r) q =

@@ -44,7 +44,8 @@ no_table f = record { size = refl; below = λ g h. absurd (omega (arith, h)) }
 pub table_more : (f : ℕ → Open) (n : ℕ) (table : List Open) (o : Open) → IsFirst f n table → o ≡ f n → IsFirst f (n + 1) (table ++ o ∷ [])
 table_more f n table o first is = record {
   size = length-append table (o ∷ []) ∙ omega (arith, first.size);
-  below = below_more (λ g. at (table ++ o ∷ []) g ≡ f g) n (λ g h. at_old table o g (omega (arith, h, first.size)) ∙ first.below g h) (ap (λ k. at (table ++ o ∷ []) k) (sym first.size) ∙ at_new table o ∙ is);
+  below =
+      below_more (λ g. at (table ++ o ∷ []) g ≡ f g) n (λ g h. at_old table o g (omega (arith, h, first.size)) ∙ first.below g h) (ap (λ k. at (table ++ o ∷ []) k) (sym first.size) ∙ at_new table o ∙ is);
 }
 
 -- a whole table
@@ -72,7 +73,8 @@ plug_beyond g table with n h a b c =
     ∙ closed_plug (h == g) (at table g).content
 
 pub fill_beyond : (g : ℕ) (table : List Open) (h : ℕ) → length table ≤ h → filled_at g table h ≡ closed
-fill_beyond g table h a = ap (filled_open (h == g)) (at_beyond table h a) ∙ (λ i. record { content = unless_nowhere (h == g) i; hole = unless_nowhere (h == g) i })
+fill_beyond g table h a =
+    ap (filled_open (h == g)) (at_beyond table h a) ∙ (λ i. record { content = unless_nowhere (h == g) i; hole = unless_nowhere (h == g) i })
 
 -- ---- a table without entries at its end that say nothing
 
@@ -127,7 +129,8 @@ at_other (x ∷ table) zero (suc h) o n = refl
 at_other (x ∷ table) (suc g) zero o n = refl
 at_other (x ∷ table) (suc g) (suc h) o n = at_other table g h o (λ e. n (ap suc e))
 
-pub table_added : (old reached new : List Open) (g : ℕ) (more : Open) → IsTableOf (at old) reached → g < length reached → new ≡ set reached g (both (at reached g) more) → IsTableOf (added_at g more old) new
+pub table_added : (old reached new : List Open) (g : ℕ) (more : Open) → IsTableOf (at old) reached → g < length reached
+    → new ≡ set reached g (both (at reached g) more) → IsTableOf (added_at g more old) new
 table_added old reached new g more alike room is h = ap (λ t. at t h) is ∙ by_case (eqb_tells g h)
   where
     whole : Open

@@ -15,5 +15,6 @@ measured_at templates n t at all =
     subst (λ (x : Template). IsMeasured x.items) (get_or_from_slice_get templates n t t at) (All-get_or (λ t. IsMeasured t.items) templates n t (slice_get_within templates n t at) all)
 
 -- the constant of a template that was read is within the limits
-pub template_within : (service : Service) (n : ℕ) (t : Template) → slice_get service.templates n ≡ Some t → ∥ IsReadable service ∥₁ → IsWithin (constant_measure t.items)
+pub template_within : (service : Service) (n : ℕ) (t : Template) → slice_get service.templates n ≡ Some t → ∥ IsReadable service ∥₁
+    → IsWithin (constant_measure t.items)
 template_within service n t at readable = (measured_at service.templates n t at (templates_are_measured service readable)).within
