@@ -15,22 +15,22 @@ use Rattle.bw_lang.specs.Markup.{is_void}
 use Rattle.bw_lang.specs.Measures.{nest, IsDocument}
 use Rattle.bw_lang.specs.Pieces.{IsName}
 use Rattle.bw_lang.specs.declared.pieces.NameClass.TheVariants as class
-use Rattle.bw_lang.specs.Measures.IsDocument as document
+use Rattle.bw_lang.specs.Measures.{IsDocument as document}
 use Rattle.bw_lang.specs.Print.{print, joined}
-use Rattle.bw_lang.specs.Wrappers.{page, form, button}
+use Rattle.bw_lang.specs.Wrappers.{attr, page, form, button}
 use Rattle.bw_lang.proofs.Bounds.{nest_bounds}
 use Rattle.bw_lang.proofs.Weights.{nest-append}
 use Rattle.bw_page.specs.Bytes.{is_word_byte, is_digit, is_hex_digit}
 use Rattle.bw_page.specs.Laws.{turn_target}
 use Rattle.bw_page.specs.Pages.{show_page, exit_page}
 use Rattle.bw_page.proofs.Sizes.{turn_length, exit_length}
-use Rattle.bw_tmpl.specs.Markup.{IsMarkup, IsClosedMarkup}
+use Rattle.bw_tmpl.specs.Markup.{AreAttrs, IsMarkup, IsClosedMarkup}
 use Rattle.bw_tmpl.proofs.Back as template
 use Rattle.bw_tmpl.proofs.Keeping.{plug_markup, plug_text_markup, close_markup}
 use Rattle.bw_tmpl.proofs.Made.{reads_markup}
 use Rattle.bw_read.specs.Laws.{ReadsBack, ShownReadsBack, LastReadsBack, MadeIsMarkup, MadeShownReadsBack, MadeLastReadsBack}
 use Rattle.bw_read.specs.Made.{IsMade, IsShown, IsTitle, IsTurn}
-use Rattle.bw_read.specs.Made.IsMade as making
+use Rattle.bw_read.specs.Made.{IsMade as making}
 use Rattle.bw_read.specs.Pages.{IsRoot, IsPage}
 use Rattle.bw_read.proofs.Utf8.{class_utf8, ascii_codes, print_utf8}
 
@@ -78,36 +78,54 @@ plain_closed tag inner rest n v p q = (n, tt, refl, never_void inner tag v, p, q
 page_closed : (title : List ℕ) (body : Forest) → IsUtf8 title → IsClosedMarkup body → IsClosedMarkup (page (text title none) body)
 page_closed title body t b =
     let named : IsClosedMarkup (text title none) = (t, tt) in
+    let titled = element (codes "title") [] (text title none) none in
+    let last = element (codes "body") [] body none in
     let head = plain_closed (codes "title") (text title none) none (record { first = refl; later = refl }) refl named tt in
     let items = plain_closed (codes "body") body none (record { first = refl; later = refl }) refl b tt in
-    plain_closed (codes "html") _ none (record { first = refl; later = refl }) refl
-    (plain_closed (codes "head") _ _ (record { first = refl; later = refl }) refl head items) tt
+    let inside = plain_closed (codes "head") titled last (record { first = refl; later = refl }) refl head items in
+    plain_closed (codes "html") (element (codes "head") [] titled last) none (record { first = refl; later = refl }) refl inside tt
+
+-- ---- the button and the form
+
+named_attr : (name value : List ℕ) (rest : List Attr) → IsName class.Attr name → IsUtf8 value → AreAttrs ⊥ rest → AreAttrs ⊥ (attr name (Fixed value) ∷ rest)
+named_attr name value rest n u h = (n, u, h)
+
+button_attrs : AreAttrs ⊥ (attr (codes "type") (Fixed (codes "submit")) ∷ attr (codes "value") (Fixed (codes "Continue")) ∷ [])
+button_attrs =
+    named_attr (codes "type") (codes "submit") (attr (codes "value") (Fixed (codes "Continue")) ∷ []) (record { first = refl; later = refl }) (ascii_codes (codes "submit") refl)
+    (named_attr (codes "value") (codes "Continue") [] (record { first = refl; later = refl }) (ascii_codes (codes "Continue") refl) tt)
 
 button_closed : IsClosedMarkup button
 button_closed =
-    let typed : IsUtf8 (codes "submit") = ascii_codes (codes "submit") refl in
-    let valued : IsUtf8 (codes "Continue") = ascii_codes (codes "Continue") refl in
-    let name = record { first = refl; later = refl } in
-    plain_closed (codes "p") _ none name refl (name, (name, typed, name, valued, tt), refl, (λ (h : true ≡ true). refl), tt, tt) tt
+    let attrs = attr (codes "type") (Fixed (codes "submit")) ∷ attr (codes "value") (Fixed (codes "Continue")) ∷ [] in
+    let tag : IsName class.Tag (codes "input") = record { first = refl; later = refl } in
+    let input : IsClosedMarkup (element (codes "input") attrs none none) = (tag, button_attrs, refl, (λ (h : true ≡ true). refl), tt, tt) in
+    plain_closed (codes "p") (element (codes "input") attrs none none) none (record { first = refl; later = refl }) refl input tt
 
 form_closed : (target : List ℕ) (items : Forest) → IsUtf8 target → IsClosedMarkup items → IsClosedMarkup (form (Fixed target) items)
 form_closed target items u h =
-    let name = record { first = refl; later = refl } in
-    (name, (name, u, name, ascii_codes (codes "post") refl, tt), refl, never_void _ (codes "form") refl, append_closed items button h button_closed, tt)
+    let tag : IsName class.Tag (codes "form") = record { first = refl; later = refl } in
+    let method =
+    named_attr (codes "method") (codes "post") [] (record { first = refl; later = refl }) (ascii_codes (codes "post") refl) tt in
+    let attrs =
+    named_attr (codes "action") target (attr (codes "method") (Fixed (codes "post")) ∷ []) (record { first = refl; later = refl }) u method in
+    (tag, attrs, refl, never_void (append items button) (codes "form") refl, append_closed items button h button_closed, tt)
 
 page_root : (title body : Forest) → IsRoot (page title body)
-page_root title body = ([], _, refl)
+page_root title body = ([], element (codes "head") [] (element (codes "title") [] title none) (element (codes "body") [] body none), refl)
 
 pub shown_reads_back : ShownReadsBack
 shown_reads_back title target d t u m n short =
     let c = close_markup d m in
-    reads_back (show_page title target d) (page_closed title (form (Fixed target) (close d)) t (form_closed target (close d) u c)) (page_root _ _)
+    reads_back (show_page title target d) (page_closed title (form (Fixed target) (close d)) t (form_closed target (close d) u c))
+    (page_root (text title none) (form (Fixed target) (close d)))
     (omega (arith, close_nest d, nest-append (close d) button)) short
 
 pub last_reads_back : LastReadsBack
 last_reads_back title d t m n short =
     let c = close_markup d m in
-    reads_back (exit_page title d) (page_closed title (append (close d) none) t (append_closed (close d) none c tt)) (page_root _ _)
+    reads_back (exit_page title d) (page_closed title (append (close d) none) t (append_closed (close d) none c tt))
+    (page_root (text title none) (append (close d) none))
     (omega (arith, close_nest d, nest-append (close d) none)) short
 
 -- ---- pages of a service

@@ -1,6 +1,6 @@
 -- What is cut off a page: blanks in front, a document type, blanks at the end.
-use Rattle.std.proofs.Common.{◌≡◌, ◌≤◌, ◌<◌, ◌+◌, ◌-◌, ℕ, suc, Bool, true, false, List, [], ◌∷◌, ◌++◌, length, take, get_or, Option, Some, None, refl, sym, ap, ◌∙◌, arith}
-use Rattle.std.specs.Prelude.{if◌then◌else◌, ◌&&◌, codes, inl, inr}
+use Rattle.std.proofs.Common.{◌≡◌, ◌≤◌, ◌<◌, ◌+◌, ◌-◌, ℕ, suc, Bool, true, false, List, [], ◌∷◌, ◌++◌, length, take, get_or, Option, Some, None, refl, sym, ap, ◌∙◌, arith, inl, inr}
+use Rattle.std.specs.Prelude.{if◌then◌else◌, ◌&&◌, codes}
 use Rattle.std.proofs.lemmas.List.{append_assoc, take-append-drop, take_more}
 use Rattle.bw_lang.specs.Bytes.{is_blank}
 use Rattle.bw_lang.specs.MarkupNames.{begins}
@@ -31,13 +31,28 @@ trimmed_at bytes n h =
     let e = take_more bytes n 0 h in
     ap trimmed e ∙ trimmed-push (take n bytes) (get_or bytes n 0) ∙ ap (λ (t : List ℕ). if is_blank (get_or bytes n 0) then trimmed (take n bytes) else t) (sym e)
 
--- a blank is cut off
-pub trim_one : (bytes : List ℕ) (n : ℕ) → n < length bytes → is_blank (get_or bytes n 0) ≡ true → trimmed (take (n + 1) bytes) ≡ trimmed (take n bytes)
-trim_one bytes n h t = trimmed_at bytes n h ∙ ap (λ (b : Bool). if b then trimmed (take n bytes) else take (n + 1) bytes) t
+-- a blank at the end is cut off
+pub trim_shorter : (bytes : List ℕ) (n : ℕ) → 0 < n → n ≤ length bytes → is_blank (get_or bytes (n - 1) 0) ≡ true
+    → trimmed (take (n - 1) bytes) ≡ trimmed (take n bytes)
+trim_shorter bytes n some within blank =
+    let back : n - 1 + 1 ≡ n = omega arith in
+    let h : n - 1 < length bytes = omega arith in
+    sym (ap (λ (k : ℕ). trimmed (take k bytes)) (sym back) ∙ trimmed_at bytes (n - 1) h
+    ∙ ap (λ (b : Bool). if b then trimmed (take (n - 1) bytes) else take (n - 1 + 1) bytes) blank)
 
--- and nothing where another byte is the last
-pub trim_none : (bytes : List ℕ) (n : ℕ) → n < length bytes → is_blank (get_or bytes n 0) ≡ false → trimmed (take (n + 1) bytes) ≡ take (n + 1) bytes
-trim_none bytes n h t = trimmed_at bytes n h ∙ ap (λ (b : Bool). if b then trimmed (take n bytes) else take (n + 1) bytes) t
+-- and no other byte is
+pub trim_stops : (bytes : List ℕ) (n : ℕ) → 0 < n → n ≤ length bytes → is_blank (get_or bytes (n - 1) 0) ≡ false → trimmed (take n bytes) ≡ take n bytes
+trim_stops bytes n some within blank =
+    let back : n - 1 + 1 ≡ n = omega arith in
+    let h : n - 1 < length bytes = omega arith in
+    ap (λ (k : ℕ). trimmed (take k bytes)) (sym back) ∙ trimmed_at bytes (n - 1) h
+    ∙ ap (λ (b : Bool). if b then trimmed (take (n - 1) bytes) else take (n - 1 + 1) bytes) blank ∙ ap (λ (k : ℕ). take k bytes) back
+
+-- where all is cut off nothing is left
+pub trim_all : (bytes : List ℕ) (n : ℕ) → n ≡ 0 → trimmed (take n bytes) ≡ trimmed bytes → take n bytes ≡ trimmed bytes
+trim_all bytes n e h =
+    let none : take n bytes ≡ [] = ap (λ (k : ℕ). take k bytes) e in
+    none ∙ sym (ap trimmed none) ∙ h
 
 -- the bytes are what is left and the blanks that are cut off
 pub record Trimmed (bytes rest : List ℕ) : Type 0 where

@@ -68,7 +68,7 @@ joins_once d = tidy_stays (joined d) (joined_tidy d)
 -- ---- what is read is joined
 
 -- no text among the pieces is empty
-abbrev Full : List Piece → Type 0
+abbrev pub Full : List Piece → Type 0
 Full [] = Unit {0}
 Full (piece.Text s ∷ ps) = (s ≡ [] → ⊥) × Full ps
 Full (piece.Gap n ∷ ps) = Full ps
@@ -85,9 +85,9 @@ full (piece.Whole t ∷ ps) bytes rest h = full ps h.0 rest h.2
 full (piece.End n ∷ ps) bytes rest h = full ps h.0 rest h.2
 
 -- pieces whose texts are apart and not empty
-record Neat (ps : List Piece) : Type 0 where
-  apart : Apart ps
-  full : Full ps
+pub record Neat (ps : List Piece) : Type 0 where
+  pub apart : Apart ps
+  pub full : Full ps
 
 full_behind : (ps qs : List Piece) → Full (ps ++ qs) → Full qs
 full_behind [] qs h = h

@@ -3,6 +3,6 @@ pub mod Behind
 pub mod Elements
 pub mod Joining
 pub mod Utf8
-pub mod Reading
+pub mod Decided
 pub mod Pages
 pub mod Back

@@ -112,7 +112,7 @@ characters_utf8 (c ∷ cs) h =
     (IsUtf8-append (escaped (encode_utf8 c)) (escaped (encode_utf8_all cs)) (character_utf8 c k.0) (characters_utf8 cs k.1))
 
 escaped_utf8 : (s : List ℕ) → IsUtf8 s → IsUtf8 (escaped s)
-escaped_utf8 s h = subst (λ (l : List ℕ). IsUtf8 (escaped l)) h.2 (characters_utf8 h.0 h.1)
+escaped_utf8 s h = subst (λ (l : List ℕ). IsUtf8 (escaped l)) h.1.1 (characters_utf8 h.0 h.1.0)
 
 -- ---- documents
 

@@ -1,4 +1,5 @@
 pub mod Element
+pub mod Faults
 pub mod Laws
 pub mod Made
 pub mod Pages

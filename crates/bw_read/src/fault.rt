@@ -1,5 +1,7 @@
 //! Why bytes aren't read as a page.
+ghost use Rattle.std.specs.Prelude.{◌≡◌};
 
+use bw_tmpl::TmplFault;
 use thiserror::Error;
 
 /// Why bytes aren't read as a page.
@@ -11,4 +13,17 @@ pub enum PageFault {
     /// There was no memory.
     #[error("out of memory")]
     Memory,
+}
+
+impl From<TmplFault> for PageFault {
+    ghost use Rattle.bw_read.specs.Faults.{page_fault};
+
+    ghost from_gives = { λ fault e. e ≡ page_fault fault };
+
+    fn from(fault: TmplFault) -> PageFault {
+        match fault {
+            TmplFault::Memory => PageFault::Memory,
+            _ => PageFault::NotAPage,
+        }
+    }
 }

@@ -10,7 +10,7 @@ ghost use Rattle.bw_read.specs.Root as spec;
 use crate::element::element_of;
 use crate::fault::PageFault;
 use bw_lang::{Item, Items, Tree};
-use bw_tmpl::{TmplFault, read_closed};
+use bw_tmpl::read_closed;
 use std::alloc::Global;
 use std::str;
 
@@ -52,15 +52,10 @@ pub fn read_page(alloc: Global, bytes: &[u8]) -> Result<Tree, PageFault>
     if bytes.len() > PAGE_BYTES || !is_utf8(bytes) {
         return Err(PageFault::NotAPage);
     }
-    match read_closed(alloc, element_of(bytes), PAGE_NESTING) {
-        Ok(items) => {
-            if is_root(&items) {
-                Ok(Tree { items })
-            } else {
-                Err(PageFault::NotAPage)
-            }
-        }
-        Err(TmplFault::Memory) => Err(PageFault::Memory),
-        Err(_) => Err(PageFault::NotAPage),
+    let items = read_closed(alloc, element_of(bytes), PAGE_NESTING)?;
+    if is_root(&items) {
+        Ok(Tree { items })
+    } else {
+        Err(PageFault::NotAPage)
     }
 }

@@ -6,11 +6,12 @@ use Rattle.std.proofs.lemmas.Bool.{cases_lt}
 use Rattle.std.proofs.lemmas.Str.{is_utf8-from_IsUtf8, IsUtf8-from_is_utf8}
 use Rattle.std.specs.Cmp.Lexicographic.{same_text}
 use Rattle.bw_lang.specs.declared.items.Attr.{Attr}
-use Rattle.bw_lang.specs.Documents.{elements}
+use Rattle.bw_lang.specs.declared.items.Item.{Item}
+use Rattle.bw_lang.specs.declared.items.Item.TheVariants.{Text, Element, Gap}
 use Rattle.bw_lang.specs.Forest.{Forest, none, text, gap, element}
 use Rattle.bw_lang.specs.Names.{same}
 use Rattle.bw_lang.specs.Templates.{IsClosedTemplate}
-use Rattle.bw_lang.proofs.Weights.{parts_weigh}
+use Rattle.bw_lang.specs.View.{forest}
 use Rattle.bw_tmpl.specs.declared.fault.TmplFault.{TmplFault}
 use Rattle.bw_tmpl.specs.declared.fault.TmplFault.TheVariants as fault
 use Rattle.bw_tmpl.specs.Refusals.{IsClosedRefused}
@@ -18,8 +19,10 @@ use Rattle.bw_tmpl.proofs.Answered.{closed_read_or_refused}
 use Rattle.bw_tmpl.proofs.Deciding.{one_closed_template, not_both_closed}
 use Rattle.bw_tmpl.proofs.Inverse.{same-refl}
 use Rattle.bw_read.specs.Element.{element_of}
+use Rattle.bw_read.specs.Faults.{page_fault}
 use Rattle.bw_read.specs.Laws.{OnePage, PageOrNone}
 use Rattle.bw_read.specs.Pages.{IsRoot, IsPage}
+use Rattle.bw_read.specs.Refusals.{IsNoPage}
 use Rattle.bw_read.specs.Root.{is_root}
 use Rattle.bw_read.proofs.Elements.{around_element, page_element}
 
@@ -69,6 +72,24 @@ page_read bytes f short utf8 reads root =
 
 pub not_refused : (bytes : List ℕ) (e : TmplFault) → IsClosedRefused 512 (element_of bytes) e → (e ≡ fault.Memory → ⊥) → (f : Forest) → IsPage bytes f → ⊥
 not_refused bytes e r n f p = n (not_both_closed 512 (element_of bytes) f e (element_reads bytes f p) r)
+
+-- the fault that reading answers
+pub refused : (bytes : List ℕ) (e : TmplFault) → IsClosedRefused 512 (element_of bytes) e → IsNoPage bytes (page_fault e)
+refused bytes fault.Memory r = tt
+refused bytes fault.Malformed r = not_refused bytes fault.Malformed r (λ h. cc)
+refused bytes fault.RepeatedAttribute r = not_refused bytes fault.RepeatedAttribute r (λ h. cc)
+refused bytes fault.Mismatched r = not_refused bytes fault.Mismatched r (λ h. cc)
+refused bytes fault.Nesting r = not_refused bytes fault.Nesting r (λ h. cc)
+
+-- more items than one aren't a root
+pub rootless : (items : List Item) → 2 ≤ length items → is_root (forest items) ≡ false
+rootless [] h = absurd (omega arith)
+rootless (x ∷ []) h = absurd (omega arith)
+rootless (Text s ∷ y ∷ items) h = refl
+rootless (Gap g ∷ y ∷ items) h = refl
+rootless (Element e ∷ Text s ∷ items) h = refl
+rootless (Element e ∷ Gap g ∷ items) h = refl
+rootless (Element e ∷ Element f ∷ items) h = refl
 
 pub not_rooted : (bytes : List ℕ) (items : Forest) → IsClosedTemplate 512 (element_of bytes) items → is_root items ≡ false → (f : Forest) → IsPage bytes f → ⊥
 not_rooted bytes items reads rootless f p =
