@@ -1,12 +1,10 @@
 -- Pages that are printed read back.
-use Rattle.std.proofs.Common.{◌≡◌, ◌≤◌, ◌<◌, ◌+◌, ℕ, suc, max, true, false, List, [], ◌∷◌, ◌++◌, length, refl, sym, ap, subst, ◌∙◌, arith, inl, length-append}
+use Rattle.std.proofs.Common.{◌≡◌, ◌≤◌, ◌<◌, ℕ, suc, max, true, false, List, [], ◌∷◌, ◌++◌, refl, sym, ap, arith, inl}
 use Rattle.std.specs.Prelude.{IsUtf8, codes}
-use Rattle.std.specs.List.{list_all}
 use Rattle.std.proofs.lemmas.List.{append-nil}
 use Rattle.std.proofs.lemmas.Bool.Decides.{nat_tests}
 use Rattle.std.proofs.lemmas.Str.{IsUtf8-append}
 use Rattle.bw_lang.specs.declared.items.Attr.{Attr}
-use Rattle.bw_lang.specs.declared.items.AttrValue.{AttrValue}
 use Rattle.bw_lang.specs.declared.items.AttrValue.TheVariants.{Fixed}
 use Rattle.bw_lang.specs.declared.measure.Measure.{Measure}
 use Rattle.bw_lang.specs.Documents.{append, close}
@@ -31,7 +29,7 @@ use Rattle.bw_tmpl.proofs.Made.{reads_markup}
 use Rattle.bw_read.specs.Laws.{ReadsBack, ShownReadsBack, LastReadsBack, MadeIsMarkup, MadeShownReadsBack, MadeLastReadsBack}
 use Rattle.bw_read.specs.Made.{IsMade, IsShown, IsTitle, IsTurn}
 use Rattle.bw_read.specs.Made.{IsMade as making}
-use Rattle.bw_read.specs.Pages.{IsRoot, IsPage}
+use Rattle.bw_read.specs.Pages.{IsRoot}
 use Rattle.bw_read.proofs.Utf8.{class_utf8, ascii_codes, print_utf8}
 
 joined_root : (f : Forest) → IsRoot f → IsRoot (joined f)

@@ -1,15 +1,13 @@
 -- What reading a page answers, in the words of pages.
-use Rattle.std.proofs.Common.{◌≡◌, ◌≤◌, ◌<◌, ◌^◌, ◌+◌, ◌*◌, ℕ, Bool, true, false, ◌⊎◌, inl, inr, List, [], ◌∷◌, length, refl, sym, ap, subst, ◌∙◌, arith}
+use Rattle.std.proofs.Common.{◌≡◌, ◌≤◌, ℕ, Bool, true, false, ◌⊎◌, inl, inr, List, [], ◌∷◌, length, refl, sym, ap, subst, ◌∙◌, arith}
 use Rattle.std.specs.Prelude.{IsUtf8, codes}
 use Rattle.std.specs.Str.{is_utf8}
 use Rattle.std.proofs.lemmas.Bool.{cases_lt}
 use Rattle.std.proofs.lemmas.Str.{is_utf8-from_IsUtf8, IsUtf8-from_is_utf8}
 use Rattle.std.specs.Cmp.Lexicographic.{same_text}
-use Rattle.bw_lang.specs.declared.items.Attr.{Attr}
 use Rattle.bw_lang.specs.declared.items.Item.{Item}
 use Rattle.bw_lang.specs.declared.items.Item.TheVariants.{Text, Element, Gap}
 use Rattle.bw_lang.specs.Forest.{Forest, none, text, gap, element}
-use Rattle.bw_lang.specs.Names.{same}
 use Rattle.bw_lang.specs.Templates.{IsClosedTemplate}
 use Rattle.bw_lang.specs.View.{forest}
 use Rattle.bw_tmpl.specs.declared.fault.TmplFault.{TmplFault}

@@ -1,8 +1,7 @@
 -- What stands around a page's element is cut off, and nothing of the element.
-use Rattle.std.proofs.Common.{◌≡◌, ℕ, ◌⊎◌, inl, inr, List, [], ◌∷◌, ◌++◌, refl, sym, ap, subst, ◌∙◌, None}
+use Rattle.std.proofs.Common.{◌≡◌, ℕ, inl, inr, List, [], ◌∷◌, ◌++◌, refl, sym, ap, subst, ◌∙◌, None}
 use Rattle.std.specs.Prelude.{codes, false}
 use Rattle.std.proofs.lemmas.List.{append_assoc}
-use Rattle.bw_lang.specs.declared.items.Attr.{Attr}
 use Rattle.bw_lang.specs.declared.pieces.Piece.{Piece}
 use Rattle.bw_lang.specs.declared.pieces.Piece.TheVariants as piece
 use Rattle.bw_lang.specs.declared.pieces.Tag.{Tag}
@@ -17,7 +16,7 @@ use Rattle.bw_tmpl.proofs.GapLaws.{Ways}
 use Rattle.bw_tmpl.proofs.SpelledNames.{past_is}
 use Rattle.bw_read.specs.Element.{past_doctype, trimmed, element_of}
 use Rattle.bw_read.specs.Pages.{IsRoot, AreBlanks, IsDoctype, IsPage}
-use Rattle.bw_read.proofs.Behind.{EndsWith, ends_behind, ends_trans, each_ends, piece_ends, last_start, last_whole, last_end, Split, each_split, Fronts, reads_front}
+use Rattle.bw_read.proofs.Behind.{EndsWith, ends_trans, each_ends, piece_ends, last_start, last_whole, last_end, each_split, Fronts, reads_front}
 use Rattle.bw_read.proofs.Blanks.{trimmed_parts, trimmed_is, past_blanks_parts, past_doctype_parts, past_doctype_is, doctype_begins}
 
 -- ---- what is cut off may stand around a page

@@ -1,12 +1,11 @@
 -- What is read as a page.
-use Rattle.std.proofs.Common.{◌≡◌, ◌≤◌, ◌<◌, ◌+◌, ◌*◌, ◌^◌, ℕ, List, [], length, subst, sym, arith, ap}
+use Rattle.std.proofs.Common.{◌≤◌, ℕ, List, [], length, arith, ap}
 use Rattle.std.specs.Prelude.{◌++◌}
 use Rattle.std.proofs.Common.{length-append}
-use Rattle.bw_lang.specs.Documents.{elements}
 use Rattle.bw_lang.specs.Forest.{Forest}
 use Rattle.bw_lang.specs.Templates.{IsTemplate, IsClosedTemplate}
 use Rattle.bw_lang.proofs.Weights.{parts_weigh}
-use Rattle.bw_tmpl.proofs.GapLaws.{none_open, reads_alike}
+use Rattle.bw_tmpl.proofs.GapLaws.{none_open}
 use Rattle.bw_tmpl.proofs.Made.{reads_markup}
 use Rattle.bw_tmpl.proofs.Weights.{items_bounded}
 use Rattle.bw_read.specs.Laws.{PagesAreMarkup, PagesHaveNoGap, PagesAreJoined, PagesAreSmall}

@@ -1,5 +1,4 @@
-use Rattle.std.proofs.Common.{◌≡◌, ◌∙◌, sym, arith}
-use Rattle.bw_read.specs.Element as spec
+use Rattle.std.proofs.Common.{◌∙◌, sym, arith}
 use Rattle.bw_read.proofs.Blanks.{trim_shorter, trim_stops, trim_all}
 use Rattle.bw_read.proofs.element.trimmed.Goals.{else-end-test, then-end-test+then-not-is_blank}
 use Rattle.bw_read.proofs.element.trimmed.Goals as goal

@@ -1,4 +1,4 @@
-use Rattle.std.proofs.Common.{◌≡◌, ◌≤◌, ℕ, List, length, subst, sym, arith}
+use Rattle.std.proofs.Common.{◌≤◌, ℕ, List, length, subst, sym, arith}
 use Rattle.std.proofs.lemmas.Result.{err_from_is_err_and}
 use Rattle.bw_lang.specs.Templates.{IsClosedTemplate}
 use Rattle.bw_tmpl.specs.Refusals.{IsClosedRefused}
