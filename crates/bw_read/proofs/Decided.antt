@@ -95,20 +95,20 @@ not_rooted bytes items reads rootless f p =
 
 -- ---- there is an answer
 
-abbrev Answer : List ℕ → Type 0
-Answer bytes = ((f : Forest) × IsPage bytes f) ⊎ ((f : Forest) → IsPage bytes f → ⊥)
+abbrev PageOrNoPage : List ℕ → Type 0
+PageOrNoPage bytes = ((f : Forest) × IsPage bytes f) ⊎ ((f : Forest) → IsPage bytes f → ⊥)
 
-by_root : (bytes : List ℕ) (f : Forest) → length bytes ≤ 4195328 → IsUtf8 bytes → IsClosedTemplate 512 (element_of bytes) f → (b : Bool) → is_root f ≡ b → Answer bytes
+by_root : (bytes : List ℕ) (f : Forest) → length bytes ≤ 4195328 → IsUtf8 bytes → IsClosedTemplate 512 (element_of bytes) f → (b : Bool) → is_root f ≡ b → PageOrNoPage bytes
 by_root bytes f short utf8 reads true root = inl (f, page_read bytes f short utf8 reads root)
 by_root bytes f short utf8 reads false root = inr (not_rooted bytes f reads root)
 
-by_reading : (bytes : List ℕ) → length bytes ≤ 4195328 → IsUtf8 bytes → Answer bytes
+by_reading : (bytes : List ℕ) → length bytes ≤ 4195328 → IsUtf8 bytes → PageOrNoPage bytes
 by_reading bytes short utf8 = elim (closed_read_or_refused 512 (element_of bytes)) [
   | inl read ↦ by_root bytes read.0 short utf8 read.1 (is_root read.0) refl
   | inr refused ↦ inr (not_refused bytes refused.0 refused.2 refused.1)
 ]
 
-by_utf8 : (bytes : List ℕ) → length bytes ≤ 4195328 → (b : Bool) → is_utf8 bytes ≡ b → Answer bytes
+by_utf8 : (bytes : List ℕ) → length bytes ≤ 4195328 → (b : Bool) → is_utf8 bytes ≡ b → PageOrNoPage bytes
 by_utf8 bytes short true h = by_reading bytes short (IsUtf8-from_is_utf8 bytes h)
 by_utf8 bytes short false h = inr (λ (f : Forest) (p : IsPage bytes f). let e = is_utf8-from_IsUtf8 bytes p.utf8 in cc)
 
