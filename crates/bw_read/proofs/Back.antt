@@ -90,8 +90,9 @@ named_attr name value rest n u h = (n, u, h)
 
 button_attrs : AreAttrs ⊥ (attr (codes "type") (Fixed (codes "submit")) ∷ attr (codes "value") (Fixed (codes "Continue")) ∷ [])
 button_attrs =
-    named_attr (codes "type") (codes "submit") (attr (codes "value") (Fixed (codes "Continue")) ∷ []) (record { first = refl; later = refl }) (ascii_codes (codes "submit") refl)
-    (named_attr (codes "value") (codes "Continue") [] (record { first = refl; later = refl }) (ascii_codes (codes "Continue") refl) tt)
+    let value = named_attr (codes "value") (codes "Continue") [] (record { first = refl; later = refl }) (ascii_codes (codes "Continue") refl) tt in
+    let rest = attr (codes "value") (Fixed (codes "Continue")) ∷ [] in
+    named_attr (codes "type") (codes "submit") rest (record { first = refl; later = refl }) (ascii_codes (codes "submit") refl) value
 
 button_closed : IsClosedMarkup button
 button_closed =

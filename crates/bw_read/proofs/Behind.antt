@@ -75,7 +75,8 @@ end_ends n bytes rest h =
 pub piece_ends : (p : Piece) (bytes rest : List ℕ) → IsPiece p bytes rest → EndsWith rest bytes
 piece_ends (piece.Text s) bytes rest h = chars_end less_than s bytes rest h.2
 piece_ends (piece.Gap n) bytes rest h =
-    let name = ends_behind rest (n ++ (codes "]>" ++ rest)) n (codes "]>" ++ rest) refl (ends_behind rest (codes "]>" ++ rest) (codes "]>") rest refl (ends-refl rest)) in
+    let close = ends_behind rest (codes "]>" ++ rest) (codes "]>") rest refl (ends-refl rest) in
+    let name = ends_behind rest (n ++ (codes "]>" ++ rest)) n (codes "]>" ++ rest) refl close in
     ends_behind rest bytes (codes "<[") (n ++ (codes "]>" ++ rest)) h.1 name
 piece_ends (piece.Start t) bytes rest h = ends_past 62 rest bytes (start_ends t bytes h.0 (62 ∷ rest) h.1 h.2)
 piece_ends (piece.Whole t) bytes rest h = ends_past 62 rest bytes (ends_past 47 (62 ∷ rest) bytes (start_ends t bytes h.0 (47 ∷ 62 ∷ rest) h.1 h.2))
@@ -98,7 +99,8 @@ pub record Split {A : Type 0} (R : A → List ℕ → List ℕ → Type 0) (xs y
   pub first : Each R xs bytes mid
   pub second : Each R ys mid rest
 
-pub each_split : {A : Type 0} (R : A → List ℕ → List ℕ → Type 0) (xs ys : List A) (bytes rest : List ℕ) → Each R (xs ++ ys) bytes rest → Split R xs ys bytes rest
+pub each_split : {A : Type 0} (R : A → List ℕ → List ℕ → Type 0) (xs ys : List A) (bytes rest : List ℕ) → Each R (xs ++ ys) bytes rest
+    → Split R xs ys bytes rest
 each_split R [] ys bytes rest h = record { mid = bytes; first = refl; second = h }
 each_split R (x ∷ xs) ys bytes rest h =
     let s = each_split R xs ys h.0 rest h.2 in record { mid = s.mid; first = (h.0, h.1, s.first); second = s.second }

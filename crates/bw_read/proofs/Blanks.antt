@@ -1,5 +1,6 @@
 -- What is cut off a page: blanks in front, a document type, blanks at the end.
-use Rattle.std.proofs.Common.{◌≡◌, ◌≤◌, ◌<◌, ◌+◌, ◌-◌, ℕ, Bool, true, false, List, [], ◌∷◌, ◌++◌, length, take, get_or, Option, Some, None, refl, sym, ap, ◌∙◌, arith, inl, inr}
+use Rattle.std.proofs.Common.{◌≡◌, ◌≤◌, ◌<◌, ◌+◌, ◌-◌, ℕ, Bool, true, false, List, [], ◌∷◌, ◌++◌}
+use Rattle.std.proofs.Common.{length, take, get_or, Option, Some, None, refl, sym, ap, ◌∙◌, arith, inl, inr}
 use Rattle.std.specs.Prelude.{if◌then◌else◌, ◌&&◌, codes}
 use Rattle.std.proofs.lemmas.List.{append_assoc, take-append-drop, take_more}
 use Rattle.bw_lang.specs.Bytes.{is_blank}
@@ -26,10 +27,12 @@ trimmed-push (x ∷ bytes) b = ap (unless_last x) (trimmed-push bytes b) ∙ by_
     by_test true = refl
     by_test false = unless_not_last x bytes b
 
-trimmed_at : (bytes : List ℕ) (n : ℕ) → n < length bytes → trimmed (take (n + 1) bytes) ≡ (if is_blank (get_or bytes n 0) then trimmed (take n bytes) else take (n + 1) bytes)
+trimmed_at : (bytes : List ℕ) (n : ℕ) → n < length bytes
+    → trimmed (take (n + 1) bytes) ≡ (if is_blank (get_or bytes n 0) then trimmed (take n bytes) else take (n + 1) bytes)
 trimmed_at bytes n h =
     let e = take_more bytes n 0 h in
-    ap trimmed e ∙ trimmed-push (take n bytes) (get_or bytes n 0) ∙ ap (λ (t : List ℕ). if is_blank (get_or bytes n 0) then trimmed (take n bytes) else t) (sym e)
+    ap trimmed e ∙ trimmed-push (take n bytes) (get_or bytes n 0)
+    ∙ ap (λ (t : List ℕ). if is_blank (get_or bytes n 0) then trimmed (take n bytes) else t) (sym e)
 
 -- a blank at the end is cut off
 pub trim_shorter : (bytes : List ℕ) (n : ℕ) → 0 < n → n ≤ length bytes → is_blank (get_or bytes (n - 1) 0) ≡ true
@@ -65,7 +68,11 @@ trimmed_parts [] = record { blanks = []; are = refl; parts = refl }
 trimmed_parts (b ∷ bytes) = by_rest (trimmed bytes) (trimmed_parts bytes)
   where
     by_test : (t : Bool) → is_blank b ≡ t → Trimmed bytes [] → Trimmed (b ∷ bytes) (if t then [] else b ∷ [])
-    by_test true e p = record { blanks = b ∷ p.blanks; are = ap (λ (v : Bool). v && passes is_blank p.blanks) e ∙ p.are; parts = ap (λ (l : List ℕ). b ∷ l) p.parts }
+    by_test true e p = record {
+      blanks = b ∷ p.blanks;
+      are = ap (λ (v : Bool). v && passes is_blank p.blanks) e ∙ p.are;
+      parts = ap (λ (l : List ℕ). b ∷ l) p.parts;
+    }
     by_test false e p = record { blanks = p.blanks; are = p.are; parts = ap (λ (l : List ℕ). b ∷ l) p.parts }
 
     by_rest : (rest : List ℕ) → Trimmed bytes rest → Trimmed (b ∷ bytes) (unless_last b rest)

@@ -50,7 +50,8 @@ no_root f h r = let e = is_root_of f r in cc
 
 -- ---- answers
 
-pub page_read : (bytes : List ℕ) (f : Forest) → length bytes ≤ 4195328 → IsUtf8 bytes → IsClosedTemplate 512 (element_of bytes) f → is_root f ≡ true → IsPage bytes f
+pub page_read : (bytes : List ℕ) (f : Forest) → length bytes ≤ 4195328 → IsUtf8 bytes → IsClosedTemplate 512 (element_of bytes) f → is_root f ≡ true
+    → IsPage bytes f
 page_read bytes f short utf8 reads root =
     let a = around_element bytes in
     record {
@@ -98,7 +99,8 @@ not_rooted bytes items reads rootless f p =
 abbrev PageOrNoPage : List ℕ → Type 0
 PageOrNoPage bytes = ((f : Forest) × IsPage bytes f) ⊎ ((f : Forest) → IsPage bytes f → ⊥)
 
-by_root : (bytes : List ℕ) (f : Forest) → length bytes ≤ 4195328 → IsUtf8 bytes → IsClosedTemplate 512 (element_of bytes) f → (b : Bool) → is_root f ≡ b → PageOrNoPage bytes
+by_root : (bytes : List ℕ) (f : Forest) → length bytes ≤ 4195328 → IsUtf8 bytes → IsClosedTemplate 512 (element_of bytes) f → (b : Bool)
+    → is_root f ≡ b → PageOrNoPage bytes
 by_root bytes f short utf8 reads true root = inl (f, page_read bytes f short utf8 reads root)
 by_root bytes f short utf8 reads false root = inr (not_rooted bytes f reads root)
 

@@ -9,7 +9,7 @@ use Rattle.bw_lang.specs.Bytes.{is_blank}
 use Rattle.bw_lang.specs.Forest.{Forest, none, element}
 use Rattle.bw_lang.specs.MarkupNames.{begins}
 use Rattle.bw_lang.specs.PieceItems.{ReadsPieces}
-use Rattle.bw_lang.specs.Pieces.{Each, IsPiece}
+use Rattle.bw_lang.specs.Pieces.{Each, IsTag, IsPiece}
 use Rattle.bw_lang.specs.Templates.{IsClosedTemplate}
 use Rattle.bw_tmpl.specs.Reading.{past_blanks, stripped}
 use Rattle.bw_tmpl.proofs.GapLaws.{Ways}
@@ -52,40 +52,37 @@ pub record IsTagged (bytes : List ℕ) : Type 0 where
   pub begins : bytes ≡ 60 ∷ 104 ∷ behind
   pub ends : EndsWith (62 ∷ []) bytes
 
-start_begins : (t : Tag) (bytes mid : List ℕ) → codes "html" ≡ t.name → IsPiece (piece.Start t) bytes mid → (m : List ℕ) × (bytes ≡ 60 ∷ 104 ∷ m)
-start_begins t bytes mid e h =
-    let n : h.0 ≡ codes "html" ++ h.2.behind = h.2.parts ∙ ap (λ (l : List ℕ). l ++ h.2.behind) (sym e) in
-    (codes "tml" ++ h.2.behind, h.1 ∙ ap (λ (l : List ℕ). 60 ∷ l) n)
-
-whole_begins : (t : Tag) (bytes mid : List ℕ) → codes "html" ≡ t.name → IsPiece (piece.Whole t) bytes mid → (m : List ℕ) × (bytes ≡ 60 ∷ 104 ∷ m)
-whole_begins t bytes mid e h =
-    let n : h.0 ≡ codes "html" ++ h.2.behind = h.2.parts ∙ ap (λ (l : List ℕ). l ++ h.2.behind) (sym e) in
-    (codes "tml" ++ h.2.behind, h.1 ∙ ap (λ (l : List ℕ). 60 ∷ l) n)
+-- the bytes of a tag html, in front of which `<` stands
+tag_begins : (t : Tag) (bytes m rest : List ℕ) → codes "html" ≡ t.name → bytes ≡ 60 ∷ m → IsTag t m rest → (b : List ℕ) × (bytes ≡ 60 ∷ 104 ∷ b)
+tag_begins t bytes m rest e p h =
+    let n : m ≡ codes "html" ++ h.behind = h.parts ∙ ap (λ (l : List ℕ). l ++ h.behind) (sym e) in
+    (codes "tml" ++ h.behind, p ∙ ap (λ (l : List ℕ). 60 ∷ l) n)
 
 -- of pieces that are all, the last is an end tag
-end_last : (n : List ℕ) (mid ps : List Piece) (bytes : List ℕ) → Fronts mid (piece.End n ∷ []) → Each IsPiece mid bytes [] → EndsWith (62 ∷ []) bytes
-end_last n mid ps bytes f h =
+end_last : (n : List ℕ) (mid : List Piece) (bytes : List ℕ) → Fronts mid (piece.End n ∷ []) → Each IsPiece mid bytes [] → EndsWith (62 ∷ []) bytes
+end_last n mid bytes f h =
     let s = each_split IsPiece f.front (piece.End n ∷ []) bytes [] (subst (λ (l : List Piece). Each IsPiece l bytes []) f.parts h) in
     let e : IsPiece (piece.End n) s.mid [] = subst (λ (l : List ℕ). IsPiece (piece.End n) s.mid l) s.second.2 s.second.1 in
     ends_trans (62 ∷ []) s.mid bytes (last_end n s.mid e) (each_ends IsPiece piece_ends f.front bytes s.mid s.first)
 
-tagged : (inner : Forest) (t : Tag) (ps : List Piece) (bytes : List ℕ) → codes "html" ≡ t.name → Ways [] inner t ps [] → Each IsPiece ps bytes [] → IsTagged bytes
+tagged : (inner : Forest) (t : Tag) (ps : List Piece) (bytes : List ℕ) → codes "html" ≡ t.name → Ways [] inner t ps [] → Each IsPiece ps bytes []
+    → IsTagged bytes
 tagged inner t ps bytes e (inl w) h =
     let k : Each IsPiece (piece.Whole t ∷ []) bytes [] = subst (λ (l : List Piece). Each IsPiece l bytes []) w.0 h in
     let p : IsPiece (piece.Whole t) bytes [] = subst (λ (l : List ℕ). IsPiece (piece.Whole t) bytes l) k.2 k.1 in
-    let b = whole_begins t bytes [] e p in record { behind = b.0; begins = b.1; ends = last_whole t bytes p }
+    let b = tag_begins t bytes p.0 (codes "/>" ++ []) e p.1 p.2 in record { behind = b.0; begins = b.1; ends = last_whole t bytes p }
 tagged inner t ps bytes e (inr (inl w)) h =
     let k : Each IsPiece (piece.Start t ∷ []) bytes [] = subst (λ (l : List Piece). Each IsPiece l bytes []) w.0 h in
     let p : IsPiece (piece.Start t) bytes [] = subst (λ (l : List ℕ). IsPiece (piece.Start t) bytes l) k.2 k.1 in
-    let b = start_begins t bytes [] e p in record { behind = b.0; begins = b.1; ends = last_start t bytes p }
+    let b = tag_begins t bytes p.0 (codes ">" ++ []) e p.1 p.2 in record { behind = b.0; begins = b.1; ends = last_start t bytes p }
 tagged inner t ps bytes e (inr (inr w)) h =
     let k : Each IsPiece (piece.Start t ∷ w.0) bytes [] = subst (λ (l : List Piece). Each IsPiece l bytes []) w.1 h in
-    let b = start_begins t bytes k.0 e k.1 in
+    let b = tag_begins t bytes k.1.0 (codes ">" ++ k.0) e k.1.1 k.1.2 in
     let f = reads_front [] inner w.0 (piece.End t.name ∷ []) w.3 in
     record {
       behind = b.0;
       begins = b.1;
-      ends = ends_trans (62 ∷ []) k.0 bytes (end_last t.name w.0 [] k.0 f k.2) (piece_ends (piece.Start t) bytes k.0 k.1);
+      ends = ends_trans (62 ∷ []) k.0 bytes (end_last t.name w.0 k.0 f k.2) (piece_ends (piece.Start t) bytes k.0 k.1);
     }
 
 pub root_tagged : (most : ℕ) (bytes : List ℕ) (f : Forest) → IsClosedTemplate most bytes f → IsRoot f → IsTagged bytes

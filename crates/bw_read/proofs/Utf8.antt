@@ -50,8 +50,12 @@ ascii_codes s h = IsUtf8-from_ascii s (ascii_listed (λ c. nat_lt c 128) (λ (c 
 
 -- a byte of no ASCII character stands as it is
 high_byte : (b : ℕ) → 128 ≤ b → escaped_byte b ≡ b ∷ []
-high_byte b h = by_tests (b == 38) (b == 60) (b == 62) (b == 34) (grind (arith, nat_tests)) (grind (arith, nat_tests)) (grind (arith, nat_tests)) (grind (arith, nat_tests))
+high_byte b h =
+    by_tests (b == 38) (b == 60) (b == 62) (b == 34) (other 38 (omega arith)) (other 60 (omega arith)) (other 62 (omega arith)) (other 34 (omega arith))
   where
+    other : (low : ℕ) → low < 128 → (b == low) ≡ false
+    other low l = grind (arith, nat_tests)
+
     by_tests : (a l g q : Bool) → a ≡ false → l ≡ false → g ≡ false → q ≡ false
         → (if a then codes "&amp;" else (if l then codes "&lt;" else (if g then codes "&gt;" else (if q then codes "&quot;" else b ∷ [])))) ≡ b ∷ []
     by_tests a l g q ea el eg eq = rw (ea, el, eg, eq) refl

@@ -10,7 +10,7 @@ pub fn one_page()
 {}
 
 /// What is read as a page is markup without open gaps, with neighbouring texts joined and without empty ones, and small.
-pub fn pages_are()
+pub fn read_is_markup()
     ensures markup { PagesAreMarkup }
     ensures no_gap { PagesHaveNoGap }
     ensures joined { PagesAreJoined }
@@ -18,7 +18,7 @@ pub fn pages_are()
 {}
 
 /// Joining texts a second time changes nothing, and the fields and the elements of a document stay as they are.
-pub fn joins()
+pub fn joining_keeps()
     ensures once { JoinsOnce }
     ensures fields { JoinsNoField }
     ensures elements { JoinsNoElement }

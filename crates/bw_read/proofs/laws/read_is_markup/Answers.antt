@@ -1,5 +1,5 @@
 use Rattle.bw_read.proofs.Pages.{pages_are_markup, pages_have_no_gap, pages_are_joined, pages_are_small}
-use Rattle.bw_read.proofs.laws.pages_are.Goals as goal
+use Rattle.bw_read.proofs.laws.read_is_markup.Goals as goal
 
 pub returns : goal.returns
 returns c = record { markup = pages_are_markup; no_gap = pages_have_no_gap; joined = pages_are_joined; small = pages_are_small }
