@@ -1,7 +1,8 @@
-//! Worked examples of reading, kept as data: texts that become tokens, insides of templates that become items, and
-//! expressions that are grouped. `case_files` says how the files are written.
+//! Worked examples of reading, kept as data: texts that become tokens, insides of templates that become items, pages
+//! that are read, and expressions that are grouped. `case_files` says how the files are written.
 #![tactic(auto)]
 
+mod pages;
 mod shapes;
 mod templates;
 mod tokens;
@@ -19,6 +20,8 @@ enum Reading {
     Tokens,
     /// Insides of templates that become items.
     Templates,
+    /// Bytes that are a page or none.
+    Pages,
 }
 
 impl Kind for Reading {
@@ -27,6 +30,7 @@ impl Kind for Reading {
             Reading::Shapes => "shapes.cases",
             Reading::Tokens => "tokens.cases",
             Reading::Templates => "templates.cases",
+            Reading::Pages => "pages.cases",
         }
     }
 
@@ -35,10 +39,19 @@ impl Kind for Reading {
             Reading::Shapes => shapes::try_case(alloc, case),
             Reading::Tokens => tokens::try_case(alloc, texts, case),
             Reading::Templates => templates::try_case(alloc, texts, case),
+            Reading::Pages => pages::try_case(alloc, texts, case),
         }
     }
 }
 
 fn main(rt: HostRuntime) -> ExitCode {
-    try_files(&rt, &[Reading::Shapes, Reading::Tokens, Reading::Templates])
+    try_files(
+        &rt,
+        &[
+            Reading::Shapes,
+            Reading::Tokens,
+            Reading::Templates,
+            Reading::Pages,
+        ],
+    )
 }

@@ -143,7 +143,8 @@ fn shown_fault(alloc: Global, fault: TmplFault) -> Result<String, AllocError> {
     String::from_str(alloc, words)
 }
 
-fn shown_items(alloc: Global, items: &Items) -> Result<String, AllocError> {
+/// Items one behind the other, as the cases have them.
+pub fn shown_items(alloc: Global, items: &Items) -> Result<String, AllocError> {
     let mut out = String::new(alloc);
     write_items(items, &mut out)?;
     escaped(alloc, out.trim().as_bytes())

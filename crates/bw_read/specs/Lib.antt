@@ -1,0 +1,7 @@
+pub mod Element
+pub mod Faults
+pub mod Laws
+pub mod Made
+pub mod Pages
+pub mod Refusals
+pub mod Root

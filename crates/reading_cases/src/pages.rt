@@ -1,0 +1,81 @@
+//! Cases of bytes that are a page or none. A case has the line
+//!
+//! - `text PARTS`: the bytes
+//!
+//! and wants, where they are a page,
+//!
+//! - `items PARTS`: what it is read as, written as for insides of templates
+//! - `prints PARTS`: what this prints to, which is read as the same again; the bytes
+//!
+//! and else `no page`.
+
+use crate::templates::shown_items;
+use bw_lang::Tree;
+use bw_page::Sheet;
+use bw_read::{PageFault, read_page};
+use case_files::{Case, Fault, Texts, Verdict, escaped};
+use std::alloc::Global;
+
+/// Bytes, and what is wanted of them.
+#[derive(Drop)]
+struct PageCase {
+    text: Vec<u8>,
+    items: Option<String>,
+    prints: Option<String>,
+}
+
+/// Tries bytes.
+pub fn try_case(alloc: Global, texts: &Texts<'_>, case: &Case<'_>) -> Result<Verdict, Fault> {
+    let mut page_case = PageCase {
+        text: Vec::new(alloc),
+        items: None,
+        prints: None,
+    };
+    for line in &case.lines {
+        match line.key {
+            "text" => page_case.text = texts.join(alloc, line.value)?,
+            "items" => page_case.items = Some(texts.join_escaped(alloc, line.value)?),
+            "prints" => page_case.prints = Some(texts.join_escaped(alloc, line.value)?),
+            _ => {
+                if line.text != "no page" {
+                    return Err(Fault::Malformed);
+                }
+            }
+        }
+    }
+    Ok(Verdict::of(page_case.wanted(alloc)?, page_case.got(alloc)?))
+}
+
+impl PageCase {
+    /// What is wanted.
+    fn wanted(&self, alloc: Global) -> Result<String, Fault> {
+        let Some(items) = &self.items else {
+            return Ok(String::from_str(alloc, "no page")?);
+        };
+        let text = escaped(alloc, &self.text)?;
+        let prints = self.prints.as_ref().unwrap_or(&text);
+        Ok(format!(in alloc; "{items}; prints {prints}; again {items}")?)
+    }
+
+    /// What comes.
+    fn got(&self, alloc: Global) -> Result<String, Fault> {
+        match read_page(alloc, &self.text) {
+            Ok(page) => {
+                let items = shown_items(alloc, &page.items)?;
+                let sheet = Sheet::of(alloc, &page)?;
+                let prints = escaped(alloc, sheet.as_bytes())?;
+                let again = shown_page(alloc, read_page(alloc, sheet.as_bytes()))?;
+                Ok(format!(in alloc; "{items}; prints {prints}; again {again}")?)
+            }
+            Err(fault) => shown_page(alloc, Err(fault)),
+        }
+    }
+}
+
+fn shown_page(alloc: Global, page: Result<Tree, PageFault>) -> Result<String, Fault> {
+    match page {
+        Ok(page) => Ok(shown_items(alloc, &page.items)?),
+        Err(PageFault::NotAPage) => Ok(String::from_str(alloc, "no page")?),
+        Err(PageFault::Memory) => Err(Fault::Memory),
+    }
+}
