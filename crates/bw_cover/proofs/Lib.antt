@@ -1,0 +1,17 @@
+pub mod Names
+pub mod Values
+pub mod Locals
+pub mod Turns
+pub mod Laying
+pub mod Sound
+pub mod Worlds
+pub mod Rising
+pub mod Solved
+pub mod Typed
+pub mod Checked
+pub mod Flows
+pub mod Examples
+pub mod LeastKinds
+pub mod TypedEdges
+pub mod Literals
+pub mod Trees
