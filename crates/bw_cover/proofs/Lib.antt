@@ -4,6 +4,7 @@ pub mod Locals
 pub mod Turns
 pub mod Laying
 pub mod Sound
+pub mod First
 pub mod Worlds
 pub mod Rising
 pub mod Solved

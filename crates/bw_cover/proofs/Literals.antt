@@ -13,7 +13,7 @@ use Rattle.bw_types.specs.Scopes.{shared_kind}
 use Rattle.bw_types.specs.Faults.{literal_kind}
 use Rattle.bw_cover.specs.Abstracts.{Nothing, Strings}
 use Rattle.bw_cover.specs.Kinds.{IsOf, TypedLiterals}
-use Rattle.bw_cover.specs.Worlds.{literal_known}
+use Rattle.bw_cover.specs.Facts.{literal_known}
 use Rattle.bw_cover.proofs.Checked.{template_of}
 use Rattle.bw_flow.proofs.Names.{shared_is}
 use Rattle.bw_lang.specs.declared.service.Literal.TheVariants as literals

@@ -1,6 +1,8 @@
 -- What an analysis says of a session's points, and what it has to obey.
 use Rattle.std.specs.Prelude.{◌≡◌, ℕ, ◌+◌, Bool, true, false, List, [], ◌∷◌, ◌++◌, map, if◌then◌else◌, option_map, Option, Some, None}
 use Rattle.std.specs.List.{list_any, AllByRecursion}
+use Rattle.bw_lang.specs.declared.service.Literal.{Literal}
+use Rattle.bw_lang.specs.declared.service.Literal.TheVariants as literals
 use Rattle.bw_lang.specs.declared.service.Service.{Service}
 use Rattle.bw_lang.specs.declared.stmt.Receive.{Receive}
 use Rattle.bw_lang.specs.Code.{Code, done, declare, assign, if_then, if_else, while_loop, block, for_each, show, exit, numbered}
@@ -39,6 +41,13 @@ is_shared service w = is_among w (map (λ v. v.name) service.shared)
 -- of a template its constant; nothing of a name that stands for nothing
 abbrev pub template_known : Service → List ℕ → Abstract
 template_known service w = if is_among w (template_names service) then Html (constant (template_items service) (is_gap service) (number (template_names service) w)) else Nothing
+
+-- of a shared variable's literal
+abbrev pub literal_known : Service → Literal → Abstract
+literal_known service (literals.Int n) = Nothing
+literal_known service (literals.Bool b) = Nothing
+literal_known service (literals.Str s) = Strings (same s)
+literal_known service (literals.Tmpl w) = template_known service w
 
 -- what is known of a name at a point
 abbrev pub look : {K : Type 0} → Service → Facts K → K → List ℕ → Abstract

@@ -17,7 +17,7 @@ use Rattle.bw_flow.specs.Steps.{Act, sets, tests, goes_over, shows, exits, joins
 use Rattle.bw_cover.specs.Abstracts.{Html, Below, known, EachPair, IsNotLacked, IsPlug}
 use Rattle.bw_cover.specs.Facts.{Facts, look, Leads, Edge, edge}
 use Rattle.bw_cover.specs.Least.{Cells, with_cells, IsLeast}
-use Rattle.bw_cover.specs.Worlds.{literal_known}
+use Rattle.bw_cover.specs.Facts.{literal_known}
 use Rattle.bw_cover.specs.Plugs.{turn_plugs, go_on_plugs}
 use Rattle.bw_cover.specs.Covered.{CoversLocals, CoversShared, CoversInputs, IsCovered, AreOpen}
 use Rattle.bw_cover.specs.Facts as facts

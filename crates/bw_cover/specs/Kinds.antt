@@ -20,7 +20,8 @@ use Rattle.bw_cover.specs.Abstracts.{Abstract, Nothing, Strings, Html, known, Ea
 use Rattle.bw_cover.specs.Facts.{Facts, look}
 use Rattle.bw_cover.specs.Least.{Cells, with_cells, same_spot, IsLeast, service_edges}
 use Rattle.bw_cover.specs.Spots.{Spot, statement, Scoped, HasNoGapFault}
-use Rattle.bw_cover.specs.Worlds.{literal_known, AcceptsAll}
+use Rattle.bw_cover.specs.Sound.{AcceptsAll}
+use Rattle.bw_cover.specs.Facts.{literal_known}
 use Rattle.bw_lang.specs.declared.stmt.Kind.TheVariants as kinds
 
 -- what is known is known of a value of this kind

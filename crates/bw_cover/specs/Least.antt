@@ -14,7 +14,7 @@ use Rattle.bw_cover.specs.Abstracts.{Abstract, Nothing, Strings, Html, Below, kn
 use Rattle.bw_cover.specs.Facts.{What, keeps, sets, brings, takes, Facts, is_shared, look, received_by, left, Edge, EachLeads}
 use Rattle.bw_types.specs.Scopes.{is_among}
 use Rattle.bw_cover.specs.Spots.{Spot, statement, meeting, out, edges}
-use Rattle.bw_cover.specs.Worlds.{literal_known}
+use Rattle.bw_cover.specs.Facts.{literal_known}
 
 -- what is known of each local at each point, and of each shared variable
 pub record Cells (K : Type 0) : Type 0 where

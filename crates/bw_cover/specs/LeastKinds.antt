@@ -16,7 +16,9 @@ use Rattle.bw_cover.specs.Facts.{What, keeps, sets, brings, takes, Facts, Edge}
 use Rattle.bw_cover.specs.Kinds.{LocalsAreOf, SharedAreOf, Agree, Shows}
 use Rattle.bw_cover.specs.Least.{Cells, with_cells, same_spot, IsLeast, service_edges}
 use Rattle.bw_cover.specs.Spots.{Spot, statement, meeting, out, Scoped, HasNoGapFault}
-use Rattle.bw_cover.specs.Worlds.{AcceptsAll, World, Reached, CoversWorld}
+use Rattle.bw_model.specs.Sessions.{World}
+use Rattle.bw_cover.specs.Worlds.{Reached, CoversWorld, CoversNext}
+use Rattle.bw_cover.specs.Sound.{AcceptsAll}
 use Rattle.std.specs.Prelude as std
 use Rattle.bw_lang.specs.declared.stmt.Kind.TheVariants as kinds
 
@@ -81,4 +83,4 @@ SolvedIsAccepted = (service : Service) (f : Facts Spot) (sees : Spot → Scope) 
 abbrev pub SolvedWorldsAreCovered : Type 0
 SolvedWorldsAreCovered =
     (service : Service) (f : Facts Spot) (sees : Spot → Scope) (empty c : Cells Spot) (w : World) → IsSolved service f sees empty c → Reached service w →
-    CoversWorld service (with_cells f c) w
+    CoversWorld service (with_cells f c) w × CoversNext service (with_cells f c) w

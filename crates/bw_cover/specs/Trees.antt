@@ -15,7 +15,9 @@ use Rattle.bw_cover.specs.Kinds.{summary_of}
 use Rattle.bw_cover.specs.Least.{Cells, same_spot, IsLeast, service_edges}
 use Rattle.bw_cover.specs.LeastKinds.{AreKinded}
 use Rattle.bw_cover.specs.Spots.{Spot, statement, meeting, out, HasNoGapFault}
-use Rattle.bw_cover.specs.Worlds.{AcceptsAll, World, Reached, CoversWorld}
+use Rattle.bw_model.specs.Sessions.{World}
+use Rattle.bw_cover.specs.Worlds.{Reached, CoversWorld, CoversNext}
+use Rattle.bw_cover.specs.Sound.{AcceptsAll}
 use Rattle.bw_lang.specs.declared.stmt.Kind.TheVariants as kinds
 
 -- a statement: the scope in front of it, its expression, and whether it is an exit
@@ -102,4 +104,6 @@ abbrev pub AnsweredIsAccepted : Type 0
 AnsweredIsAccepted = (service : Service) (empty c : Cells Spot) → IsAnswered service empty c → AcceptsAll service (tree_facts service c)
 
 abbrev pub AnsweredWorldsAreCovered : Type 0
-AnsweredWorldsAreCovered = (service : Service) (empty c : Cells Spot) (w : World) → IsAnswered service empty c → Reached service w → CoversWorld service (tree_facts service c) w
+AnsweredWorldsAreCovered =
+    (service : Service) (empty c : Cells Spot) (w : World) → IsAnswered service empty c → Reached service w →
+    CoversWorld service (tree_facts service c) w × CoversNext service (tree_facts service c) w

@@ -1,84 +1,97 @@
--- The sessions of a service as requests make them, and that what they hold is covered.
-use Rattle.std.specs.Prelude.{◌≡◌, ℕ, List, [], ◌∷◌, ◌++◌}
+-- The worlds of a service that requests reach, and that what they hold is covered.
+use Rattle.std.specs.Prelude.{ℕ, List, [], ◌∷◌}
 use Rattle.std.specs.List.{AllByRecursion}
-use Rattle.bw_lang.specs.declared.service.Literal.{Literal}
+use Rattle.bw_http.specs.declared.replies.Reply.{Reply}
+use Rattle.bw_http.specs.declared.request.Request.{Request}
 use Rattle.bw_lang.specs.declared.service.Service.{Service}
-use Rattle.bw_lang.specs.declared.service.Shared.{Shared}
-use Rattle.bw_lang.specs.Names.{same}
-use Rattle.bw_meaning.specs.GoOn.{turn}
 use Rattle.bw_meaning.specs.States.{Form, Input, Outcome, Went, Shown, Exited, Failed}
-use Rattle.bw_meaning.specs.Values.{Values, first_values}
-use Rattle.bw_cover.specs.Abstracts.{Abstract, Nothing, Strings, Below}
-use Rattle.bw_cover.specs.Facts.{Facts, template_known}
-use Rattle.bw_cover.specs.Plugs.{turn_plugs}
-use Rattle.bw_cover.specs.Covered.{CoversShared, CoversInputs, IsCovered, AreOpen}
-use Rattle.bw_cover.specs.Sound.{Accepts}
+use Rattle.bw_meaning.specs.Values.{Values}
+use Rattle.bw_model.specs.Answers.{with_input}
+use Rattle.bw_model.specs.Runs.{At, Turns}
+use Rattle.bw_model.specs.Sessions.{Origin, Started, Loaded, Talk, Live, World, empty, now}
+use Rattle.bw_model.specs.Steps.{beginner, step}
+use Rattle.bw_cover.specs.Covered.{CoversLocals, CoversShared, CoversInputs, IsCovered, AreOpen}
+use Rattle.bw_cover.specs.Abstracts.{CoversTree}
+use Rattle.bw_cover.specs.Facts.{Facts}
+use Rattle.bw_cover.specs.Plugs.{Plug, turn_plugs, go_on_plugs}
+use Rattle.bw_cover.specs.Sound.{AcceptsAll}
 use Rattle.bw_cover.specs.Spots.{Spot}
-use Rattle.bw_lang.specs.declared.service.Literal.TheVariants as literals
 
--- a live session: which one of the service, the shared variables at its start, and its inputs
-pub record Live : Type 0 where
-  pub session : ℕ
-  pub first : Values
-  pub inputs : List Input
-
--- the shared variables, and the live sessions
-pub record World : Type 0 where
-  pub shared : Values
-  pub live : List Live
-
--- the turn of a live session
-abbrev pub turn_of : Service → Live → Outcome
-turn_of service l = turn service l.session l.first l.inputs
-
--- A live session's turn is done, with these others: where it waits it is kept, where it exits it isn't; what fails leaves
--- the world.
-abbrev pub settled : Outcome → World → List Live → Live → List Live → World
-settled (Went st) w before l behind = w
-settled (Shown at locals rests shown shared units) w before l behind = record { shared = shared; live = before ++ l ∷ behind }
-settled (Exited last shared units) w before l behind = record { shared = shared; live = before ++ behind }
-settled (Failed x units) w before l behind = w
-
--- the live session with one input more
-abbrev pub answered_by : Form → World → Live → Live
-answered_by form w l = record l { inputs = l.inputs ++ record { form = form; shared = w.shared } ∷ [] }
-
--- a session that begins
-abbrev pub beginner : World → ℕ → Live
-beginner w session = record { session = session; first = w.shared; inputs = [] }
-
--- The worlds that requests reach: a session begins, a form answers a live session, or a live session gives way.
+-- the worlds that requests reach, each with the key that is drawn for it, from the empty world
 pub data Reached (service : Service) : World → Type 0 where
-  empty : Reached service (record { shared = first_values service; live = [] })
-  begun : (w : World) (session : ℕ) → Reached service w → Reached service (settled (turn_of service (beginner w session)) w [] (beginner w session) w.live)
-  gone_on : (w : World) (before : List Live) (l : Live) (behind : List Live) (form : Form) → w.live ≡ before ++ l ∷ behind → Reached service w →
-      Reached service (settled (turn_of service (answered_by form w l)) w before (answered_by form w l) behind)
-  dropped : (w : World) (before : List Live) (l : Live) (behind : List Live) → w.live ≡ before ++ l ∷ behind → Reached service w →
-      Reached service (record { shared = w.shared; live = before ++ behind })
+  none : Reached service (empty service)
+  one_more : (w : World) (request : Request) (key : ℕ) → Reached service w → Reached service (step service w request key).world
 
--- what is known of a shared variable's literal
-abbrev pub literal_known : Service → Literal → Abstract
-literal_known service (literals.Int n) = Nothing
-literal_known service (literals.Bool b) = Nothing
-literal_known service (literals.Str s) = Strings (same s)
-literal_known service (literals.Tmpl w) = template_known service w
+-- ---- sessions
 
--- the facts solve the system of the whole service: of each session, and of the shared variables' literals
-pub record AcceptsAll (service : Service) (f : Facts Spot) : Type 0 where
-  pub literals : AllByRecursion (λ (v : Shared). Below (literal_known service v.init) (f.shared v.name)) service.shared
-  pub sessions : (session : ℕ) → Accepts service f session
+-- what a session begins with is covered: the shared variables, or the locals and the document of the show at which it was loaded
+abbrev pub CoversOrigin : Service → Facts Spot → Origin → Type 0
+CoversOrigin service f (Started shared) = CoversShared service f shared
+CoversOrigin service f (Loaded at locals rests shown turn) =
+    CoversLocals service f (f.place at) locals × CoversTree service (f.shown (f.place at)) shown.tree
 
--- a live session's turn is covered, and its plugs are open
-pub record CoversLive (service : Service) (f : Facts Spot) (l : Live) : Type 0 where
-  pub first : CoversShared service f l.first
-  pub inputs : CoversInputs service f l.inputs
-  pub turn : IsCovered service f (turn_of service l)
-  pub plugs : AreOpen (turn_plugs service l.session l.first l.inputs)
+-- a session waits at a show, where its locals and its document are covered
+abbrev pub WaitsAtShow : Service → Facts Spot → Outcome → Type 0
+WaitsAtShow service f (Shown at locals rests shown shared units) =
+    CoversLocals service f (f.place at) locals × CoversTree service (f.shown (f.place at)) shown.tree
+WaitsAtShow service f (Went st) = ⊥
+WaitsAtShow service f (Exited last shared units) = ⊥
+WaitsAtShow service f (Failed x units) = ⊥
+
+-- the plugs that a session makes over these inputs, from where it begins on
+abbrev pub plugs_over : Service → ℕ → Origin → List Input → List Plug
+plugs_over service session (Started shared) inputs = turn_plugs service session shared inputs
+plugs_over service session (Loaded at locals rests shown turn) [] = []
+plugs_over service session (Loaded at locals rests shown turn) (i ∷ later) =
+    go_on_plugs service session (record { at = at; locals = locals; rests = rests; input = i; later = later })
+
+abbrev pub talk_plugs : Service → Talk → List Plug
+talk_plugs service talk = plugs_over service talk.session talk.origin talk.inputs
+
+-- a live session: what it begins with, its inputs, where it waits, and the plugs that it makes up to there
+pub record CoversTalk (service : Service) (f : Facts Spot) (talk : Talk) : Type 0 where
+  pub origin : CoversOrigin service f talk.origin
+  pub inputs : CoversInputs service f talk.inputs
+  pub waits : WaitsAtShow service f (now service talk)
+  pub plugs : AreOpen (talk_plugs service talk)
+
+-- ---- worlds
 
 -- each shared variable, and each live session
 pub record CoversWorld (service : Service) (f : Facts Spot) (w : World) : Type 0 where
   pub shared : CoversShared service f w.shared
-  pub live : AllByRecursion (CoversLive service f) w.live
+  pub live : AllByRecursion (λ (l : Live). CoversTalk service f l.talk) w.live
 
+-- what a session comes to is covered, and each plug that it makes has an open gap
+pub record ComesToCovered (service : Service) (f : Facts Spot) (talk : Talk) : Type 0 where
+  pub result : IsCovered service f (now service talk)
+  pub plugs : AreOpen (talk_plugs service talk)
+
+-- whatever is requested next: each session that begins, and each live session with one form more
+pub record CoversNext (service : Service) (f : Facts Spot) (w : World) : Type 0 where
+  pub begins : (session : ℕ) → ComesToCovered service f (beginner w session)
+  pub goes_on : (form : Form) → AllByRecursion (λ (l : Live). ComesToCovered service f (with_input l.talk form w.shared)) w.live
+
+-- ---- laws
+
+abbrev pub EmptyIsCovered : Type 0
+EmptyIsCovered = (service : Service) (f : Facts Spot) → AcceptsAll service f → CoversWorld service f (empty service)
+
+abbrev pub StepsKeepCovering : Type 0
+StepsKeepCovering =
+    (service : Service) (f : Facts Spot) (w : World) (request : Request) (key : ℕ) → AcceptsAll service f → CoversWorld service f w →
+    CoversWorld service f (step service w request key).world
+
+-- what a covered world comes to next is covered, whether it shows, ends or fails
+abbrev pub NextIsCovered : Type 0
+NextIsCovered = (service : Service) (f : Facts Spot) (w : World) → AcceptsAll service f → CoversWorld service f w → CoversNext service f w
+
+-- every world that requests reach is covered, and so is what comes next
 abbrev pub WorldsAreCovered : Type 0
-WorldsAreCovered = (service : Service) (f : Facts Spot) (w : World) → AcceptsAll service f → Reached service w → CoversWorld service f w
+WorldsAreCovered =
+    (service : Service) (f : Facts Spot) (w : World) → AcceptsAll service f → Reached service w → CoversWorld service f w × CoversNext service f w
+
+-- and the messages of a stream reach no other worlds
+abbrev pub StreamsReach : Type 0
+StreamsReach =
+    (service : Service) (at to : At) (replies : List Reply) (cost : ℕ) → Turns service at replies cost to → Reached service at.world → Reached service to.world

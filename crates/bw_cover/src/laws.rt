@@ -1,7 +1,7 @@
 // Laws of the definitions.
 
 ghost use Rattle.bw_cover.specs.Sound.{TurnIsCovered, GoingOnIsCovered, TurnPlugsAreOpen, GoingOnPlugsAreOpen};
-ghost use Rattle.bw_cover.specs.Worlds.{WorldsAreCovered};
+ghost use Rattle.bw_cover.specs.Worlds.{EmptyIsCovered, StepsKeepCovering, NextIsCovered, WorldsAreCovered, StreamsReach};
 ghost use Rattle.bw_cover.specs.Least.{LeastObeys};
 ghost use Rattle.bw_cover.specs.Kinds.{CheckedIsAccepted, PlacesFit, TypedLiterals};
 ghost use Rattle.bw_cover.specs.LeastKinds.{SolvedIsAccepted, SolvedWorldsAreCovered};
@@ -22,9 +22,14 @@ pub fn plugs_are_open()
     ensures going_on { GoingOnPlugsAreOpen }
 {}
 
-/// So every world that requests reach is covered, whichever sessions they interleave.
+/// So every world that requests reach is covered, whichever sessions they interleave, and so is whatever comes next: the
+/// empty world is, each step keeps it, and from a covered world each session comes to what is covered, by open plugs.
 pub fn worlds_are_covered()
-    ensures { WorldsAreCovered }
+    ensures empty { EmptyIsCovered }
+    ensures steps { StepsKeepCovering }
+    ensures next { NextIsCovered }
+    ensures reached { WorldsAreCovered }
+    ensures streams { StreamsReach }
 {}
 
 /// The union of all rounds from empty cells obeys where each point leads, and the literals of the shared variables.
