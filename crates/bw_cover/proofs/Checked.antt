@@ -37,7 +37,8 @@ beside_first {A} w v x l = by_test (same w v)
     by_test true = refl
     by_test false = refl
 
-pub agree_next : (scope : Scope) (sc : List (List ℕ)) (w : List ℕ) (kind : Kind) → ((v : List ℕ) → is_some (beside v scope.locals) ≡ is_among v sc) → (v : List ℕ) → is_some (beside v ((w, kind) ∷ scope.locals)) ≡ is_among v (sc ++ w ∷ [])
+pub agree_next : (scope : Scope) (sc : List (List ℕ)) (w : List ℕ) (kind : Kind) → ((v : List ℕ) → is_some (beside v scope.locals) ≡ is_among v sc)
+    → (v : List ℕ) → is_some (beside v ((w, kind) ∷ scope.locals)) ≡ is_among v (sc ++ w ∷ [])
 agree_next scope sc w kind h v = ap is_some (beside_first v w kind scope.locals) ∙ by_test (same v w) (is_among v sc) (h v) ∙ sym (among-added v w sc)
   where
     by_test : (b c : Bool) → is_some (beside v scope.locals) ≡ c → is_some (if b then Some kind else beside v scope.locals) ≡ (c || b)
@@ -45,7 +46,8 @@ agree_next scope sc w kind h v = ap is_some (beside_first v w kind scope.locals)
     by_test true false k = refl
     by_test false c k = k ∙ sym (or_none c)
 
-pub shared_names : (vs : List Shared) (w : List ℕ) → is_some (beside w (map (λ (v : Shared). (v.name, v.kind)) vs)) ≡ is_among w (map (λ (v : Shared). v.name) vs)
+pub shared_names : (vs : List Shared) (w : List ℕ) → is_some (beside w (map (λ (v : Shared). (v.name, v.kind)) vs)) ≡ is_among w
+    (map (λ (v : Shared). v.name) vs)
 shared_names [] w = refl
 shared_names (v ∷ vs) w = ap is_some (beside_first w v.name v.kind (map (λ (x : Shared). (x.name, x.kind)) vs)) ∙ by_test (same w v.name) (shared_names vs w)
   where
@@ -62,26 +64,39 @@ pub template_of : (service : Service) (w : List ℕ) (kind : Kind) → template_
 template_of service w kind e = by_test (is_among w (template_names service)) refl e
   where
     by_test : (b : Bool) → is_among w (template_names service) ≡ b → (if b then Some kinds.Html else None) ≡ Some kind → IsOf kind (template_known service w)
-    by_test true t k = subst (λ x. IsOf x (template_known service w)) (kind_of_some kinds.Html kind k) (is_html (is_among w (template_names service)) (constant (template_items service) (is_gap service) (number (template_names service) w)) t)
+    by_test true t k = subst (λ x. IsOf x (template_known service w)) (kind_of_some kinds.Html kind k)
+        (is_html (is_among w (template_names service)) (constant (template_items service) (is_gap service) (number (template_names service) w)) t)
     by_test false t k = cc
 
-module _ {K : Type 0} (service : Service) (f : Facts K) (one : AllPairs (λ x y. x.0 ≡ y.0 → x.1 ≡ y.1) (template_uses service.templates)) (there : GapsAreThere service) (shared : SharedAreOf service f) where
+module _ {K : Type 0} (service : Service) (f : Facts K) (one : AllPairs (λ x y. x.0 ≡ y.0 → x.1 ≡ y.1) (template_uses service.templates))
+    (there : GapsAreThere service) (shared : SharedAreOf service f) where
   module _ (p : K) (scope : Scope) (agree : Agree scope (f.scope p)) (locals : LocalsAreOf f p scope) where
-    shared_of : (w : List ℕ) (kind : Kind) (o : Option Kind) → beside w (shared_kinds service) ≡ o → option_or o (template_kind service w) ≡ Some kind → IsOf kind (if is_shared service w then f.shared w else template_known service w)
-    shared_of w kind None e k = subst (λ b. IsOf kind (if b then f.shared w else template_known service w)) (sym (ap is_some e) ∙ shared_names service.shared w) (template_of service w kind k)
-    shared_of w kind (Some x) e k = subst (λ b. IsOf kind (if b then f.shared w else template_known service w)) (sym (ap is_some e) ∙ shared_names service.shared w) (shared w kind (e ∙ k))
+    shared_of : (w : List ℕ) (kind : Kind) (o : Option Kind) → beside w (shared_kinds service) ≡ o → option_or o (template_kind service w) ≡ Some kind
+        → IsOf kind (if is_shared service w then f.shared w else template_known service w)
+    shared_of w kind None e k =
+        subst (λ b. IsOf kind (if b then f.shared w else template_known service w)) (sym (ap is_some e) ∙ shared_names service.shared w)
+        (template_of service w kind k)
+    shared_of w kind (Some x) e k =
+        subst (λ b. IsOf kind (if b then f.shared w else template_known service w)) (sym (ap is_some e) ∙ shared_names service.shared w)
+        (shared w kind (e ∙ k))
 
-    name_of : (w : List ℕ) (kind : Kind) (o : Option Kind) → beside w scope.locals ≡ o → option_or (option_or o (beside w (shared_kinds service))) (template_kind service w) ≡ Some kind → IsOf kind (look service f p w)
+    name_of : (w : List ℕ) (kind : Kind) (o : Option Kind) → beside w scope.locals ≡ o → option_or (option_or o (beside w (shared_kinds service)))
+        (template_kind service w) ≡ Some kind → IsOf kind (look service f p w)
     name_of w kind None e k =
-        subst (λ b. IsOf kind (if b then f.local p w else if is_shared service w then f.shared w else template_known service w)) (sym (ap is_some e) ∙ agree w) (shared_of w kind (beside w (shared_kinds service)) refl k)
+        subst (λ b. IsOf kind (if b then f.local p w else if is_shared service w then f.shared w else template_known service w))
+        (sym (ap is_some e) ∙ agree w) (shared_of w kind (beside w (shared_kinds service)) refl k)
     name_of w kind (Some x) e k =
-        subst (λ b. IsOf kind (if b then f.local p w else if is_shared service w then f.shared w else template_known service w)) (sym (ap is_some e) ∙ agree w) (locals w kind (e ∙ k))
+        subst (λ b. IsOf kind (if b then f.local p w else if is_shared service w then f.shared w else template_known service w))
+        (sym (ap is_some e) ∙ agree w) (locals w kind (e ∙ k))
 
-    pub typed_at : (e : Term) (kind : Kind) → HasKind service scope e kind → IsOf kind (known service (look service f p) e) × EachPair (IsPlug service) service (look service f p) e
+    pub typed_at : (e : Term) (kind : Kind) → HasKind service scope e kind → IsOf kind (known service (look service f p) e)
+        × EachPair (IsPlug service) service (look service f p) e
     typed_at e kind h = typed_known service one there scope (look service f p) (λ w k i. name_of w k (beside w scope.locals) refl i) e kind h
 
-module _ (service : Service) (f : Facts Spot) (one : AllPairs (λ x y. x.0 ≡ y.0 → x.1 ≡ y.1) (template_uses service.templates)) (there : GapsAreThere service) (shared : SharedAreOf service f) where
-  at : (n : ℕ) (scope : Scope) (sc : List (List ℕ)) (e : Term) (kind : Kind) → f.scope (statement n) ≡ sc → Agree scope sc → LocalsAreOf f (statement n) scope → HasKind service scope e kind
+module _ (service : Service) (f : Facts Spot) (one : AllPairs (λ x y. x.0 ≡ y.0 → x.1 ≡ y.1) (template_uses service.templates))
+    (there : GapsAreThere service) (shared : SharedAreOf service f) where
+  at : (n : ℕ) (scope : Scope) (sc : List (List ℕ)) (e : Term) (kind : Kind) → f.scope (statement n) ≡ sc → Agree scope sc
+      → LocalsAreOf f (statement n) scope → HasKind service scope e kind
       → IsOf kind (known service (look service f (statement n)) e) × EachPair (IsPlug service) service (look service f (statement n)) e
   at n scope sc e kind s a k h = typed_at service f one there shared (statement n) scope (λ w. a w ∙ ap (is_among w) (sym s)) k e kind h
 
@@ -93,7 +108,8 @@ module _ (service : Service) (f : Facts Spot) (one : AllPairs (λ x y. x.0 ≡ y
   page_is (Strings S) h = absurd h
   page_is (Html G) h = refl
 
-  typed_code : (c : Code) (n : ℕ) (scope : Scope) (sc : List (List ℕ)) → ((w : List ℕ) → is_some (beside w scope.locals) ≡ is_among w sc) → IsTypedCode service scope c → Scoped f c n sc → CellsAreOf f c n scope → Shows service f c n
+  typed_code : (c : Code) (n : ℕ) (scope : Scope) (sc : List (List ℕ)) → ((w : List ℕ) → is_some (beside w scope.locals) ≡ is_among w sc)
+      → IsTypedCode service scope c → Scoped f c n sc → CellsAreOf f c n scope → Shows service f c n
       → EachPoint P c n × Pages service f c n
   typed_code done n scope sc a t s k sh = (tt, tt)
   typed_code (declare kind w e rest) n scope sc a t s k sh =
@@ -136,7 +152,8 @@ module _ (service : Service) (f : Facts Spot) (one : AllPairs (λ x y. x.0 ≡ y
 -- ---- sessions
 
 -- what holds of each session's body holds of the body at a place, where it holds of no statements
-pub at_body : (P : Code → Type 0) → P done → (ss : List Session) → All (λ (s : Session). P s.body) ss → (k : ℕ) → P (unwrap_or (slice_get (map (λ (s : Session). s.body) ss) k) done)
+pub at_body : (P : Code → Type 0) → P done → (ss : List Session) → All (λ (s : Session). P s.body) ss → (k : ℕ)
+    → P (unwrap_or (slice_get (map (λ (s : Session). s.body) ss) k) done)
 at_body P none [] h zero = none
 at_body P none [] h (suc k) = none
 at_body P none (s ∷ ss) h zero = h 0 s (omega arith)

@@ -27,7 +27,8 @@ keep : (p q : Spot) → Leads rows_service rows_facts p keeps q
 keep p q = record { locals = λ w a i e. own_is w (is_among w (rows_facts.scope p)) a e; adds = tt }
 
 -- a point that leaves this in a local
-set_by : (w v : List ℕ) (x a : Abstract) (s b : Bool) → same w v ≡ s → Below x (cell v) → (if s then Some x else (if b then Some (cell w) else None)) ≡ Some a → Below a (cell w)
+set_by : (w v : List ℕ) (x a : Abstract) (s b : Bool) → same w v ≡ s → Below x (cell v) → (if s then Some x else (if b then Some (cell w) else None))
+    ≡ Some a → Below a (cell w)
 set_by w v x a true b t h e = subst (λ y. Below y (cell w)) (some_is x a e) (subst (λ y. Below x (cell y)) (sym (same_is w v t)) h)
 set_by w v x a false b t h e = own_is w b a e
 
@@ -38,7 +39,8 @@ not_shared e = absurd (false≢true e)
 receive_c : Leads rows_service rows_facts (statement 2) (takes (record { target = codes "c"; field = codes "f" } ∷ [])) (statement 3)
 receive_c = record { locals = λ w a i e. by_test w a (same w (codes "c")) refl e; adds = (λ i j. not_shared j, tt) }
   where
-    by_test : (w : List ℕ) (a : Abstract) (b : Bool) → same w (codes "c") ≡ b → option_map (λ (x : Abstract). if b then received_by x else x) (if b || false then Some (cell w) else None) ≡ Some a → Below a (cell w)
+    by_test : (w : List ℕ) (a : Abstract) (b : Bool) → same w (codes "c") ≡ b → option_map (λ (x : Abstract). if b then received_by x else x)
+        (if b || false then Some (cell w) else None) ≡ Some a → Below a (cell w)
     by_test w a true t e = subst (λ y. Below a (cell y)) (sym (same_is w (codes "c") t)) (below_nothing a)
     by_test w a false t e = cc
 
@@ -80,7 +82,8 @@ one_more_row = record {
     edge_of false m false k e = e
 
     track_of : (y z o m p : Bool) → (y ≡ true → z ≡ true) → (p ≡ true → o ≡ true)
-        → (if y then (if o then false else (m && ((p || false) || (z || false)))) else (z || (if o then false else (m && ((p || false) || (z || false)))))) ≡ true → z ≡ true
+        → (if y then (if o then false else (m && ((p || false) || (z || false)))) else (z || (if o then false else (m && ((p || false) || (z || false))))))
+        ≡ true → z ≡ true
     track_of true z o m p k j e = k refl
     track_of false true o m p k j e = refl
     track_of false false true m p k j e = e
@@ -128,13 +131,24 @@ rows_are_accepted = record {
       (
         receive_c,
         (
-          record { locals = λ w a i e. set_by w (codes "d") (known rows_service (look rows_service rows_facts (statement 3)) (name (codes "List"))) a (same w (codes "d")) (is_among w (codes "c" ∷ [])) refl list_of_none e; adds = λ i j. not_shared j },
+          record {
+            locals = λ w a i e. set_by w (codes "d") (known rows_service (look rows_service rows_facts (statement 3)) (name (codes "List"))) a
+                (same w (codes "d")) (is_among w (codes "c" ∷ [])) refl list_of_none e;
+            adds = λ i j. not_shared j;
+          },
           (
-            record { locals = λ w a i e. set_by w (codes "x") any a (same w (codes "x")) (is_among w (codes "c" ∷ codes "d" ∷ [])) refl (λ s h. h) e; adds = tt },
+            record {
+              locals = λ w a i e. set_by w (codes "x") any a (same w (codes "x")) (is_among w (codes "c" ∷ codes "d" ∷ [])) refl (λ s h. h) e;
+              adds = tt;
+            },
             (
               keep (statement 4) (statement 6),
               (
-                record { locals = λ w a i e. set_by w (codes "d") (Html (plugged rows_known 0 row)) a (same w (codes "d")) (is_among w (codes "c" ∷ codes "d" ∷ codes "x" ∷ [])) refl one_more_row e; adds = λ i j. not_shared j },
+                record {
+                  locals = λ w a i e. set_by w (codes "d") (Html (plugged rows_known 0 row)) a (same w (codes "d"))
+                      (is_among w (codes "c" ∷ codes "d" ∷ codes "x" ∷ [])) refl one_more_row e;
+                  adds = λ i j. not_shared j;
+                },
                 tt,
               ),
             ),

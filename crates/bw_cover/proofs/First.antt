@@ -36,14 +36,17 @@ module _ {K : Type 0} (service : Service) (f : Facts K) where
       by_test true h = refl
       by_test false h = h
 
-  first_each : (vs : List Shared) → AllByRecursion (λ (v : Shared). Below (literal_known service v.init) (f.shared v.name)) vs → (w : List ℕ) (x : Value) → beside w (begins vs) ≡ Some x → covers service (f.shared w) x
+  first_each : (vs : List Shared) → AllByRecursion (λ (v : Shared). Below (literal_known service v.init) (f.shared v.name)) vs → (w : List ℕ) (x : Value)
+      → beside w (begins vs) ≡ Some x → covers service (f.shared w) x
   first_each [] h w x e = absurd (none_some None x refl e)
-  first_each (v ∷ vs) h w x e = by_test (same w v.name) refl (sym (beside-cons w v.name (literal_value service v.init) (begins vs)) ∙ e) (first_each vs h.1 w x)
+  first_each (v ∷ vs) h w x e = by_test (same w v.name) refl (sym (beside-cons w v.name (literal_value service v.init) (begins vs)) ∙ e)
+      (first_each vs h.1 w x)
     where
       found : (y z : Value) → Some y ≡ Some z → y ≡ z
       found y z k = cc
 
-      by_test : (b : Bool) → same w v.name ≡ b → (if b then Some (literal_value service v.init) else beside w (begins vs)) ≡ Some x → (beside w (begins vs) ≡ Some x → covers service (f.shared w) x) → covers service (f.shared w) x
+      by_test : (b : Bool) → same w v.name ≡ b → (if b then Some (literal_value service v.init) else beside w (begins vs)) ≡ Some x
+          → (beside w (begins vs) ≡ Some x → covers service (f.shared w) x) → covers service (f.shared w) x
       by_test true t k r =
           subst (λ n. covers service (f.shared n) x) (sym (same_is w v.name t))
           (subst (covers service (f.shared v.name)) (found (literal_value service v.init) x k)
@@ -51,5 +54,6 @@ module _ {K : Type 0} (service : Service) (f : Facts K) where
       by_test false t k r = r k
 
   -- the shared variables begin covered
-  pub first_covered : AllByRecursion (λ (v : Shared). Below (literal_known service v.init) (f.shared v.name)) service.shared → CoversShared service f (first_values service)
+  pub first_covered : AllByRecursion (λ (v : Shared). Below (literal_known service v.init) (f.shared v.name)) service.shared
+      → CoversShared service f (first_values service)
   first_covered h = record { names = first_names service.shared; each = first_each service.shared h }

@@ -20,7 +20,8 @@ use Rattle.bw_flow.specs.Steps.{Act, sets, tests, goes_over, shows, exits, joins
 use Rattle.bw_cover.specs.Facts.{Facts, look, Leads, Edge, edge, EachLeads, IsPoint, Apart, Laid}
 use Rattle.bw_types.specs.Scopes.{is_among}
 use Rattle.bw_cover.specs.Least.{with_cells}
-use Rattle.bw_cover.specs.Flows.{names_of, written, Fits, LeadsToAll, ActLeads, ObeysFlow, FlowTurnIsCovered, FlowGoingOnIsCovered, edges_to, act_edges, flow_edges, FlowLeastObeys}
+use Rattle.bw_cover.specs.Flows.{names_of, written, Fits, LeadsToAll, ActLeads, ObeysFlow, FlowTurnIsCovered, FlowGoingOnIsCovered, edges_to}
+use Rattle.bw_cover.specs.Flows.{act_edges, flow_edges, FlowLeastObeys}
 use Rattle.bw_cover.proofs.Solved.{least_leads}
 use Rattle.bw_cover.proofs.Laying.{Distinct, distinct, distinct_append, apart_append, apart_new, apart_next, apart_declared, or_false, both_false}
 use Rattle.bw_cover.proofs.Turns.{laid_turn, laid_go_on}
@@ -39,7 +40,8 @@ module _ (service : Service) (f : Facts ℕ) (flow : List Step) (h : ObeysFlow s
   at : (p : ℕ) (sc : List Local) (e : Term) → f.scope p ≡ names_of sc → Fits service f p e → IsPoint service f p (names_of sc) e
   at p sc e s g = record { scope = s; gaps = g.gaps; plugs = g.plugs }
 
-  laid : (c : Code) (n : ℕ) (sc : List Local) (d p q : ℕ) → Distinct (local_names c) → Apart (names_of sc) (local_names c) → Lowered service flow c n sc d p q → Laid service f c n (names_of sc) p q
+  laid : (c : Code) (n : ℕ) (sc : List Local) (d p q : ℕ) → Distinct (local_names c) → Apart (names_of sc) (local_names c)
+      → Lowered service flow c n sc d p q → Laid service f c n (names_of sc) p q
   laid done n sc d p q i a l = l
   laid (declare k w e rest) n sc d p q i a (r, x, l) =
       let o = h p (step n sc d (sets w e) (r ∷ [])) x in
@@ -48,7 +50,9 @@ module _ (service : Service) (f : Facts ℕ) (flow : List Step) (h : ObeysFlow s
         at p sc e o.scope o.fits,
         apart_new (names_of sc) w (local_names rest) a,
         o.leads.0,
-        subst (λ ns. Laid service f rest (n + 1) ns r q) s (laid rest (n + 1) (with_local sc w k) d r q i.1 (subst (λ ns. Apart ns (local_names rest)) (sym s) (apart_next (names_of sc) w (local_names rest) a i.0)) l),
+        subst (λ ns. Laid service f rest (n + 1) ns r q) s
+            (laid rest (n + 1) (with_local sc w k) d r q i.1
+            (subst (λ ns. Apart ns (local_names rest)) (sym s) (apart_next (names_of sc) w (local_names rest) a i.0)) l),
       )
   laid (assign w e rest) n sc d p q i a (r, x, l) =
       let o = h p (step n sc d (sets w e) (r ∷ [])) x in
@@ -123,12 +127,19 @@ module _ (service : Service) (f : Facts ℕ) (flow : List Step) (h : ObeysFlow s
         λ v m. both_false (same v w) (is_among v (declared b)) (tail v m).0 (apart_declared (names_of sc) b aa.0 v m),
         o.leads.0,
         o.leads.1.0,
-        subst (λ ns. Laid service f b (n + 1) ns y p) s (laid b (n + 1) (with_local sc w kinds.Str) (d + 1) y p ii.0 (subst (λ ns. Apart ns (local_names b)) (sym s) ai.0) lb),
+        subst (λ ns. Laid service f b (n + 1) ns y p) s
+            (laid b (n + 1) (with_local sc w kinds.Str) (d + 1) y p ii.0 (subst (λ ns. Apart ns (local_names b)) (sym s) ai.0) lb),
         laid rest (n + 1 + numbered b) sc d r q ii.1 aa.1 l,
       )
   laid (show e rs rest) n sc d p q i a (r, x, l) =
-      let o = h p (step n sc d (shows e (receives service sc rs)) (r ∷ [])) x in
-      (r, at p sc e o.scope o.fits.0, o.fits.1, o.fits.2, subst (λ xs. Leads service f p (facts.takes xs) r) (written_back service sc rs) o.leads.0, laid rest (n + 1) sc d r q i a l)
+      let o = h p (step n sc d (shows e (receives service sc rs)) (r ∷ [])) x in (
+        r,
+        at p sc e o.scope o.fits.0,
+        o.fits.1,
+        o.fits.2,
+        subst (λ xs. Leads service f p (facts.takes xs) r) (written_back service sc rs) o.leads.0,
+        laid rest (n + 1) sc d r q i a l,
+      )
   laid (exit e rest) n sc d p q i a (r, x, l) =
       let o = h p (step n sc d (exits e) []) x in
       (r, at p sc e o.scope o.fits.0, o.fits.1, o.fits.2, laid rest (n + 1) sc d r q i a l)
@@ -139,12 +150,16 @@ nothing_apart names w h = absurd (false≢true h)
 pub flow_turn : FlowTurnIsCovered
 flow_turn service f flow session first inputs a c i =
     let b = body_of service session in
-    laid_turn service f session a.first a.last first inputs (laid service f flow a.obeys b (first_number service session) [] 0 a.first a.last (distinct (local_names b) a.differ) (nothing_apart (local_names b)) a.lowered) c i
+    laid_turn service f session a.first a.last first inputs
+    (laid service f flow a.obeys b (first_number service session) [] 0 a.first a.last (distinct (local_names b) a.differ)
+    (nothing_apart (local_names b)) a.lowered) c i
 
 pub flow_going_on : FlowGoingOnIsCovered
 flow_going_on service f flow session w a cl cs ci =
     let b = body_of service session in
-    laid_go_on service f session a.first a.last w (laid service f flow a.obeys b (first_number service session) [] 0 a.first a.last (distinct (local_names b) a.differ) (nothing_apart (local_names b)) a.lowered) cl cs ci
+    laid_go_on service f session a.first a.last w
+    (laid service f flow a.obeys b (first_number service session) [] 0 a.first a.last (distinct (local_names b) a.differ)
+    (nothing_apart (local_names b)) a.lowered) cl cs ci
 
 -- ---- least cells
 
@@ -171,12 +186,16 @@ module _ (service : Service) (f : Facts ℕ) where
   point_leads (y ∷ flow) n zero x h i =
       let e : y ≡ x = cc in
       let m : n ≡ n + 0 = omega arith in
-      subst (λ z. ActLeads service f (n + 0) z.act z.next) e (subst (λ k. ActLeads service f k y.act y.next) m (act_leads n y.act y.next (parts (act_edges n y.act y.next) (flow_edges flow (n + 1)) h).0))
+      subst (λ z. ActLeads service f (n + 0) z.act z.next) e
+      (subst (λ k. ActLeads service f k y.act y.next) m (act_leads n y.act y.next (parts (act_edges n y.act y.next) (flow_edges flow (n + 1)) h).0))
   point_leads (y ∷ flow) n (suc p) x h i =
       let m : n + 1 + p ≡ n + suc p = omega arith in
       subst (λ k. ActLeads service f k x.act x.next) m (point_leads flow (n + 1) p x (parts (act_edges n y.act y.next) (flow_edges flow (n + 1)) h).1 i)
 
 pub flow_least_obeys : FlowLeastObeys
 flow_least_obeys service f flow empty c h =
-    let r = least_leads (λ p q. p == q) (λ p. eq-eqb p p refl) service f (flow_edges flow 0) empty c h in
-    (λ p x i. let m : 0 + p ≡ p = omega arith in subst (λ k. ActLeads service (with_cells f c) k x.act x.next) m (point_leads service (with_cells f c) flow 0 p x r.0 i), r.1)
+    let r = least_leads (λ p q. p == q) (λ p. eq-eqb p p refl) service f (flow_edges flow 0) empty c h in (
+      λ p x i. let m : 0 + p ≡ p = omega arith in
+          subst (λ k. ActLeads service (with_cells f c) k x.act x.next) m (point_leads service (with_cells f c) flow 0 p x r.0 i),
+      r.1,
+    )

@@ -70,17 +70,27 @@ apart_next sc w ws a d v h = by_test (is_among v sc) (same v w) refl refl (sym (
 -- what a block itself declares is among its locals
 pub declared_local : (w : List ℕ) (c : Code) → is_among w (local_names c) ≡ false → is_among w (declared c) ≡ false
 declared_local w done h = refl
-declared_local w (declare kind v e rest) h = let r = or_false (same w v) (is_among w (local_names rest)) h in both_false (same w v) (is_among w (declared rest)) r.0 (declared_local w rest r.1)
+declared_local w (declare kind v e rest) h = let r = or_false (same w v) (is_among w (local_names rest)) h in
+    both_false (same w v) (is_among w (declared rest)) r.0 (declared_local w rest r.1)
 declared_local w (assign v e rest) h = declared_local w rest h
-declared_local w (if_then t y rest) h = declared_local w rest (or_false (is_among w (local_names y)) (is_among w (local_names rest)) (sym (list_any-append (same w) (local_names y) (local_names rest)) ∙ h)).1
+declared_local w (if_then t y rest) h =
+    declared_local w rest
+    (or_false (is_among w (local_names y)) (is_among w (local_names rest)) (sym (list_any-append (same w) (local_names y) (local_names rest)) ∙ h)).1
 declared_local w (if_else t y z rest) h =
-    let r = or_false (is_among w (local_names y)) (is_among w (local_names z ++ local_names rest)) (sym (list_any-append (same w) (local_names y) (local_names z ++ local_names rest)) ∙ h) in
-    declared_local w rest (or_false (is_among w (local_names z)) (is_among w (local_names rest)) (sym (list_any-append (same w) (local_names z) (local_names rest)) ∙ r.1)).1
-declared_local w (while_loop t b rest) h = declared_local w rest (or_false (is_among w (local_names b)) (is_among w (local_names rest)) (sym (list_any-append (same w) (local_names b) (local_names rest)) ∙ h)).1
-declared_local w (block b rest) h = declared_local w rest (or_false (is_among w (local_names b)) (is_among w (local_names rest)) (sym (list_any-append (same w) (local_names b) (local_names rest)) ∙ h)).1
+    let r = or_false (is_among w (local_names y)) (is_among w (local_names z ++ local_names rest))
+    (sym (list_any-append (same w) (local_names y) (local_names z ++ local_names rest)) ∙ h) in
+    declared_local w rest
+    (or_false (is_among w (local_names z)) (is_among w (local_names rest)) (sym (list_any-append (same w) (local_names z) (local_names rest)) ∙ r.1)).1
+declared_local w (while_loop t b rest) h =
+    declared_local w rest
+    (or_false (is_among w (local_names b)) (is_among w (local_names rest)) (sym (list_any-append (same w) (local_names b) (local_names rest)) ∙ h)).1
+declared_local w (block b rest) h =
+    declared_local w rest
+    (or_false (is_among w (local_names b)) (is_among w (local_names rest)) (sym (list_any-append (same w) (local_names b) (local_names rest)) ∙ h)).1
 declared_local w (for_each v e b rest) h =
     let r = or_false (same w v) (is_among w (local_names b ++ local_names rest)) h in
-    declared_local w rest (or_false (is_among w (local_names b)) (is_among w (local_names rest)) (sym (list_any-append (same w) (local_names b) (local_names rest)) ∙ r.1)).1
+    declared_local w rest
+    (or_false (is_among w (local_names b)) (is_among w (local_names rest)) (sym (list_any-append (same w) (local_names b) (local_names rest)) ∙ r.1)).1
 declared_local w (show p rs rest) h = declared_local w rest h
 declared_local w (exit p rest) h = declared_local w rest h
 
@@ -103,12 +113,20 @@ module _ (service : Service) (f : Facts Spot) where
   at : (p : Spot) (sc : List (List ℕ)) (e : Term) → f.scope p ≡ sc → G p e → P p e → IsPoint service f p sc e
   at p sc e s g k = record { scope = s; gaps = g; plugs = k }
 
-  laid : (c : Code) (n : ℕ) (sc : List (List ℕ)) (q : Spot) → Distinct (local_names c) → Apart sc (local_names c) → Scoped f c n sc → Pages service f c n → EachLeads service f (edges c n q) → EachPoint G c n → EachPoint P c n
+  laid : (c : Code) (n : ℕ) (sc : List (List ℕ)) (q : Spot) → Distinct (local_names c) → Apart sc (local_names c) → Scoped f c n sc → Pages service f c n
+      → EachLeads service f (edges c n q) → EachPoint G c n → EachPoint P c n
       → Laid service f c n sc (starts c n q) q
   laid done n sc q d a s pg l g k = refl
-  laid (declare kind w e rest) n sc q d a s pg l g k =
-      (starts rest (n + 1) q, at (statement n) sc e s.0 g.0 k.0, apart_new sc w (local_names rest) a, l.0, laid rest (n + 1) (sc ++ w ∷ []) q d.1 (apart_next sc w (local_names rest) a d.0) s.1 pg l.1 g.1 k.1)
-  laid (assign w e rest) n sc q d a s pg l g k = (starts rest (n + 1) q, at (statement n) sc e s.0 g.0 k.0, l.0, laid rest (n + 1) sc q d a s.1 pg l.1 g.1 k.1)
+  laid (declare kind w e rest) n sc q d a s pg l g k = (
+    starts rest (n + 1) q,
+    at (statement n) sc e s.0 g.0 k.0,
+    apart_new sc w (local_names rest) a,
+    l.0,
+    laid rest (n + 1) (sc ++ w ∷ []) q d.1
+        (apart_next sc w (local_names rest) a d.0) s.1 pg l.1 g.1 k.1,
+  )
+  laid (assign w e rest) n sc q d a s pg l g k =
+      (starts rest (n + 1) q, at (statement n) sc e s.0 g.0 k.0, l.0, laid rest (n + 1) sc q d a s.1 pg l.1 g.1 k.1)
   laid (if_then t y rest) n sc q d a s pg l g k =
       let m = n + 1 + numbered y in
       let dd = distinct_append (local_names y) (local_names rest) d in
@@ -201,4 +219,5 @@ module _ (service : Service) (f : Facts Spot) where
   pub laid_session : (session : ℕ) → Solves service f session → HasNoGapFault service f session → IsKinded service f session
       → Laid service f (body_of service session) (first_number service session) [] (starts (body_of service session) (first_number service session) out) out
   laid_session session s g k =
-      laid (body_of service session) (first_number service session) [] out (distinct (local_names (body_of service session)) k.differ) (λ w h. absurd (false≢true h)) s.scoped s.pages s.leads g k.plugs
+      laid (body_of service session) (first_number service session) [] out (distinct (local_names (body_of service session)) k.differ)
+      (λ w h. absurd (false≢true h)) s.scoped s.pages s.leads g k.plugs

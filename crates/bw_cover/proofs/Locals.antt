@@ -45,11 +45,13 @@ module _ {K : Type 0} (service : Service) (f : Facts K) (p : K) (l : Values) (c 
   abbrev with_cell : List ℕ → Abstract → List ℕ → Option Abstract
   with_cell w a y = if same y w then Some a else own f p y
 
-  cell_here : (w y : List ℕ) (a : Abstract) (v : Value) (b : Bool) → b ≡ true → covers service a v → (x : Abstract) × ((if b then Some a else own f p y) ≡ Some x) × covers service x v
+  cell_here : (w y : List ℕ) (a : Abstract) (v : Value) (b : Bool) → b ≡ true → covers service a v → (x : Abstract)
+      × ((if b then Some a else own f p y) ≡ Some x) × covers service x v
   cell_here w y a v true e cv = (a, refl, cv)
   cell_here w y a v false e cv = absurd (false≢true e)
 
-  cell_there : (w y : List ℕ) (a : Abstract) (v : Value) (b : Bool) → b ≡ false → ((x : Abstract) × (own f p y ≡ Some x) × covers service x v) → (x : Abstract) × ((if b then Some a else own f p y) ≡ Some x) × covers service x v
+  cell_there : (w y : List ℕ) (a : Abstract) (v : Value) (b : Bool) → b ≡ false → ((x : Abstract) × (own f p y ≡ Some x) × covers service x v)
+      → (x : Abstract) × ((if b then Some a else own f p y) ≡ Some x) × covers service x v
   cell_there w y a v true e h = absurd (false≢true (sym e))
   cell_there w y a v false e h = h
 
@@ -92,13 +94,15 @@ module _ {K : Type 0} (service : Service) (f : Facts K) (p : K) (l : Values) (c 
 
 module _ {K : Type 0} (service : Service) (f : Facts K) where
   -- a value that is stored
-  pub shared_stored : (s : Values) (w : List ℕ) (v : Value) → CoversShared service f s → ((u : Value) → beside w s ≡ Some u → covers service (f.shared w) v) → CoversShared service f (replaced w v s)
+  pub shared_stored : (s : Values) (w : List ℕ) (v : Value) → CoversShared service f s → ((u : Value) → beside w s ≡ Some u → covers service (f.shared w) v)
+      → CoversShared service f (replaced w v s)
   shared_stored s w v c h = record {
     names = λ y. some-replaced w v s y ∙ c.names y;
     each = λ y u e. by_test y u (same w y) (beside y s) refl refl (sym (beside-replaced w v s y) ∙ e);
   }
     where
-      by_test : (y : List ℕ) (u : Value) (b : Bool) (o : Option Value) → same w y ≡ b → beside y s ≡ o → (if b then option_map (λ (z : Value). v) o else o) ≡ Some u → covers service (f.shared y) u
+      by_test : (y : List ℕ) (u : Value) (b : Bool) (o : Option Value) → same w y ≡ b → beside y s ≡ o
+          → (if b then option_map (λ (z : Value). v) o else o) ≡ Some u → covers service (f.shared y) u
       by_test y u true None t i e = absurd (none_some None u refl e)
       by_test y u true (Some x) t i e =
           let j = same_is w y t in
@@ -110,7 +114,8 @@ module _ {K : Type 0} (service : Service) (f : Facts K) where
 
 -- ---- received fields
 
-received_good : (service : Service) (a : Abstract) (old : Value) (values : List (List ℕ)) → covers service a old → covers service (received_by a) (received_value (Some old) values)
+received_good : (service : Service) (a : Abstract) (old : Value) (values : List (List ℕ)) → covers service a old
+    → covers service (received_by a) (received_value (Some old) values)
 received_good service Nothing old values c = tt
 received_good service (Strings S) (number n) values c = absurd c
 received_good service (Strings S) (truth_value b) values c = absurd c
@@ -133,7 +138,8 @@ module _ {K : Type 0} (service : Service) (f : Facts K) (p : K) where
     pub names : (w : List ℕ) → is_some (beside w st.locals) ≡ is_among w (f.scope p)
     pub held : Holds service cells st.locals
     pub shared : CoversShared service f st.shared
-    pub adds : AllByRecursion (λ (r : Receive). is_among r.target (f.scope p) ≡ false → is_shared service r.target ≡ true → Below (received_by (f.shared r.target)) (f.shared r.target)) rs
+    pub adds : AllByRecursion (λ (r : Receive). is_among r.target (f.scope p) ≡ false → is_shared service r.target ≡ true
+        → Below (received_by (f.shared r.target)) (f.shared r.target)) rs
 
   module _ (r : Receive) (rs : List Receive) (cells : List ℕ → Option Abstract) (st : State) (values : List (List ℕ)) (h : Receives cells (r ∷ rs) st) where
     there : (w : List ℕ) (b : Bool) (u : Value) → b ≡ true → (x : Abstract) → cells w ≡ Some x → covers service (received_by x) u
@@ -147,15 +153,19 @@ module _ {K : Type 0} (service : Service) (f : Facts K) (p : K) where
     other w false u t k = (k.0, ap (option_map (λ (a : Abstract). a)) k.1, k.2)
 
     -- the target is a local, or else a shared variable
-    step : (o : Option Value) → beside r.target st.locals ≡ o → Receives (next_cells r cells) rs (store r.target (received_value (option_or o (beside r.target st.shared)) values) st)
+    step : (o : Option Value) → beside r.target st.locals ≡ o
+        → Receives (next_cells r cells) rs (store r.target (received_value (option_or o (beside r.target st.shared)) values) st)
     step (Some old) e = record {
       names = λ w. some-replaced r.target (received_value (Some old) values) st.locals w ∙ h.names w;
-      held = λ w u i. by_test w u (same r.target w) (beside w st.locals) refl refl (sym (beside-replaced r.target (received_value (Some old) values) st.locals w) ∙ i);
-      shared = subst (λ (b : Option Value). CoversShared service f (if is_some b then st.shared else replaced r.target (received_value (Some old) values) st.shared)) (sym e) h.shared;
+      held = λ w u i. by_test w u (same r.target w) (beside w st.locals) refl refl
+          (sym (beside-replaced r.target (received_value (Some old) values) st.locals w) ∙ i);
+      shared = subst (λ (b : Option Value). CoversShared service f
+          (if is_some b then st.shared else replaced r.target (received_value (Some old) values) st.shared)) (sym e) h.shared;
       adds = h.adds.1;
     }
       where
-        by_test : (w : List ℕ) (u : Value) (b : Bool) (o : Option Value) → same r.target w ≡ b → beside w st.locals ≡ o → (if b then option_map (λ (z : Value). received_value (Some old) values) o else o) ≡ Some u
+        by_test : (w : List ℕ) (u : Value) (b : Bool) (o : Option Value) → same r.target w ≡ b → beside w st.locals ≡ o
+            → (if b then option_map (λ (z : Value). received_value (Some old) values) o else o) ≡ Some u
             → (y : Abstract) × (next_cells r cells w ≡ Some y) × covers service y u
         by_test w u true None t i k = absurd (none_some None u refl k)
         by_test w u true (Some x) t i k =
@@ -168,21 +178,25 @@ module _ {K : Type 0} (service : Service) (f : Facts K) (p : K) where
       held = λ w u i. by_test w u (same r.target w) (beside w st.locals) refl refl (sym (beside-replaced r.target v st.locals w) ∙ i);
       shared = subst (λ (b : Option Value). CoversShared service f (if is_some b then st.shared else replaced r.target v st.shared)) (sym e)
           (shared_stored service f st.shared r.target v h.shared (λ old i.
-          covers_below service (received_by (f.shared r.target)) (f.shared r.target) v (h.adds.0 (sym (h.names r.target) ∙ ap is_some e) (is_there service f st.shared r.target old h.shared i))
-          (subst (λ z. covers service (received_by (f.shared r.target)) (received_value z values)) (sym i) (received_good service (f.shared r.target) old values (h.shared.each r.target old i)))));
+          covers_below service (received_by (f.shared r.target)) (f.shared r.target) v
+          (h.adds.0 (sym (h.names r.target) ∙ ap is_some e) (is_there service f st.shared r.target old h.shared i))
+          (subst (λ z. covers service (received_by (f.shared r.target)) (received_value z values)) (sym i)
+          (received_good service (f.shared r.target) old values (h.shared.each r.target old i)))));
       adds = h.adds.1;
     }
       where
         v : Value
         v = received_value (beside r.target st.shared) values
 
-        by_test : (w : List ℕ) (u : Value) (b : Bool) (o : Option Value) → same r.target w ≡ b → beside w st.locals ≡ o → (if b then option_map (λ (z : Value). received_value (beside r.target st.shared) values) o else o) ≡ Some u
+        by_test : (w : List ℕ) (u : Value) (b : Bool) (o : Option Value) → same r.target w ≡ b → beside w st.locals ≡ o
+            → (if b then option_map (λ (z : Value). received_value (beside r.target st.shared) values) o else o) ≡ Some u
             → (y : Abstract) × (next_cells r cells w ≡ Some y) × covers service y u
         by_test w u true None t i k = absurd (none_some None u refl k)
         by_test w u true (Some x) t i k = absurd (none_some (beside w st.locals) x (ap (λ z. beside z st.locals) (sym (same_is r.target w t)) ∙ e) i)
         by_test w u false o t i k = other w (same w r.target) u (same_sym w r.target ∙ t) (h.held w u (i ∙ k))
 
-  then_cells : (r : Receive) (rs : List Receive) (w : List ℕ) (o : Option Abstract) → option_map (receives_by rs w) (option_map (λ (a : Abstract). if same w r.target then received_by a else a) o) ≡ option_map (receives_by (r ∷ rs) w) o
+  then_cells : (r : Receive) (rs : List Receive) (w : List ℕ) (o : Option Abstract)
+      → option_map (receives_by rs w) (option_map (λ (a : Abstract). if same w r.target then received_by a else a) o) ≡ option_map (receives_by (r ∷ rs) w) o
   then_cells r rs w None = refl
   then_cells r rs w (Some a) = refl
 
@@ -196,7 +210,8 @@ module _ {K : Type 0} (service : Service) (f : Facts K) (p : K) where
   }
   received_all (r ∷ rs) form cells st h =
       let values = values_of r.field form in
-      let q = received_all rs form (next_cells r cells) (store r.target (received_value (variable r.target st) values) st) (step r rs cells st values h (beside r.target st.locals) refl) in
+      let q = received_all rs form (next_cells r cells) (store r.target (received_value (variable r.target st) values) st)
+      (step r rs cells st values h (beside r.target st.locals) refl) in
       record {
         names = q.names;
         held = λ w u e. let k = q.held w u e in (k.0, sym (then_cells r rs w (cells w)) ∙ k.1, k.2);

@@ -27,7 +27,8 @@ is_true false true f g = g refl
 is_true false false f g = refl
 
 pub same_sym : (a b : List ℕ) → same a b ≡ same b a
-same_sym a b = is_true (same a b) (same b a) (λ h. subst (λ x. same x a ≡ true) (same_is a b h) (same_self a)) (λ h. subst (λ x. same x b ≡ true) (same_is b a h) (same_self b))
+same_sym a b = is_true (same a b) (same b a) (λ h. subst (λ x. same x a ≡ true) (same_is a b h) (same_self a))
+    (λ h. subst (λ x. same x b ≡ true) (same_is b a h) (same_self b))
 
 -- ---- what stands beside a name
 
@@ -47,7 +48,8 @@ if_false true x y h = absurd (false≢true (sym h))
 if_false false x y h = refl
 
 -- a value that is stored
-pub beside-replaced : (w : List ℕ) (v : Value) (l : Values) (y : List ℕ) → beside y (replaced w v l) ≡ (if same w y then option_map (λ x. v) (beside y l) else beside y l)
+pub beside-replaced : (w : List ℕ) (v : Value) (l : Values) (y : List ℕ)
+    → beside y (replaced w v l) ≡ (if same w y then option_map (λ x. v) (beside y l) else beside y l)
 beside-replaced w v [] y = by_test (same w y)
   where
     by_test : (b : Bool) → None ≡ (if b then option_map (λ (x : Value). v) None else None)
@@ -58,19 +60,23 @@ beside-replaced w v ((u, x) ∷ l) y = at (same w u) refl (beside-replaced w v l
     R : Option Value → Option Value
     R o = if same w y then option_map (λ z. v) o else o
 
-    there : (b c : Bool) → b ≡ c → (if b then Some v else beside y l) ≡ (if c then option_map (λ (z : Value). v) (if b then Some x else beside y l) else (if b then Some x else beside y l))
+    there : (b c : Bool) → b ≡ c
+        → (if b then Some v else beside y l) ≡
+        (if c then option_map (λ (z : Value). v) (if b then Some x else beside y l) else (if b then Some x else beside y l))
     there true true e = refl
     there true false e = absurd (false≢true (sym e))
     there false true e = absurd (false≢true e)
     there false false e = refl
 
-    other : (b c : Bool) (o p : Option Value) → (b ≡ true → c ≡ false) → o ≡ (if c then option_map (λ (z : Value). v) p else p) → (if b then Some x else o) ≡ (if c then option_map (λ (z : Value). v) (if b then Some x else p) else (if b then Some x else p))
+    other : (b c : Bool) (o p : Option Value) → (b ≡ true → c ≡ false) → o ≡ (if c then option_map (λ (z : Value). v) p else p)
+        → (if b then Some x else o) ≡ (if c then option_map (λ (z : Value). v) (if b then Some x else p) else (if b then Some x else p))
     other true true o p h e = absurd (false≢true (sym (h refl)))
     other true false o p h e = refl
     other false c o p h e = e
 
     at : (b : Bool) → same w u ≡ b → beside y (replaced w v l) ≡ (if same w y then option_map (λ (z : Value). v) (beside y l) else beside y l)
-        → beside y (if b then (u, v) ∷ l else (u, x) ∷ replaced w v l) ≡ (if same w y then option_map (λ (z : Value). v) (beside y ((u, x) ∷ l)) else beside y ((u, x) ∷ l))
+        → beside y (if b then (u, v) ∷ l else (u, x) ∷ replaced w v l) ≡
+        (if same w y then option_map (λ (z : Value). v) (beside y ((u, x) ∷ l)) else beside y ((u, x) ∷ l))
     at true e ih =
         beside-cons y u v l ∙ there (same y u) (same w y) (ap (same y) (sym (same_is w u e)) ∙ same_sym y w)
         ∙ ap (λ o. if same w y then option_map (λ (z : Value). v) o else o) (sym (beside-cons y u x l))
@@ -80,10 +86,12 @@ beside-replaced w v ((u, x) ∷ l) y = at (same w u) refl (beside-replaced w v l
         ∙ ap (λ o. if same w y then option_map (λ (z : Value). v) o else o) (sym (beside-cons y u x l))
 
 -- a value that is added
-pub beside-added : (w : List ℕ) (v : Value) (l : Values) (y : List ℕ) → beside y (l ++ (w, v) ∷ []) ≡ option_or (beside y l) (if same y w then Some v else None)
+pub beside-added : (w : List ℕ) (v : Value) (l : Values) (y : List ℕ)
+    → beside y (l ++ (w, v) ∷ []) ≡ option_or (beside y l) (if same y w then Some v else None)
 beside-added w v [] y = beside-cons y w v []
 beside-added w v ((u, x) ∷ l) y =
-    beside-cons y u x (l ++ (w, v) ∷ []) ∙ by_test (same y u) (beside-added w v l y) ∙ ap (λ o. option_or o (if same y w then Some v else None)) (sym (beside-cons y u x l))
+    beside-cons y u x (l ++ (w, v) ∷ []) ∙ by_test (same y u) (beside-added w v l y)
+    ∙ ap (λ o. option_or o (if same y w then Some v else None)) (sym (beside-cons y u x l))
   where
     by_test : (b : Bool) → beside y (l ++ (w, v) ∷ []) ≡ option_or (beside y l) (if same y w then Some v else None)
         → (if b then Some x else beside y (l ++ (w, v) ∷ [])) ≡ option_or (if b then Some x else beside y l) (if same y w then Some v else None)
@@ -99,7 +107,8 @@ beside-without names [] y = either (is_among y names) None
     either false o = refl
 beside-without names ((u, x) ∷ l) y = at (list_any (same u) names) refl (beside-without names l y)
   where
-    kept : (b c : Bool) (o p : Option Value) → (b ≡ true → c ≡ false) → o ≡ (if c then None else p) → (if b then Some x else o) ≡ (if c then None else (if b then Some x else p))
+    kept : (b c : Bool) (o p : Option Value) → (b ≡ true → c ≡ false) → o ≡ (if c then None else p)
+        → (if b then Some x else o) ≡ (if c then None else (if b then Some x else p))
     kept true true o p h e = absurd (false≢true (sym (h refl)))
     kept true false o p h e = refl
     kept false c o p h e = e
@@ -111,9 +120,11 @@ beside-without names ((u, x) ∷ l) y = at (list_any (same u) names) refl (besid
 
     at : (b : Bool) → list_any (same u) names ≡ b → beside y (without names l) ≡ (if is_among y names then None else beside y l)
         → beside y (cond (not b) ((u, x) ∷ without names l) (without names l)) ≡ (if is_among y names then None else beside y ((u, x) ∷ l))
-    at true e ih = ih ∙ lost (same y u) (is_among y names) (beside y l) (λ h. ap (λ z. is_among z names) (same_is y u h) ∙ e) ∙ ap (λ o. if is_among y names then None else o) (sym (beside-cons y u x l))
+    at true e ih = ih ∙ lost (same y u) (is_among y names) (beside y l) (λ h. ap (λ z. is_among z names) (same_is y u h) ∙ e)
+        ∙ ap (λ o. if is_among y names then None else o) (sym (beside-cons y u x l))
     at false e ih =
-        beside-cons y u x (without names l) ∙ kept (same y u) (is_among y names) (beside y (without names l)) (beside y l) (λ h. ap (λ z. is_among z names) (same_is y u h) ∙ e) ih
+        beside-cons y u x (without names l) ∙ kept (same y u) (is_among y names) (beside y (without names l)) (beside y l)
+        (λ h. ap (λ z. is_among z names) (same_is y u h) ∙ e) ih
         ∙ ap (λ o. if is_among y names then None else o) (sym (beside-cons y u x l))
 
 -- ---- which names there are
@@ -133,7 +144,8 @@ or_none false = refl
 pub among-added : (y w : List ℕ) (sc : List (List ℕ)) → is_among y (sc ++ w ∷ []) ≡ (is_among y sc || same y w)
 among-added y w sc = list_any-append (same y) sc (w ∷ []) ∙ ap (λ b. is_among y sc || b) (or_none (same y w))
 
-pub some-added : (w : List ℕ) (v : Value) (l : Values) (y : List ℕ) (sc : List (List ℕ)) → is_some (beside y l) ≡ is_among y sc → is_some (beside y (l ++ (w, v) ∷ [])) ≡ is_among y (sc ++ w ∷ [])
+pub some-added : (w : List ℕ) (v : Value) (l : Values) (y : List ℕ) (sc : List (List ℕ)) → is_some (beside y l) ≡ is_among y sc
+    → is_some (beside y (l ++ (w, v) ∷ [])) ≡ is_among y (sc ++ w ∷ [])
 some-added w v l y sc h = ap is_some (beside-added w v l y) ∙ by_test (beside y l) (same y w) ∙ ap (λ b. b || same y w) h ∙ sym (among-added y w sc)
   where
     by_test : (o : Option Value) (b : Bool) → is_some (option_or o (if b then Some v else None)) ≡ (is_some o || b)
@@ -142,7 +154,8 @@ some-added w v l y sc h = ap is_some (beside-added w v l y) ∙ by_test (beside 
     by_test (Some x) b = refl
 
 -- behind a block the names are those in front of it
-pub some-without : (names : List (List ℕ)) (l : Values) (y : List ℕ) (sc : List (List ℕ)) → is_some (beside y l) ≡ (is_among y sc || is_among y names) → Apart sc names
+pub some-without : (names : List (List ℕ)) (l : Values) (y : List ℕ) (sc : List (List ℕ)) → is_some (beside y l) ≡ (is_among y sc || is_among y names)
+    → Apart sc names
     → is_some (beside y (without names l)) ≡ is_among y sc
 some-without names l y sc h a = ap is_some (beside-without names l y) ∙ by_test (is_among y names) (is_among y sc) (beside y l) refl refl h
   where
@@ -155,7 +168,8 @@ some-without names l y sc h a = ap is_some (beside-without names l y) ∙ by_tes
 -- the names in scope behind statements
 pub among-after : (y : List ℕ) (c : Code) (sc : List (List ℕ)) → is_among y (after c sc) ≡ (is_among y sc || is_among y (declared c))
 among-after y done sc = sym (or_none (is_among y sc))
-among-after y (declare kind w e rest) sc = among-after y rest (sc ++ w ∷ []) ∙ ap (λ b. b || is_among y (declared rest)) (among-added y w sc) ∙ or_assoc (is_among y sc) (same y w) (is_among y (declared rest))
+among-after y (declare kind w e rest) sc = among-after y rest (sc ++ w ∷ []) ∙ ap (λ b. b || is_among y (declared rest)) (among-added y w sc)
+    ∙ or_assoc (is_among y sc) (same y w) (is_among y (declared rest))
   where
     or_assoc : (a b c : Bool) → ((a || b) || c) ≡ (a || (b || c))
     or_assoc true b c = refl
@@ -171,7 +185,8 @@ among-after y (exit p rest) sc = among-after y rest sc
 
 -- the same where the names in front of them have one more
 pub among-inner : (y w : List ℕ) (c : Code) (sc : List (List ℕ)) → is_among y (after c (sc ++ w ∷ [])) ≡ (is_among y sc || is_among y (w ∷ declared c))
-among-inner y w c sc = among-after y c (sc ++ w ∷ []) ∙ ap (λ b. b || is_among y (declared c)) (among-added y w sc) ∙ or_assoc (is_among y sc) (same y w) (is_among y (declared c))
+among-inner y w c sc = among-after y c (sc ++ w ∷ []) ∙ ap (λ b. b || is_among y (declared c)) (among-added y w sc)
+    ∙ or_assoc (is_among y sc) (same y w) (is_among y (declared c))
   where
     or_assoc : (a b c : Bool) → ((a || b) || c) ≡ (a || (b || c))
     or_assoc true b c = refl
@@ -182,6 +197,7 @@ pub names_are : (l : Values) (w : List ℕ) → is_some (beside w l) ≡ is_amon
 names_are [] w = refl
 names_are ((v, x) ∷ l) w = ap is_some (beside-cons w v x l) ∙ by_test (same w v) (names_are l w)
   where
-    by_test : (b : Bool) → is_some (beside w l) ≡ is_among w (map (λ (y : List ℕ × Value). y.0) l) → is_some (if b then Some x else beside w l) ≡ (b || is_among w (map (λ (y : List ℕ × Value). y.0) l))
+    by_test : (b : Bool) → is_some (beside w l) ≡ is_among w (map (λ (y : List ℕ × Value). y.0) l)
+        → is_some (if b then Some x else beside w l) ≡ (b || is_among w (map (λ (y : List ℕ × Value). y.0) l))
     by_test true h = refl
     by_test false h = h

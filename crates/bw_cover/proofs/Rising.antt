@@ -109,21 +109,26 @@ join_right (Html G) (Html H) = record {
 plugged_more : (B C : Graph) (g : ℕ) (A D : Graph) → IsBelow B C → IsBelow A D → IsBelow (plugged B g A) (plugged C g D)
 plugged_more B C g A D b a = record {
   roots = b.roots;
-  edges = λ n h m. or_more (B.edge n h m || A.edge n h m) ((h == g) && (B.track g n && A.root m)) (C.edge n h m || D.edge n h m) ((h == g) && (C.track g n && D.root m))
+  edges = λ n h m. or_more (B.edge n h m || A.edge n h m) ((h == g) && (B.track g n && A.root m)) (C.edge n h m || D.edge n h m)
+      ((h == g) && (C.track g n && D.root m))
       (or_more (B.edge n h m) (A.edge n h m) (C.edge n h m) (D.edge n h m) (b.edges n h m) (a.edges n h m))
-      (and_more (h == g) (B.track g n && A.root m) (h == g) (C.track g n && D.root m) (itself (h == g)) (and_more (B.track g n) (A.root m) (C.track g n) (D.root m) (b.tracks g n) (a.roots m)));
+      (and_more (h == g) (B.track g n && A.root m) (h == g) (C.track g n && D.root m) (itself (h == g))
+      (and_more (B.track g n) (A.root m) (C.track g n) (D.root m) (b.tracks g n) (a.roots m)));
   labels = λ n h s. or_more (B.label n h s) (A.label n h s) (C.label n h s) (D.label n h s) (b.labels n h s) (a.labels n h s);
   tracks = λ h n. if_more (h == g) (A.track h n) (B.track h n || A.track h n) (D.track h n) (C.track h n || D.track h n) (a.tracks h n)
       (or_more (B.track h n) (A.track h n) (C.track h n) (D.track h n) (b.tracks h n) (a.tracks h n));
-  lacks = λ h. if_more (h == g) (A.lack h) (B.lack h && A.lack h) (D.lack h) (C.lack h && D.lack h) (a.lacks h) (and_more (B.lack h) (A.lack h) (C.lack h) (D.lack h) (b.lacks h) (a.lacks h));
+  lacks = λ h. if_more (h == g) (A.lack h) (B.lack h && A.lack h) (D.lack h) (C.lack h && D.lack h) (a.lacks h)
+      (and_more (B.lack h) (A.lack h) (C.lack h) (D.lack h) (b.lacks h) (a.lacks h));
 }
 
-texted_more : (B C : Graph) (g : ℕ) (S T : List ℕ → Bool) → IsBelow B C → ((s : List ℕ) → S s ≡ true → T s ≡ true) → IsBelow (plugged_text B g S) (plugged_text C g T)
+texted_more : (B C : Graph) (g : ℕ) (S T : List ℕ → Bool) → IsBelow B C → ((s : List ℕ) → S s ≡ true → T s ≡ true)
+    → IsBelow (plugged_text B g S) (plugged_text C g T)
 texted_more B C g S T b k = record {
   roots = b.roots;
   edges = b.edges;
   labels = λ n h s. or_more (B.label n h s) ((h == g) && (B.track g n && S s)) (C.label n h s) ((h == g) && (C.track g n && T s)) (b.labels n h s)
-      (and_more (h == g) (B.track g n && S s) (h == g) (C.track g n && T s) (itself (h == g)) (and_more (B.track g n) (S s) (C.track g n) (T s) (b.tracks g n) (k s)));
+      (and_more (h == g) (B.track g n && S s) (h == g) (C.track g n && T s) (itself (h == g))
+      (and_more (B.track g n) (S s) (C.track g n) (T s) (b.tracks g n) (k s)));
   tracks = λ h n. if_more (h == g) false (B.track h n) false (C.track h n) (λ e. e) (b.tracks h n);
   lacks = λ h. or_more (h == g) (B.lack h) (h == g) (C.lack h) (itself (h == g)) (b.lacks h);
 }
@@ -180,7 +185,8 @@ receive_more false a b h = h
 
 pub receives_more : (rs : List Receive) (w : List ℕ) (a b : Abstract) → Below a b → Below (receives_by rs w a) (receives_by rs w b)
 receives_more [] w a b h = h
-receives_more (r ∷ rs) w a b h = receives_more rs w (if same w r.target then received_by a else a) (if same w r.target then received_by b else b) (receive_more (same w r.target) a b h)
+receives_more (r ∷ rs) w a b h = receives_more rs w (if same w r.target then received_by a else a) (if same w r.target then received_by b else b)
+    (receive_more (same w r.target) a b h)
 
 -- ---- expressions
 

@@ -52,10 +52,12 @@ module _ (info : ℕ → Place) where
   Found (assign w e rest) n scope = (info n ≡ place scope e false) × Found rest (n + 1) scope
   Found (if_then t y rest) n scope = (info n ≡ place scope t false) × Found y (n + 1) scope × Found rest (n + 1 + numbered y) (behind scope y)
   Found (if_else t y z rest) n scope =
-      (info n ≡ place scope t false) × Found y (n + 1) scope × Found z (n + 1 + numbered y) (behind scope y) × Found rest (n + 1 + numbered y + numbered z) (behind (behind scope y) z)
+      (info n ≡ place scope t false) × Found y (n + 1) scope × Found z (n + 1 + numbered y) (behind scope y)
+      × Found rest (n + 1 + numbered y + numbered z) (behind (behind scope y) z)
   Found (while_loop t b rest) n scope = (info n ≡ place scope t false) × Found b (n + 1) scope × Found rest (n + 1 + numbered b) (behind scope b)
   Found (block b rest) n scope = Found b n scope × Found rest (n + numbered b) (behind scope b)
-  Found (for_each w e b rest) n scope = (info n ≡ place scope e false) × Found b (n + 1) (with_local scope w kinds.Str) × Found rest (n + 1 + numbered b) (behind_each scope w b)
+  Found (for_each w e b rest) n scope = (info n ≡ place scope e false) × Found b (n + 1) (with_local scope w kinds.Str)
+      × Found rest (n + 1 + numbered b) (behind_each scope w b)
   Found (show p rs rest) n scope = (info n ≡ place scope p false) × Found rest (n + 1) scope
   Found (exit p rest) n scope = (info n ≡ place scope p true) × Found rest (n + 1) scope
 
@@ -67,7 +69,8 @@ module _ (info : ℕ → Place) where
   found done n scope h = tt
   found (declare kind w e rest) n scope h = (
     h n (omega arith) (omega arith) ∙ at n (place scope e false) (place_in rest (n + 1) (with_local scope w kind) n),
-    found rest (n + 1) (with_local scope w kind) (λ k le lt. h k (omega arith) (omega arith) ∙ past k n (place scope e false) (place_in rest (n + 1) (with_local scope w kind) k) le),
+    found rest (n + 1) (with_local scope w kind) (λ k le lt. h k (omega arith) (omega arith)
+        ∙ past k n (place scope e false) (place_in rest (n + 1) (with_local scope w kind) k) le),
   )
   found (assign w e rest) n scope h = (
     h n (omega arith) (omega arith) ∙ at n (place scope e false) (place_in rest (n + 1) scope n),
@@ -93,8 +96,10 @@ module _ (info : ℕ → Place) where
       let i = place scope t false in
       let o = λ (k : ℕ). if nat_lt k m then place_in y (n + 1) scope k else place_in rest m r k in (
         h n (omega arith) (omega arith) ∙ at n i (o n),
-        found y (n + 1) scope (λ k le lt. h k (omega arith) (omega arith) ∙ past k n i (o k) le ∙ below k m (place_in y (n + 1) scope k) (place_in rest m r k) lt),
-        found rest m r (λ k le lt. h k (omega arith) (omega arith) ∙ past k n i (o k) (omega arith) ∙ above k m (place_in y (n + 1) scope k) (place_in rest m r k) le),
+        found y (n + 1) scope (λ k le lt. h k (omega arith) (omega arith) ∙ past k n i (o k) le
+            ∙ below k m (place_in y (n + 1) scope k) (place_in rest m r k) lt),
+        found rest m r (λ k le lt. h k (omega arith) (omega arith) ∙ past k n i (o k) (omega arith)
+            ∙ above k m (place_in y (n + 1) scope k) (place_in rest m r k) le),
       )
   found (while_loop t y rest) n scope h =
       let m = n + 1 + numbered y in
@@ -102,8 +107,10 @@ module _ (info : ℕ → Place) where
       let i = place scope t false in
       let o = λ (k : ℕ). if nat_lt k m then place_in y (n + 1) scope k else place_in rest m r k in (
         h n (omega arith) (omega arith) ∙ at n i (o n),
-        found y (n + 1) scope (λ k le lt. h k (omega arith) (omega arith) ∙ past k n i (o k) le ∙ below k m (place_in y (n + 1) scope k) (place_in rest m r k) lt),
-        found rest m r (λ k le lt. h k (omega arith) (omega arith) ∙ past k n i (o k) (omega arith) ∙ above k m (place_in y (n + 1) scope k) (place_in rest m r k) le),
+        found y (n + 1) scope (λ k le lt. h k (omega arith) (omega arith) ∙ past k n i (o k) le
+            ∙ below k m (place_in y (n + 1) scope k) (place_in rest m r k) lt),
+        found rest m r (λ k le lt. h k (omega arith) (omega arith) ∙ past k n i (o k) (omega arith)
+            ∙ above k m (place_in y (n + 1) scope k) (place_in rest m r k) le),
       )
   found (for_each w e y rest) n scope h =
       let m = n + 1 + numbered y in
@@ -113,7 +120,8 @@ module _ (info : ℕ → Place) where
       let o = λ (k : ℕ). if nat_lt k m then place_in y (n + 1) s k else place_in rest m r k in (
         h n (omega arith) (omega arith) ∙ at n i (o n),
         found y (n + 1) s (λ k le lt. h k (omega arith) (omega arith) ∙ past k n i (o k) le ∙ below k m (place_in y (n + 1) s k) (place_in rest m r k) lt),
-        found rest m r (λ k le lt. h k (omega arith) (omega arith) ∙ past k n i (o k) (omega arith) ∙ above k m (place_in y (n + 1) s k) (place_in rest m r k) le),
+        found rest m r (λ k le lt. h k (omega arith) (omega arith) ∙ past k n i (o k) (omega arith)
+            ∙ above k m (place_in y (n + 1) s k) (place_in rest m r k) le),
       )
   found (if_else t y z rest) n scope h =
       let j = n + 1 + numbered y in
@@ -125,8 +133,10 @@ module _ (info : ℕ → Place) where
       let o = λ (k : ℕ). if nat_lt k j then place_in y (n + 1) scope k else u k in (
         h n (omega arith) (omega arith) ∙ at n i (o n),
         found y (n + 1) scope (λ k le lt. h k (omega arith) (omega arith) ∙ past k n i (o k) le ∙ below k j (place_in y (n + 1) scope k) (u k) lt),
-        found z j s (λ k le lt. h k (omega arith) (omega arith) ∙ past k n i (o k) (omega arith) ∙ above k j (place_in y (n + 1) scope k) (u k) le ∙ below k m (place_in z j s k) (place_in rest m r k) lt),
-        found rest m r (λ k le lt. h k (omega arith) (omega arith) ∙ past k n i (o k) (omega arith) ∙ above k j (place_in y (n + 1) scope k) (u k) (omega arith) ∙ above k m (place_in z j s k) (place_in rest m r k) le),
+        found z j s (λ k le lt. h k (omega arith) (omega arith) ∙ past k n i (o k) (omega arith) ∙ above k j (place_in y (n + 1) scope k) (u k) le
+            ∙ below k m (place_in z j s k) (place_in rest m r k) lt),
+        found rest m r (λ k le lt. h k (omega arith) (omega arith) ∙ past k n i (o k) (omega arith)
+            ∙ above k j (place_in y (n + 1) scope k) (u k) (omega arith) ∙ above k m (place_in z j s k) (place_in rest m r k) le),
       )
 
   -- of the session at a place
@@ -136,12 +146,16 @@ module _ (info : ℕ → Place) where
   session_found [] n (suc s) h = tt
   session_found (x ∷ ss) n zero h =
       let e : n ≡ n + sum_by (λ (y : Session). numbered y.body) [] = omega arith in
-      subst (λ m. Found x.body m no_locals) e (found x.body n no_locals (λ k le lt. h k le ∙ below k (n + numbered x.body) (place_in x.body n no_locals k) (place_of ss (n + numbered x.body) k) lt))
+      subst (λ m. Found x.body m no_locals) e
+      (found x.body n no_locals
+      (λ k le lt. h k le ∙ below k (n + numbered x.body) (place_in x.body n no_locals k) (place_of ss (n + numbered x.body) k) lt))
   session_found (x ∷ ss) n (suc s) h =
       let c = sum_by-cons (λ (y : Session). numbered y.body) x (take s ss) in
-      let e : n + numbered x.body + sum_by (λ (y : Session). numbered y.body) (take s ss) ≡ n + sum_by (λ (y : Session). numbered y.body) (x ∷ take s ss) = omega (arith, c) in
+      let e : n + numbered x.body + sum_by (λ (y : Session). numbered y.body) (take s ss) ≡ n + sum_by (λ (y : Session). numbered y.body) (x ∷ take s ss) =
+      omega (arith, c) in
       subst (λ m. Found (unwrap_or (slice_get (map (λ (y : Session). y.body) ss) s) done) m no_locals) e
-      (session_found ss (n + numbered x.body) s (λ k le. h k (omega arith) ∙ above k (n + numbered x.body) (place_in x.body n no_locals k) (place_of ss (n + numbered x.body) k) le))
+      (session_found ss (n + numbered x.body) s
+      (λ k le. h k (omega arith) ∙ above k (n + numbered x.body) (place_in x.body n no_locals k) (place_of ss (n + numbered x.body) k) le))
 
 module _ (service : Service) (c : Cells Spot) where
   abbrev info : ℕ → Place
@@ -154,12 +168,19 @@ module _ (service : Service) (c : Cells Spot) where
   sees done n scope h = tt
   sees (declare kind w e rest) n scope h = (ap (λ x. x.scope) h.0, sees rest (n + 1) (with_local scope w kind) h.1)
   sees (assign w e rest) n scope h = (ap (λ x. x.scope) h.0, sees rest (n + 1) scope h.1)
-  sees (if_then t y rest) n scope h = (ap (λ x. x.scope) h.0, ap (λ x. x.scope) h.0, sees y (n + 1) scope h.1, sees rest (n + 1 + numbered y) (behind scope y) h.2)
-  sees (if_else t y z rest) n scope h =
-      (ap (λ x. x.scope) h.0, ap (λ x. x.scope) h.0, sees y (n + 1) scope h.1, sees z (n + 1 + numbered y) (behind scope y) h.2, sees rest (n + 1 + numbered y + numbered z) (behind (behind scope y) z) h.3)
+  sees (if_then t y rest) n scope h =
+      (ap (λ x. x.scope) h.0, ap (λ x. x.scope) h.0, sees y (n + 1) scope h.1, sees rest (n + 1 + numbered y) (behind scope y) h.2)
+  sees (if_else t y z rest) n scope h = (
+    ap (λ x. x.scope) h.0,
+    ap (λ x. x.scope) h.0,
+    sees y (n + 1) scope h.1,
+    sees z (n + 1 + numbered y) (behind scope y) h.2,
+    sees rest (n + 1 + numbered y + numbered z) (behind (behind scope y) z) h.3,
+  )
   sees (while_loop t b rest) n scope h = (ap (λ x. x.scope) h.0, sees b (n + 1) scope h.1, sees rest (n + 1 + numbered b) (behind scope b) h.2)
   sees (block b rest) n scope h = (sees b n scope h.0, sees rest (n + numbered b) (behind scope b) h.1)
-  sees (for_each w e b rest) n scope h = (ap (λ x. x.scope) h.0, sees b (n + 1) (with_local scope w kinds.Str) h.1, sees rest (n + 1 + numbered b) (behind_each scope w b) h.2)
+  sees (for_each w e b rest) n scope h =
+      (ap (λ x. x.scope) h.0, sees b (n + 1) (with_local scope w kinds.Str) h.1, sees rest (n + 1 + numbered b) (behind_each scope w b) h.2)
   sees (show p rs rest) n scope h = (ap (λ x. x.scope) h.0, sees rest (n + 1) scope h.1)
   sees (exit p rest) n scope h = (ap (λ x. x.scope) h.0, sees rest (n + 1) scope h.1)
 
@@ -171,15 +192,22 @@ module _ (service : Service) (c : Cells Spot) where
   scoped (declare kind w e rest) n scope h = (ap order h.0, scoped rest (n + 1) (with_local scope w kind) h.1)
   scoped (assign w e rest) n scope h = (ap order h.0, scoped rest (n + 1) scope h.1)
   scoped (if_then t y rest) n scope h = (ap order h.0, ap order h.0, scoped y (n + 1) scope h.1, scoped rest (n + 1 + numbered y) (behind scope y) h.2)
-  scoped (if_else t y z rest) n scope h =
-      (ap order h.0, ap order h.0, scoped y (n + 1) scope h.1, scoped z (n + 1 + numbered y) (behind scope y) h.2, scoped rest (n + 1 + numbered y + numbered z) (behind (behind scope y) z) h.3)
+  scoped (if_else t y z rest) n scope h = (
+    ap order h.0,
+    ap order h.0,
+    scoped y (n + 1) scope h.1,
+    scoped z (n + 1 + numbered y) (behind scope y) h.2,
+    scoped rest (n + 1 + numbered y + numbered z) (behind (behind scope y) z) h.3,
+  )
   scoped (while_loop t b rest) n scope h = (ap order h.0, scoped b (n + 1) scope h.1, scoped rest (n + 1 + numbered b) (behind scope b) h.2)
   scoped (block b rest) n scope h = (scoped b n scope h.0, scoped rest (n + numbered b) (behind scope b) h.1)
-  scoped (for_each w e b rest) n scope h = (ap order h.0, scoped b (n + 1) (with_local scope w kinds.Str) h.1, scoped rest (n + 1 + numbered b) (behind_each scope w b) h.2)
+  scoped (for_each w e b rest) n scope h =
+      (ap order h.0, scoped b (n + 1) (with_local scope w kinds.Str) h.1, scoped rest (n + 1 + numbered b) (behind_each scope w b) h.2)
   scoped (show p rs rest) n scope h = (ap order h.0, scoped rest (n + 1) scope h.1)
   scoped (exit p rest) n scope h = (ap order h.0, scoped rest (n + 1) scope h.1)
 
-  shown_as : (n : ℕ) (scope : Scope) (e : Term) (b : Bool) → info n ≡ place scope e b → F.shown (statement n) ≡ summary_of (known service (look service F (statement n)) e)
+  shown_as : (n : ℕ) (scope : Scope) (e : Term) (b : Bool) → info n ≡ place scope e b
+      → F.shown (statement n) ≡ summary_of (known service (look service F (statement n)) e)
   shown_as n scope e b h = ap (λ (x : Place). summary_of (known service (look service F (statement n)) x.term)) h
 
   shows : (b : Code) (n : ℕ) (scope : Scope) → Found info b n scope → Shows service F b n
@@ -187,8 +215,12 @@ module _ (service : Service) (c : Cells Spot) where
   shows (declare kind w e rest) n scope h = shows rest (n + 1) (with_local scope w kind) h.1
   shows (assign w e rest) n scope h = shows rest (n + 1) scope h.1
   shows (if_then t y rest) n scope h = (shows y (n + 1) scope h.1, shows rest (n + 1 + numbered y) (behind scope y) h.2)
-  shows (if_else t y z rest) n scope h =
-      (shows y (n + 1) scope h.1, shows z (n + 1 + numbered y) (behind scope y) h.2, shows rest (n + 1 + numbered y + numbered z) (behind (behind scope y) z) h.3)
+  shows (if_else t y z rest) n scope h = (
+    shows y (n + 1) scope h.1,
+    shows z (n + 1 + numbered y) (behind scope y) h.2,
+    shows rest (n + 1 + numbered y + numbered z)
+        (behind (behind scope y) z) h.3,
+  )
   shows (while_loop t b rest) n scope h = (shows b (n + 1) scope h.1, shows rest (n + 1 + numbered b) (behind scope b) h.2)
   shows (block b rest) n scope h = (shows b n scope h.0, shows rest (n + numbered b) (behind scope b) h.1)
   shows (for_each w e b rest) n scope h = (shows b (n + 1) (with_local scope w kinds.Str) h.1, shows rest (n + 1 + numbered b) (behind_each scope w b) h.2)

@@ -14,7 +14,8 @@ use Rattle.bw_lang.specs.Numbers.{first_number}
 use Rattle.bw_meaning.specs.Operators.{truth_of, list_of, document_of}
 use Rattle.bw_meaning.specs.Pages.{show_fault, exit_fault}
 use Rattle.bw_meaning.specs.States.{Rests, Input, State, Outcome, Went, Shown, Exited, Failed, Answered, budget}
-use Rattle.bw_meaning.specs.Statements.{declared, add_local, store, variable, received, taken, when_paid, when_given, with_value, begin, then_do, unless_fault, leave, room, turns, add_rest, each, wait, shows, exits, exec}
+use Rattle.bw_meaning.specs.Statements.{declared, add_local, store, variable, received, taken, when_paid, when_given, with_value, begin, then_do}
+use Rattle.bw_meaning.specs.Statements.{unless_fault, leave, room, turns, add_rest, each, wait, shows, exits, exec}
 use Rattle.bw_lang.specs.Submissions.{values_of}
 use Rattle.bw_meaning.specs.Forms.{received_value}
 use Rattle.bw_meaning.specs.Values.{Value, Values, number, truth_value, text, document, list, list_weight, replaced}
@@ -22,7 +23,8 @@ use Rattle.bw_sum.specs.Graph.{Graph}
 use Rattle.bw_cover.specs.Abstracts.{Abstract, Html, any, CoversTree, covers, known}
 use Rattle.bw_cover.specs.Facts.{What, keeps, sets, brings, takes, Facts, look, own, left, Leads, IsPoint, Apart, after, Laid}
 use Rattle.bw_types.specs.Scopes.{is_among}
-use Rattle.bw_cover.specs.Plugs.{Plug, on_unit, on_value, on_end, plugs_in, value_plugs, begin_plugs, turns_plugs, each_plugs, plugs, rest_plugs, plugs_behind, turn_plugs, go_on_plugs}
+use Rattle.bw_cover.specs.Plugs.{Plug, on_unit, on_value, on_end, plugs_in, value_plugs, begin_plugs, turns_plugs, each_plugs, plugs, rest_plugs}
+use Rattle.bw_cover.specs.Plugs.{plugs_behind, turn_plugs, go_on_plugs}
 use Rattle.bw_cover.specs.Covered.{CoversLocals, CoversShared, CoversInputs, WaitsCovered, EndsCovered, IsCovered, AreOpen}
 use Rattle.bw_cover.proofs.Names.{same_self, beside-without, some-replaced, some-added, some-without, among-after, among-inner}
 use Rattle.bw_cover.proofs.Values.{covers_below, open_append, Given, eval_good, looks}
@@ -66,19 +68,23 @@ module _ {K : Type 0} (service : Service) (f : Facts K) where
   }
 
   -- a new local
-  added : (p q : K) (sc : List (List ℕ)) (st : State) (w : List ℕ) (what : What) (a : Abstract) (v : Value) → f.scope p ≡ sc → is_among w sc ≡ false → covers service a v
-      → left service f p what ≡ (λ y. if same y w then Some a else own f p y) → Leads service f p what q → IsAt p sc st → IsAt q (sc ++ w ∷ []) (add_local w v st)
+  added : (p q : K) (sc : List (List ℕ)) (st : State) (w : List ℕ) (what : What) (a : Abstract) (v : Value) → f.scope p ≡ sc → is_among w sc ≡ false
+      → covers service a v
+      → left service f p what ≡ (λ y. if same y w then Some a else own f p y) → Leads service f p what q → IsAt p sc st
+      → IsAt q (sc ++ w ∷ []) (add_local w v st)
   added p q sc st w what a v s fresh cv e h c =
       let l = here p sc st s c in record {
         names = λ y. some-added w v st.locals y sc (c.names y);
         locals = leads_covered service f p st.locals l q what (st.locals ++ (w, v) ∷ []) h
-            (subst (λ cells. Holds service cells (st.locals ++ (w, v) ∷ [])) (sym e) (holds_added service f p st.locals l w a v cv (ap (is_among w) s ∙ fresh)));
+            (subst (λ cells. Holds service cells (st.locals ++ (w, v) ∷ [])) (sym e)
+            (holds_added service f p st.locals l w a v cv (ap (is_among w) s ∙ fresh)));
         shared = c.shared;
         inputs = c.inputs;
       }
 
   -- an assignment
-  stored : (p q : K) (sc : List (List ℕ)) (st : State) (w : List ℕ) (e : Term) (v : Value) (o : Option Value) → beside w st.locals ≡ o → f.scope p ≡ sc → covers service (known service (look service f p) e) v
+  stored : (p q : K) (sc : List (List ℕ)) (st : State) (w : List ℕ) (e : Term) (v : Value) (o : Option Value) → beside w st.locals ≡ o → f.scope p ≡ sc
+      → covers service (known service (look service f p) e) v
       → Leads service f p (sets w e) q → IsAt p sc st → IsAt q sc (store w v st)
   stored p q sc st w e v None n s cv h c =
       let l = here p sc st s c in
@@ -99,7 +105,8 @@ module _ {K : Type 0} (service : Service) (f : Facts K) where
         inputs = c.inputs;
       }
 
-  received_inputs : (rs : List Receive) (l : Values) (i : Input) (later : List Input) → CoversInputs service f later → CoversInputs service f (taken rs l i later).inputs
+  received_inputs : (rs : List Receive) (l : Values) (i : Input) (later : List Input) → CoversInputs service f later
+      → CoversInputs service f (taken rs l i later).inputs
   received_inputs rs l i later c = go rs (record { locals = l; shared = i.shared; units = budget; inputs = later }) c
     where
       go : (rs : List Receive) (st : State) → CoversInputs service f st.inputs → CoversInputs service f (received rs i.form st).inputs
@@ -107,7 +114,8 @@ module _ {K : Type 0} (service : Service) (f : Facts K) where
       go (r ∷ rs) st c = go rs (store r.target (received_value (variable r.target st) (values_of r.field i.form)) st) c
 
   -- an input that is taken at a show
-  taken_good : (p q : K) (sc : List (List ℕ)) (rs : List Receive) (l : Values) (i : Input) (later : List Input) → f.scope p ≡ sc → CoversLocals service f p l → Leads service f p (takes rs) q
+  taken_good : (p q : K) (sc : List (List ℕ)) (rs : List Receive) (l : Values) (i : Input) (later : List Input) → f.scope p ≡ sc → CoversLocals service f p l
+      → Leads service f p (takes rs) q
       → CoversShared service f i.shared → CoversInputs service f later → IsAt q sc (taken rs l i later)
   taken_good p q sc rs l i later s c h cs ci =
       let st : State = record { locals = l; shared = i.shared; units = budget; inputs = later } in
@@ -121,7 +129,8 @@ module _ {K : Type 0} (service : Service) (f : Facts K) where
 
   -- ---- one thing after another
 
-  good_paid : (q : K) (sc : List (List ℕ)) (u : ℕ) (go : ℕ → Outcome) (ps : ℕ → List Plug) → ((w : ℕ) → Good q sc (go w) (ps w)) → Good q sc (when_paid u go) (on_unit u ps)
+  good_paid : (q : K) (sc : List (List ℕ)) (u : ℕ) (go : ℕ → Outcome) (ps : ℕ → List Plug) → ((w : ℕ) → Good q sc (go w) (ps w))
+      → Good q sc (when_paid u go) (on_unit u ps)
   good_paid q sc zero go ps h = (tt, tt)
   good_paid q sc (suc u) go ps h = h u
 
@@ -130,17 +139,20 @@ module _ {K : Type 0} (service : Service) (f : Facts K) where
   good_given q sc a (Gives v u) go more c h = h v u c
   good_given q sc a (Faults x u) go more c h = (tt, tt)
 
-  good_value : (p q : K) (sc sc2 : List (List ℕ)) (e : Term) (st : State) (go : Value → State → Outcome) (more : Value → State → List Plug) → IsPoint service f p sc e → IsAt p sc st
+  good_value : (p q : K) (sc sc2 : List (List ℕ)) (e : Term) (st : State) (go : Value → State → Outcome) (more : Value → State → List Plug)
+      → IsPoint service f p sc e → IsAt p sc st
       → ((v : Value) (st1 : State) → covers service (known service (look service f p) e) v → IsAt p sc st1 → Good q sc2 (go v st1) (more v st1))
       → Good q sc2 (with_value service e st go) (value_plugs service e st more)
   good_value p q sc sc2 e st go more pt c h =
       let o = eval service st.locals st.shared e st.units in
-      let ev = eval_good service st.locals st.shared (look service f p) (looks service f p st.locals st.shared (here p sc st pt.scope c) c.shared) e st.units pt.gaps pt.plugs in
+      let ev = eval_good service st.locals st.shared (look service f p)
+      (looks service f p st.locals st.shared (here p sc st pt.scope c) c.shared) e st.units pt.gaps pt.plugs in
       let r = good_given q sc2 (known service (look service f p) e) o (λ v u. go v (record st { units = u })) (λ v u. more v (record st { units = u })) ev.0
       (λ v u cv. h v (record st { units = u }) cv (with_units p sc st u c)) in
       (r.0, open_append (plugs_in service st.locals st.shared e st.units) (on_value o (λ v u. more v (record st { units = u }))) ev.1 r.1)
 
-  good_begin : (p q : K) (sc sc2 : List (List ℕ)) (e : Term) (st : State) (go : Value → State → Outcome) (more : Value → State → List Plug) → IsPoint service f p sc e → IsAt p sc st
+  good_begin : (p q : K) (sc sc2 : List (List ℕ)) (e : Term) (st : State) (go : Value → State → Outcome) (more : Value → State → List Plug)
+      → IsPoint service f p sc e → IsAt p sc st
       → ((v : Value) (st1 : State) → covers service (known service (look service f p) e) v → IsAt p sc st1 → Good q sc2 (go v st1) (more v st1))
       → Good q sc2 (begin service e st go) (begin_plugs service e st more)
   good_begin p q sc sc2 e st go more pt c h =
@@ -170,7 +182,8 @@ module _ {K : Type 0} (service : Service) (f : Facts K) where
   good_step r q sc sc2 o ps go more c h =
       subst (λ xs. Good q sc2 (then_do o go) (ps ++ xs)) (sym (went_same o more)) (good_then r q sc sc2 o ps go more c h)
 
-  good_if : (q : K) (sc : List (List ℕ)) (b : Bool) (o o' : Outcome) (ps ps' : List Plug) → (b ≡ true → Good q sc o ps) → (b ≡ false → Good q sc o' ps') → Good q sc (if b then o else o') (if b then ps else ps')
+  good_if : (q : K) (sc : List (List ℕ)) (b : Bool) (o o' : Outcome) (ps ps' : List Plug) → (b ≡ true → Good q sc o ps) → (b ≡ false → Good q sc o' ps')
+      → Good q sc (if b then o else o') (if b then ps else ps')
   good_if q sc true o o' ps ps' h k = h refl
   good_if q sc false o o' ps ps' h k = k refl
 
@@ -192,7 +205,8 @@ module _ {K : Type 0} (service : Service) (f : Facts K) where
   left_out names l w v true e = absurd (none_some None v refl e)
   left_out names l w v false e = e
 
-  fine_leave : (q : K) (sc sc2 names : List (List ℕ)) (o : Outcome) → Apart sc names → ((w : List ℕ) → is_among w sc2 ≡ (is_among w sc || is_among w names)) → Fine q sc2 o → Fine q sc (leave names o)
+  fine_leave : (q : K) (sc sc2 names : List (List ℕ)) (o : Outcome) → Apart sc names → ((w : List ℕ) → is_among w sc2 ≡ (is_among w sc || is_among w names))
+      → Fine q sc2 o → Fine q sc (leave names o)
   fine_leave q sc sc2 names (Went st) a h c = record {
     names = λ w. some-without names st.locals w sc (c.names w ∙ h w) a;
     locals = λ w v i e. c.locals w v i (left_out names st.locals w v (is_among w names) (sym (beside-without names st.locals w) ∙ e));
@@ -203,37 +217,51 @@ module _ {K : Type 0} (service : Service) (f : Facts K) where
   fine_leave q sc sc2 names (Exited last shared units) a h c = c
   fine_leave q sc sc2 names (Failed x units) a h c = c
 
-  good_leave : (q : K) (sc : List (List ℕ)) (c : Code) (o : Outcome) (ps : List Plug) → Apart sc (declared c) → Good q (after c sc) o ps → Good q sc (leave (declared c) o) ps
+  good_leave : (q : K) (sc : List (List ℕ)) (c : Code) (o : Outcome) (ps : List Plug) → Apart sc (declared c) → Good q (after c sc) o ps
+      → Good q sc (leave (declared c) o) ps
   good_leave q sc c o ps a g = (fine_leave q sc (after c sc) (declared c) o a (λ w. among-after w c sc) g.0, g.1)
 
-  good_inner : (q : K) (sc : List (List ℕ)) (w : List ℕ) (c : Code) (vs : List (List ℕ)) (o : Outcome) (ps : List Plug) → Apart sc (w ∷ declared c) → Good q (after c (sc ++ w ∷ [])) o ps
+  good_inner : (q : K) (sc : List (List ℕ)) (w : List ℕ) (c : Code) (vs : List (List ℕ)) (o : Outcome) (ps : List Plug) → Apart sc (w ∷ declared c)
+      → Good q (after c (sc ++ w ∷ [])) o ps
       → Good q sc (leave (w ∷ declared c) (add_rest vs o)) ps
-  good_inner q sc w c vs o ps a g =
-      (fine_leave q sc (after c (sc ++ w ∷ [])) (w ∷ declared c) (add_rest vs o) a (λ y. among-inner y w c sc) (fine_rest q (after c (sc ++ w ∷ [])) vs o g.0), g.1)
+  good_inner q sc w c vs o ps a g = (
+    fine_leave q sc (after c (sc ++ w ∷ [])) (w ∷ declared c) (add_rest vs o) a (λ y. among-inner y w c sc)
+        (fine_rest q (after c (sc ++ w ∷ [])) vs o g.0),
+    g.1,
+  )
 
   -- ---- loops
 
-  good_turns : (n : ℕ) (p r : K) (sc : List (List ℕ)) (t : Term) (body : State → Outcome) (inside : State → List Plug) (st : State) → IsPoint service f p sc t → Leads service f p keeps r
-      → ((st1 : State) → IsAt p sc st1 → Good p sc (body st1) (inside st1)) → IsAt p sc st → Good r sc (turns n service t body st) (turns_plugs n service t body inside st)
+  good_turns : (n : ℕ) (p r : K) (sc : List (List ℕ)) (t : Term) (body : State → Outcome) (inside : State → List Plug) (st : State)
+      → IsPoint service f p sc t → Leads service f p keeps r
+      → ((st1 : State) → IsAt p sc st1 → Good p sc (body st1) (inside st1)) → IsAt p sc st
+      → Good r sc (turns n service t body st) (turns_plugs n service t body inside st)
   good_turns zero p r sc t body inside st pt h g c = (tt, tt)
   good_turns (suc n) p r sc t body inside st pt h g c =
       good_begin p r sc sc t st (λ v st1. if truth_of v then then_do (body st1) (turns n service t body) else Went st1)
       (λ v st1. if truth_of v then inside st1 ++ on_end (body st1) (turns_plugs n service t body inside) else []) pt c
-      (λ v st1 cv c1. good_if r sc (truth_of v) (then_do (body st1) (turns n service t body)) (Went st1) (inside st1 ++ on_end (body st1) (turns_plugs n service t body inside)) []
-      (λ _. good_then p r sc sc (body st1) (inside st1) (turns n service t body) (turns_plugs n service t body inside) (g st1 c1) (λ st2 c2. good_turns n p r sc t body inside st2 pt h g c2))
+      (λ v st1 cv c1. good_if r sc (truth_of v) (then_do (body st1) (turns n service t body)) (Went st1)
+      (inside st1 ++ on_end (body st1) (turns_plugs n service t body inside)) []
+      (λ _. good_then p r sc sc (body st1) (inside st1) (turns n service t body) (turns_plugs n service t body inside) (g st1 c1)
+      (λ st2 c2. good_turns n p r sc t body inside st2 pt h g c2))
       (λ _. (kept p r sc st1 pt.scope h c1, tt)))
 
-  good_each : (vs : List (List ℕ)) (p r : K) (sc : List (List ℕ)) (w : List ℕ) (names : List (List ℕ)) (body : List (List ℕ) → State → Outcome) (inside : List (List ℕ) → State → List Plug) (st : State)
+  good_each : (vs : List (List ℕ)) (p r : K) (sc : List (List ℕ)) (w : List ℕ) (names : List (List ℕ)) (body : List (List ℕ) → State → Outcome)
+      (inside : List (List ℕ) → State → List Plug) (st : State)
       → f.scope p ≡ sc → Leads service f p keeps r
-      → ((ws : List (List ℕ)) (v : List ℕ) (st1 : State) → IsAt p sc st1 → Good p sc (leave names (add_rest ws (body ws (add_local w (text v) st1)))) (inside ws (add_local w (text v) st1)))
+      → ((ws : List (List ℕ)) (v : List ℕ) (st1 : State) → IsAt p sc st1 → Good p sc (leave names (add_rest ws (body ws (add_local w (text v) st1))))
+      (inside ws (add_local w (text v) st1)))
       → IsAt p sc st → Good r sc (each vs w names body st) (each_plugs vs w names body inside st)
   good_each [] p r sc w names body inside st s h g c =
-      let k = good_paid r sc st.units (λ u. Went (record st { units = u })) (λ u. []) (λ u. (kept p r sc (record st { units = u }) s h (with_units p sc st u c), tt)) in (k.0, tt)
+      let k = good_paid r sc st.units (λ u. Went (record st { units = u })) (λ u. [])
+      (λ u. (kept p r sc (record st { units = u }) s h (with_units p sc st u c), tt)) in (k.0, tt)
   good_each (v ∷ vs) p r sc w names body inside st s h g c =
       good_paid r sc st.units
       (λ u. then_do (leave names (add_rest vs (body vs (add_local w (text v) (record st { units = u }))))) (each vs w names body))
-      (λ u. inside vs (add_local w (text v) (record st { units = u })) ++ on_end (leave names (add_rest vs (body vs (add_local w (text v) (record st { units = u }))))) (each_plugs vs w names body inside))
-      (λ u. good_then p r sc sc (leave names (add_rest vs (body vs (add_local w (text v) (record st { units = u }))))) (inside vs (add_local w (text v) (record st { units = u })))
+      (λ u. inside vs (add_local w (text v) (record st { units = u })) ++ on_end
+      (leave names (add_rest vs (body vs (add_local w (text v) (record st { units = u }))))) (each_plugs vs w names body inside))
+      (λ u. good_then p r sc sc (leave names (add_rest vs (body vs (add_local w (text v) (record st { units = u })))))
+      (inside vs (add_local w (text v) (record st { units = u })))
       (each vs w names body) (each_plugs vs w names body inside)
       (g vs v (record st { units = u }) (with_units p sc st u c))
       (λ st2 c2. good_each vs p r sc w names body inside st2 s h g c2))
@@ -252,8 +280,10 @@ module _ {K : Type 0} (service : Service) (f : Facts K) where
   page_is G (document d) c = c
   page_is G (list s) c = absurd c
 
-  fine_wait : (n : ℕ) (p r : K) (sc : List (List ℕ)) (rs : List Receive) (e : Term) (v : Value) (st : State) (inputs : List Input) → f.scope p ≡ sc → f.place n ≡ p → known service (look service f p) e ≡ Html (f.shown p)
-      → Leads service f p (takes rs) r → covers service (known service (look service f p) e) v → IsAt p sc st → CoversInputs service f inputs → Fine r sc (wait n rs (document_of v) st inputs)
+  fine_wait : (n : ℕ) (p r : K) (sc : List (List ℕ)) (rs : List Receive) (e : Term) (v : Value) (st : State) (inputs : List Input) → f.scope p ≡ sc
+      → f.place n ≡ p → known service (look service f p) e ≡ Html (f.shown p)
+      → Leads service f p (takes rs) r → covers service (known service (look service f p) e) v → IsAt p sc st → CoversInputs service f inputs
+      → Fine r sc (wait n rs (document_of v) st inputs)
   fine_wait n p r sc rs e v st [] s pl k h cv c ci = record {
     locals_are = subst (λ x. CoversLocals service f x st.locals) (sym pl) (here p sc st s c);
     shown_is = subst (λ x. CoversTree service (f.shown x) (document_of v).tree) (sym pl) (page_is (f.shown p) v (subst (λ a. covers service a v) k cv));
@@ -275,10 +305,12 @@ module _ {K : Type 0} (service : Service) (f : Facts K) where
 
   -- ---- statements
 
-  pub exec_good : (c : Code) (n around : ℕ) (sc : List (List ℕ)) (p q : K) (st : State) → Laid service f c n sc p q → IsAt p sc st → Good q (after c sc) (exec service c n around st) (plugs service c n around st)
+  pub exec_good : (c : Code) (n around : ℕ) (sc : List (List ℕ)) (p q : K) (st : State) → Laid service f c n sc p q → IsAt p sc st
+      → Good q (after c sc) (exec service c n around st) (plugs service c n around st)
   exec_good done n around sc p q st h c = (subst (λ x. IsAt x sc st) h c, tt)
   exec_good (declare kind w e rest) n around sc p q st (r, pt, fresh, ld, h) c =
-      good_step r q (sc ++ w ∷ []) (after rest (sc ++ w ∷ [])) (begin service e st (λ v st1. Went (add_local w v st1))) (begin_plugs service e st (λ v st1. []))
+      good_step r q (sc ++ w ∷ []) (after rest (sc ++ w ∷ [])) (begin service e st (λ v st1. Went (add_local w v st1)))
+      (begin_plugs service e st (λ v st1. []))
       (exec service rest (n + 1) around) (plugs service rest (n + 1) around)
       (good_begin p r sc (sc ++ w ∷ []) e st (λ v st1. Went (add_local w v st1)) (λ v st1. []) pt c
       (λ v st1 cv c1. (added p r sc st1 w (sets w e) (known service (look service f p) e) v pt.scope fresh cv refl ld c1, tt)))
@@ -295,7 +327,8 @@ module _ {K : Type 0} (service : Service) (f : Facts K) where
       let ps = λ (v : Value) (st1 : State). if truth_of v then plugs service y (n + 1) around st1 else [] in
       let one = good_begin p j sc sc t st go ps pt c
       (λ v st1 cv c1. good_if j sc (truth_of v) (leave (declared y) (exec service y (n + 1) around st1)) (Went st1) (plugs service y (n + 1) around st1) []
-      (λ _. good_leave j sc y (exec service y (n + 1) around st1) (plugs service y (n + 1) around st1) ay (exec_good y (n + 1) around sc b j st1 hy (kept p b sc st1 pt.scope lb c1)))
+      (λ _. good_leave j sc y (exec service y (n + 1) around st1) (plugs service y (n + 1) around st1) ay
+      (exec_good y (n + 1) around sc b j st1 hy (kept p b sc st1 pt.scope lb c1)))
       (λ _. (kept p j sc st1 pt.scope lj c1, tt))) in
       good_step r q sc (after rest sc) (begin service t st go) (begin_plugs service t st ps) (exec service rest m around) (plugs service rest m around)
       (fine_kept j r sc (begin service t st go) sj lr one.0, one.1)
@@ -303,12 +336,16 @@ module _ {K : Type 0} (service : Service) (f : Facts K) where
   exec_good (if_else t y z rest) n around sc p q st (b, d, j, r, pt, sj, ay, az, lb, ld, lr, hy, hz, h) c =
       let k = n + 1 + numbered y in
       let m = k + numbered z in
-      let go = λ (v : Value) (st1 : State). if truth_of v then leave (declared y) (exec service y (n + 1) around st1) else leave (declared z) (exec service z k around st1) in
+      let go = λ (v : Value) (st1 : State). if truth_of v then leave (declared y) (exec service y (n + 1) around st1) else leave (declared z)
+      (exec service z k around st1) in
       let ps = λ (v : Value) (st1 : State). if truth_of v then plugs service y (n + 1) around st1 else plugs service z k around st1 in
       let one = good_begin p j sc sc t st go ps pt c
-      (λ v st1 cv c1. good_if j sc (truth_of v) (leave (declared y) (exec service y (n + 1) around st1)) (leave (declared z) (exec service z k around st1)) (plugs service y (n + 1) around st1) (plugs service z k around st1)
-      (λ _. good_leave j sc y (exec service y (n + 1) around st1) (plugs service y (n + 1) around st1) ay (exec_good y (n + 1) around sc b j st1 hy (kept p b sc st1 pt.scope lb c1)))
-      (λ _. good_leave j sc z (exec service z k around st1) (plugs service z k around st1) az (exec_good z k around sc d j st1 hz (kept p d sc st1 pt.scope ld c1)))) in
+      (λ v st1 cv c1. good_if j sc (truth_of v) (leave (declared y) (exec service y (n + 1) around st1)) (leave (declared z) (exec service z k around st1))
+      (plugs service y (n + 1) around st1) (plugs service z k around st1)
+      (λ _. good_leave j sc y (exec service y (n + 1) around st1) (plugs service y (n + 1) around st1) ay
+      (exec_good y (n + 1) around sc b j st1 hy (kept p b sc st1 pt.scope lb c1)))
+      (λ _. good_leave j sc z (exec service z k around st1) (plugs service z k around st1) az
+      (exec_good z k around sc d j st1 hz (kept p d sc st1 pt.scope ld c1)))) in
       good_step r q sc (after rest sc) (begin service t st go) (begin_plugs service t st ps) (exec service rest m around) (plugs service rest m around)
       (fine_kept j r sc (begin service t st go) sj lr one.0, one.1)
       (λ st1 c1. exec_good rest m around sc r q st1 h c1)
@@ -318,11 +355,13 @@ module _ {K : Type 0} (service : Service) (f : Facts K) where
       good_step r q sc (after rest sc) (turns (room st) service t body st) (turns_plugs (room st) service t body (plugs service b (n + 1) around) st)
       (exec service rest m around) (plugs service rest m around)
       (good_turns (room st) p r sc t body (plugs service b (n + 1) around) st pt lr
-      (λ st1 c1. good_leave p sc b (exec service b (n + 1) around st1) (plugs service b (n + 1) around st1) ab (exec_good b (n + 1) around sc y p st1 hb (kept p y sc st1 pt.scope ly c1))) c)
+      (λ st1 c1. good_leave p sc b (exec service b (n + 1) around st1) (plugs service b (n + 1) around st1) ab
+      (exec_good b (n + 1) around sc y p st1 hb (kept p y sc st1 pt.scope ly c1))) c)
       (λ st1 c1. exec_good rest m around sc r q st1 h c1)
   exec_good (block b rest) n around sc p q st (r, ab, hb, h) c =
       let m = n + numbered b in
-      good_step r q sc (after rest sc) (leave (declared b) (exec service b n around st)) (plugs service b n around st) (exec service rest m around) (plugs service rest m around)
+      good_step r q sc (after rest sc) (leave (declared b) (exec service b n around st)) (plugs service b n around st) (exec service rest m around)
+      (plugs service rest m around)
       (good_leave r sc b (exec service b n around st) (plugs service b n around st) ab (exec_good b n around sc p r st hb c))
       (λ st1 c1. exec_good rest m around sc r q st1 h c1)
   exec_good (for_each w e b rest) n around sc p q st (y, r, pt, ab, ly, lr, hb, h) c =
@@ -336,11 +375,13 @@ module _ {K : Type 0} (service : Service) (f : Facts K) where
       (λ v st1 cv c1. good_each (list_of v) p r sc w (w ∷ declared b) body inside st1 pt.scope lr (λ vs x st2 c2.
       let st3 = add_local w (text x) st2 in
       good_inner p sc w b vs (body vs st3) (inside vs st3) ab
-      (exec_good b (n + 1) (around + list_weight vs) (sc ++ w ∷ []) y p st3 hb (added p y sc st2 w (brings w) any (text x) pt.scope (fresh_name w b sc ab) refl refl ly c2))) c1))
+      (exec_good b (n + 1) (around + list_weight vs) (sc ++ w ∷ []) y p st3 hb
+      (added p y sc st2 w (brings w) any (text x) pt.scope (fresh_name w b sc ab) refl refl ly c2))) c1))
       (λ st1 c1. exec_good rest m around sc r q st1 h c1)
   exec_good (show e rs rest) n around sc p q st (r, pt, k, pl, lr, h) c =
       let go = λ (v : Value). shows n around rs (document_of v) in
-      good_step r q sc (after rest sc) (begin service e st go) (begin_plugs service e st (λ v st1. [])) (exec service rest (n + 1) around) (plugs service rest (n + 1) around)
+      good_step r q sc (after rest sc) (begin service e st go) (begin_plugs service e st (λ v st1. [])) (exec service rest (n + 1) around)
+      (plugs service rest (n + 1) around)
       (good_begin p r sc sc e st go (λ v st1. []) pt c
       (λ v st1 cv c1. (
         fine_unless r sc (show_fault (document_of v) st1.locals around st1.shared) st1.units (wait n rs (document_of v) st1 st1.inputs)
@@ -357,24 +398,31 @@ module _ {K : Type 0} (service : Service) (f : Facts K) where
       ))
 
   -- a foreach over these strings
-  foreach_good : (vs : List (List ℕ)) (w : List ℕ) (b : Code) (n around : ℕ) (sc : List (List ℕ)) (p y r : K) (st : State) → f.scope p ≡ sc → Apart sc (w ∷ declared b) → Leads service f p (brings w) y → Leads service f p keeps r
+  foreach_good : (vs : List (List ℕ)) (w : List ℕ) (b : Code) (n around : ℕ) (sc : List (List ℕ)) (p y r : K) (st : State) → f.scope p ≡ sc
+      → Apart sc (w ∷ declared b) → Leads service f p (brings w) y → Leads service f p keeps r
       → Laid service f b (n + 1) (sc ++ w ∷ []) y p → IsAt p sc st
-      → Good r sc (each vs w (w ∷ declared b) (λ more. exec service b (n + 1) (around + list_weight more)) st) (each_plugs vs w (w ∷ declared b) (λ more. exec service b (n + 1) (around + list_weight more)) (λ more. plugs service b (n + 1) (around + list_weight more)) st)
+      → Good r sc (each vs w (w ∷ declared b) (λ more. exec service b (n + 1) (around + list_weight more)) st)
+      (each_plugs vs w (w ∷ declared b) (λ more. exec service b (n + 1) (around + list_weight more))
+      (λ more. plugs service b (n + 1) (around + list_weight more)) st)
   foreach_good vs w b n around sc p y r st s ab ly lr hb c =
-      good_each vs p r sc w (w ∷ declared b) (λ more. exec service b (n + 1) (around + list_weight more)) (λ more. plugs service b (n + 1) (around + list_weight more)) st s lr
+      good_each vs p r sc w (w ∷ declared b) (λ more. exec service b (n + 1) (around + list_weight more))
+      (λ more. plugs service b (n + 1) (around + list_weight more)) st s lr
       (λ ws x st2 c2.
       let st3 = add_local w (text x) st2 in
       good_inner p sc w b ws (exec service b (n + 1) (around + list_weight ws) st3) (plugs service b (n + 1) (around + list_weight ws) st3) ab
-      (exec_good b (n + 1) (around + list_weight ws) (sc ++ w ∷ []) y p st3 hb (added p y sc st2 w (brings w) any (text x) s (fresh_name w b sc ab) refl refl ly c2))) c
+      (exec_good b (n + 1) (around + list_weight ws) (sc ++ w ∷ []) y p st3 hb
+      (added p y sc st2 w (brings w) any (text x) s (fresh_name w b sc ab) refl refl ly c2))) c
 
-  good_rests : (q : K) (sc : List (List ℕ)) (rests : Rests) (go : List (List ℕ) → Rests → Outcome) (ps : List (List ℕ) → Rests → List Plug) → ((vs : List (List ℕ)) (inner : Rests) → Good q sc (go vs inner) (ps vs inner))
+  good_rests : (q : K) (sc : List (List ℕ)) (rests : Rests) (go : List (List ℕ) → Rests → Outcome) (ps : List (List ℕ) → Rests → List Plug)
+      → ((vs : List (List ℕ)) (inner : Rests) → Good q sc (go vs inner) (ps vs inner))
       → Good q sc (with_rest rests go) (rest_plugs rests ps)
   good_rests q sc [] go ps h = (tt, tt)
   good_rests q sc (vs ∷ inner) go ps h = h vs inner
 
   -- ---- behind an answered show
 
-  pub behind_good : (c : Code) (n around : ℕ) (sc : List (List ℕ)) (p q : K) (a : Answered) → CoversLocals service f (f.place a.at) a.locals → CoversShared service f a.input.shared → CoversInputs service f a.later
+  pub behind_good : (c : Code) (n around : ℕ) (sc : List (List ℕ)) (p q : K) (a : Answered) → CoversLocals service f (f.place a.at) a.locals
+      → CoversShared service f a.input.shared → CoversInputs service f a.later
       → Laid service f c n sc p q → Good q (after c sc) (behind service c n around a) (plugs_behind service c n around a)
   behind_good done n around sc p q a cl cs ci h = (tt, tt)
   behind_good (declare kind w e rest) n around sc p q a cl cs ci (r, pt, fresh, ld, h) = behind_good rest (n + 1) around (sc ++ w ∷ []) r q a cl cs ci h
@@ -382,15 +430,18 @@ module _ {K : Type 0} (service : Service) (f : Facts K) where
   behind_good (exit e rest) n around sc p q a cl cs ci (r, pt, k, x, h) = behind_good rest (n + 1) around sc r q a cl cs ci h
   behind_good (show e rs rest) n around sc p q a cl cs ci (r, pt, k, pl, lr, h) =
       let st = taken rs a.locals a.input a.later in
-      good_if q (after rest sc) (a.at == n) (exec service rest (n + 1) around st) (behind service rest (n + 1) around a) (plugs service rest (n + 1) around st) (plugs_behind service rest (n + 1) around a)
+      good_if q (after rest sc) (a.at == n) (exec service rest (n + 1) around st) (behind service rest (n + 1) around a)
+      (plugs service rest (n + 1) around st) (plugs_behind service rest (n + 1) around a)
       (λ e. exec_good rest (n + 1) around sc r q st h
-      (taken_good p r sc rs a.locals a.input a.later pt.scope (subst (λ x. CoversLocals service f x a.locals) (ap f.place (eqb-true a.at n e) ∙ pl) cl) lr cs ci))
+      (taken_good p r sc rs a.locals a.input a.later pt.scope
+      (subst (λ x. CoversLocals service f x a.locals) (ap f.place (eqb-true a.at n e) ∙ pl) cl) lr cs ci))
       (λ _. behind_good rest (n + 1) around sc r q a cl cs ci h)
   behind_good (block b rest) n around sc p q a cl cs ci (r, ab, hb, h) =
       let m = n + numbered b in
       let o = leave (declared b) (behind service b n around a) in
       let ps = plugs_behind service b n around a in
-      good_if q (after rest sc) (nat_lt a.at m) (then_do o (exec service rest m around)) (behind service rest m around a) (ps ++ on_end o (plugs service rest m around)) (plugs_behind service rest m around a)
+      good_if q (after rest sc) (nat_lt a.at m) (then_do o (exec service rest m around)) (behind service rest m around a)
+      (ps ++ on_end o (plugs service rest m around)) (plugs_behind service rest m around a)
       (λ _. good_then r q sc (after rest sc) o ps (exec service rest m around) (plugs service rest m around)
       (good_leave r sc b (behind service b n around a) ps ab (behind_good b n around sc p r a cl cs ci hb))
       (λ st1 c1. exec_good rest m around sc r q st1 h c1))
@@ -399,7 +450,8 @@ module _ {K : Type 0} (service : Service) (f : Facts K) where
       let m = n + 1 + numbered y in
       let o = leave (declared y) (behind service y (n + 1) around a) in
       let ps = plugs_behind service y (n + 1) around a in
-      good_if q (after rest sc) (nat_lt a.at m) (then_do o (exec service rest m around)) (behind service rest m around a) (ps ++ on_end o (plugs service rest m around)) (plugs_behind service rest m around a)
+      good_if q (after rest sc) (nat_lt a.at m) (then_do o (exec service rest m around)) (behind service rest m around a)
+      (ps ++ on_end o (plugs service rest m around)) (plugs_behind service rest m around a)
       (λ _.
       let g = good_leave j sc y (behind service y (n + 1) around a) ps ay (behind_good y (n + 1) around sc b j a cl cs ci hy) in
       good_then r q sc (after rest sc) o ps (exec service rest m around) (plugs service rest m around) (fine_kept j r sc o sj lr g.0, g.1)
@@ -419,7 +471,8 @@ module _ {K : Type 0} (service : Service) (f : Facts K) where
       (λ _.
       let g = good_leave j sc y (behind service y (n + 1) around a) ps ay (behind_good y (n + 1) around sc b j a cl cs ci hy) in
       good_then r q sc (after rest sc) one ps next more (fine_kept j r sc one sj lr g.0, g.1) (λ st1 c1. exec_good rest m around sc r q st1 h c1))
-      (λ _. good_if q (after rest sc) (nat_lt a.at m) (then_do other next) (behind service rest m around a) (qs ++ on_end other more) (plugs_behind service rest m around a)
+      (λ _. good_if q (after rest sc) (nat_lt a.at m) (then_do other next) (behind service rest m around a) (qs ++ on_end other more)
+      (plugs_behind service rest m around a)
       (λ _.
       let g = good_leave j sc z (behind service z k around a) qs az (behind_good z k around sc d j a cl cs ci hz) in
       good_then r q sc (after rest sc) other qs next more (fine_kept j r sc other sj lr g.0, g.1) (λ st1 c1. exec_good rest m around sc r q st1 h c1))
@@ -440,7 +493,8 @@ module _ {K : Type 0} (service : Service) (f : Facts K) where
       let names = w ∷ declared b in
       let body = λ (vs : List (List ℕ)) (st : State). exec service b (n + 1) (around + list_weight vs) st in
       let inside = λ (vs : List (List ℕ)) (st : State). plugs service b (n + 1) (around + list_weight vs) st in
-      let turn = λ (vs : List (List ℕ)) (inner : Rests). leave names (add_rest vs (behind service b (n + 1) (around + list_weight vs) (record a { rests = inner }))) in
+      let turn = λ (vs : List (List ℕ)) (inner : Rests). leave names
+      (add_rest vs (behind service b (n + 1) (around + list_weight vs) (record a { rests = inner }))) in
       let made = λ (vs : List (List ℕ)) (inner : Rests). plugs_behind service b (n + 1) (around + list_weight vs) (record a { rests = inner }) in
       let go = λ (vs : List (List ℕ)) (inner : Rests). then_do (turn vs inner) (each vs w names body) in
       let ps = λ (vs : List (List ℕ)) (inner : Rests). made vs inner ++ on_end (turn vs inner) (each_plugs vs w names body inside) in
@@ -464,14 +518,17 @@ module _ {K : Type 0} (service : Service) (f : Facts K) where
   is_covered q sc (Failed x units) c = tt
 
   -- no local is there in front of the first statement
-  at_start : (p : K) (first : Values) (inputs : List Input) → CoversShared service f first → CoversInputs service f inputs → IsAt p [] (record { locals = []; shared = first; units = budget; inputs = inputs })
+  at_start : (p : K) (first : Values) (inputs : List Input) → CoversShared service f first → CoversInputs service f inputs
+      → IsAt p [] (record { locals = []; shared = first; units = budget; inputs = inputs })
   at_start p first inputs c i = record { names = λ w. refl; locals = λ w v o e. absurd (none_some None v refl e); shared = c; inputs = i }
 
-  pub laid_turn : (session : ℕ) (p q : K) (first : Values) (inputs : List Input) → Laid service f (body_of service session) (first_number service session) [] p q → CoversShared service f first → CoversInputs service f inputs
+  pub laid_turn : (session : ℕ) (p q : K) (first : Values) (inputs : List Input)
+      → Laid service f (body_of service session) (first_number service session) [] p q → CoversShared service f first → CoversInputs service f inputs
       → IsCovered service f (turn service session first inputs) × AreOpen (turn_plugs service session first inputs)
   laid_turn session p q first inputs h c i =
       let b = body_of service session in
-      let r = exec_good b (first_number service session) 0 [] p q (record { locals = []; shared = first; units = budget; inputs = inputs }) h (at_start p first inputs c i) in
+      let r = exec_good b (first_number service session) 0 [] p q (record { locals = []; shared = first; units = budget; inputs = inputs }) h
+      (at_start p first inputs c i) in
       (is_covered q (after b []) (turn service session first inputs) r.0, r.1)
 
   pub laid_go_on : (session : ℕ) (p q : K) (a : Answered) → Laid service f (body_of service session) (first_number service session) [] p q

@@ -1,5 +1,6 @@
 -- Typed expressions have what is known by their kinds, and their plugs fill what they may fill.
-use Rattle.std.proofs.Common.{◌≡◌, ◌⊎◌, inl, inr, ℕ, zero, suc, ◌+◌, ◌<◌, Bool, true, false, cond, List, [], ◌∷◌, ◌++◌, length, map, Some, refl, sym, ap, ◌∙◌, subst, arith}
+use Rattle.std.proofs.Common.{◌≡◌, ◌⊎◌, inl, inr, ℕ, zero, suc, ◌+◌, ◌<◌, Bool, true, false, cond, List, [], ◌∷◌, ◌++◌, length, map, Some, refl, sym}
+use Rattle.std.proofs.Common.{ap, ◌∙◌, subst, arith}
 use Rattle.std.specs.Prelude.{◌||◌, ◌==◌, find, option_map, slice_get, unwrap_or}
 use Rattle.std.specs.List.{list_any, AllByRecursion, AllPairs}
 use Rattle.std.proofs.lemmas.Bool.{false≢true, eqb-true, eq-eqb, lt-ltb, ltb-true}
@@ -25,7 +26,8 @@ use Rattle.bw_types.specs.Gaps.{value_use, attr_uses, gap_uses, template_uses, g
 use Rattle.bw_types.specs.Scopes.{Scope, name_kind}
 use Rattle.bw_types.specs.Typing.{Takes, Fits, HasKind, AreTyped}
 use Rattle.bw_sum.specs.Opening.{holes, has_hole}
-use Rattle.bw_cover.specs.Abstracts.{Abstract, Nothing, Strings, Html, is_gap, plugged_by, summed_by, combined_by, called_by, known, known_filled, EachPair, EachFilling, IsPlug}
+use Rattle.bw_cover.specs.Abstracts.{Abstract, Nothing, Strings, Html, is_gap, plugged_by, summed_by, combined_by, called_by, known, known_filled}
+use Rattle.bw_cover.specs.Abstracts.{EachPair, EachFilling, IsPlug}
 use Rattle.bw_cover.specs.Kinds.{IsOf, GapsAreThere}
 use Rattle.bw_lang.specs.declared.expr.Fun.TheVariants as funs
 use Rattle.bw_lang.specs.declared.stmt.Kind.TheVariants as kinds
@@ -52,8 +54,10 @@ tree_holes g none = refl
 tree_holes g (text s d) = tree_holes g d
 tree_holes g (gap h d) = tree_holes g d
 tree_holes g (element tag attrs i d) =
-    list_any-append (is_attribute g) (attr_uses attrs) (gap_uses i ++ gap_uses d) ∙ ap (λ b. b || attribute_in g (gap_uses i ++ gap_uses d)) (attr_holes g attrs)
-    ∙ ap (λ b. holes g attrs || b) (list_any-append (is_attribute g) (gap_uses i) (gap_uses d) ∙ ap (λ b. b || attribute_in g (gap_uses d)) (tree_holes g i) ∙ ap (λ b. has_hole g i || b) (tree_holes g d))
+    list_any-append (is_attribute g) (attr_uses attrs) (gap_uses i ++ gap_uses d)
+    ∙ ap (λ b. b || attribute_in g (gap_uses i ++ gap_uses d)) (attr_holes g attrs)
+    ∙ ap (λ b. holes g attrs || b) (list_any-append (is_attribute g) (gap_uses i) (gap_uses d) ∙ ap (λ b. b || attribute_in g (gap_uses d)) (tree_holes g i)
+    ∙ ap (λ b. has_hole g i || b) (tree_holes g d))
 
 none_of : (a b : Bool) → (a || b) ≡ false → (a ≡ false) × (b ≡ false)
 none_of true b h = absurd (false≢true (sym h))
@@ -88,11 +92,13 @@ content_is_none : Content ≡ Attribute → ⊥
 content_is_none e = cc
 
 -- a gap whose first place is one for content has no other
-all_content : (uses : List (ℕ × GapKind)) (g : ℕ) → AllPairs (λ x y. x.0 ≡ y.0 → x.1 ≡ y.1) uses → gap_kind uses g ≡ Some Content → attribute_in g uses ≡ false
+all_content : (uses : List (ℕ × GapKind)) (g : ℕ) → AllPairs (λ x y. x.0 ≡ y.0 → x.1 ≡ y.1) uses → gap_kind uses g ≡ Some Content
+    → attribute_in g uses ≡ false
 all_content [] g h e = refl
 all_content (x ∷ xs) g h e = by_test (x.0 == g) refl e (all_content xs g (λ i j d lt l. h (suc i) (suc j) d (omega arith) (omega arith)))
   where
-    by_test : (b : Bool) → (x.0 == g) ≡ b → option_map (λ (y : ℕ × GapKind). y.1) (cond b (Some x) (find (λ y. y.0 == g) xs)) ≡ Some Content → (gap_kind xs g ≡ Some Content → attribute_in g xs ≡ false)
+    by_test : (b : Bool) → (x.0 == g) ≡ b → option_map (λ (y : ℕ × GapKind). y.1) (cond b (Some x) (find (λ y. y.0 == g) xs)) ≡ Some Content
+        → (gap_kind xs g ≡ Some Content → attribute_in g xs ≡ false)
         → (is_attribute g x || attribute_in g xs) ≡ false
     by_test true t k ih =
         let c : x.1 ≡ Content = cc in
@@ -100,7 +106,8 @@ all_content (x ∷ xs) g h e = by_test (x.0 == g) refl e (all_content xs g (λ i
         ∙ list_any_none (is_attribute g) xs (λ i d lt. not_true (is_attribute g _) (λ q.
         let r = attribute_is g _ q in
         content_is_none (sym c ∙ h 0 (suc i) d (omega arith) (omega arith) (eqb-true x.0 g t ∙ sym r.0) ∙ r.1)))
-    by_test false t k ih = ap (λ b. b || attribute_in g xs) (not_true (is_attribute g x) (λ q. false≢true (sym t ∙ eq_test x.0 g (attribute_is g x q).0))) ∙ ih k
+    by_test false t k ih = ap (λ b. b || attribute_in g xs) (not_true (is_attribute g x) (λ q. false≢true (sym t ∙ eq_test x.0 g (attribute_is g x q).0)))
+        ∙ ih k
       where
         eq_test : (m n : ℕ) → m ≡ n → (m == n) ≡ true
         eq_test m n i = eq-eqb m n i
@@ -110,7 +117,8 @@ all_content (x ∷ xs) g h e = by_test (x.0 == g) refl e (all_content xs g (λ i
 pub kind_of_some : (a b : Kind) → Some a ≡ Some b → a ≡ b
 kind_of_some a b e = cc
 
-module _ (service : Service) (one : AllPairs (λ x y. x.0 ≡ y.0 → x.1 ≡ y.1) (template_uses service.templates)) (there : GapsAreThere service) (scope : Scope) (at : List ℕ → Abstract)
+module _ (service : Service) (one : AllPairs (λ x y. x.0 ≡ y.0 → x.1 ≡ y.1) (template_uses service.templates)) (there : GapsAreThere service) (scope : Scope)
+    (at : List ℕ → Abstract)
     (names : (w : List ℕ) (kind : Kind) → name_kind service scope w ≡ Some kind → IsOf kind (at w)) where
   nothing_of : (op : Op) (side kind : Kind) → Takes (op_sort op) side kind → (a : Abstract) → IsOf side a → IsOf kind (combined_by op a)
   nothing_of Or side kind t a h = subst (λ k. IsOf k Nothing) (sym t.1) tt
@@ -160,20 +168,31 @@ module _ (service : Service) (one : AllPairs (λ x y. x.0 ≡ y.0 → x.1 ≡ y.
       is_there : (g : GapKind) → kind_of_gap service w ≡ Some g → is_gap service (number service.gaps w) ≡ true
       is_there g q = lt-ltb (number service.gaps w) (length service.gaps) (there w g q)
 
-      of_string : (e : Abstract) → IsOf kinds.Str e → is_gap service (number service.gaps w) ≡ true → IsOf kinds.Html (plugged_by (Html B) (number service.gaps w) e) × IsPlug service (Html B) (number service.gaps w) e
+      of_string : (e : Abstract) → IsOf kinds.Str e → is_gap service (number service.gaps w) ≡ true
+          → IsOf kinds.Html (plugged_by (Html B) (number service.gaps w) e) × IsPlug service (Html B) (number service.gaps w) e
       of_string Nothing h i = absurd h
       of_string (Strings S) h i = (tt, i)
       of_string (Html A) h i = absurd h
 
-      of_document : (e : Abstract) → IsOf kinds.Html e → is_gap service (number service.gaps w) ≡ true → attribute_in (number service.gaps w) (template_uses service.templates) ≡ false
+      of_document : (e : Abstract) → IsOf kinds.Html e → is_gap service (number service.gaps w) ≡ true
+          → attribute_in (number service.gaps w) (template_uses service.templates) ≡ false
           → IsOf kinds.Html (plugged_by (Html B) (number service.gaps w) e) × IsPlug service (Html B) (number service.gaps w) e
       of_document Nothing h i c = absurd h
       of_document (Strings S) h i c = absurd h
-      of_document (Html A) h i c = (tt, (i, λ m. no_hole (length service.gaps) (number service.gaps w) service.templates m (ltb-true (number service.gaps w) (length service.gaps) i) c))
+      of_document (Html A) h i c = (
+        tt,
+        (
+          i,
+          λ m. no_hole (length service.gaps) (number service.gaps w) service.templates m
+              (ltb-true (number service.gaps w) (length service.gaps) i) c,
+        ),
+      )
 
-      by_kind : (g : GapKind) → Fits g kind → kind_of_gap service w ≡ Some g → IsOf kinds.Html (plugged_by (Html B) (number service.gaps w) e) × IsPlug service (Html B) (number service.gaps w) e
+      by_kind : (g : GapKind) → Fits g kind → kind_of_gap service w ≡ Some g → IsOf kinds.Html (plugged_by (Html B) (number service.gaps w) e)
+          × IsPlug service (Html B) (number service.gaps w) e
       by_kind Content (inl s) q = of_string e (subst (λ x. IsOf x e) s k) (is_there Content q)
-      by_kind Content (inr s) q = of_document e (subst (λ x. IsOf x e) s k) (is_there Content q) (all_content (template_uses service.templates) (number service.gaps w) one q)
+      by_kind Content (inr s) q =
+          of_document e (subst (λ x. IsOf x e) s k) (is_there Content q) (all_content (template_uses service.templates) (number service.gaps w) one q)
       by_kind Attribute s q = of_string e (subst (λ x. IsOf x e) s k) (is_there Attribute q)
 
   mutual
@@ -196,7 +215,8 @@ module _ (service : Service) (one : AllPairs (λ x y. x.0 ≡ y.0 → x.1 ≡ y.
         let r = typed_filled ps (known service at b) a.0 h.1 in
         (subst (λ k. IsOf k (known_filled service at ps (known service at b))) (sym h.2) r.0, (a.1, r.1))
 
-    typed_filled : (ps : Fillings) (a : Abstract) → IsOf kinds.Html a → AreTyped service scope ps → IsOf kinds.Html (known_filled service at ps a) × EachFilling (IsPlug service) service at ps a
+    typed_filled : (ps : Fillings) (a : Abstract) → IsOf kinds.Html a → AreTyped service scope ps → IsOf kinds.Html (known_filled service at ps a)
+        × EachFilling (IsPlug service) service at ps a
     typed_filled no_more a k h = (k, tt)
     typed_filled (filling w e ps) a k h =
         let v = typed_known e h.0.1 h.0.3 in

@@ -84,14 +84,16 @@ Fresh l names = (w : List ℕ) (k : Kind) → beside w l ≡ Some k → is_among
 
 fresh_append : (l : Locals) (xs ys : List (List ℕ)) → Fresh l (xs ++ ys) → Fresh l xs × Fresh l ys
 fresh_append l xs ys h =
-    let both = λ (w : List ℕ) (k : Kind) (i : beside w l ≡ Some k). or_false (is_among w xs) (is_among w ys) (sym (list_any-append (same w) xs ys) ∙ h w k i) in
+    let both = λ (w : List ℕ) (k : Kind) (i : beside w l ≡ Some k). or_false (is_among w xs) (is_among w ys)
+    (sym (list_any-append (same w) xs ys) ∙ h w k i) in
     (λ w k i. (both w k i).0, λ w k i. (both w k i).1)
 
 some_is : (a b : Kind) → Some a ≡ Some b → a ≡ b
 some_is a b e = cc
 
 -- of what is found in front of the others or among them
-first_or : (v w : List ℕ) (kind k : Kind) (l : Locals) → beside v ((w, kind) ∷ l) ≡ Some k → (same v w ≡ true → k ≡ kind) × (same v w ≡ false → beside v l ≡ Some k)
+first_or : (v w : List ℕ) (kind k : Kind) (l : Locals) → beside v ((w, kind) ∷ l) ≡ Some k → (same v w ≡ true → k ≡ kind)
+    × (same v w ≡ false → beside v l ≡ Some k)
 first_or v w kind k l h = by_test (same v w) (sym (beside_first v w kind l) ∙ h)
   where
     by_test : (s : Bool) → (if s then Some kind else beside v l) ≡ Some k → (s ≡ true → k ≡ kind) × (s ≡ false → beside v l ≡ Some k)
@@ -117,7 +119,8 @@ module _ (service : Service) (woven : IsWoven service) (sees : Spot → Scope) w
   behind_still : (q : Spot) (b : Code) (l : Locals) → Fresh l (local_names b) → Behind q l → Behind q (locals_after b l)
   behind_still q b l f h w k i = still b l w k (declared_local w b (f w k (h w k i))) (h w k i)
 
-  start_behind : (c : Code) (n : ℕ) (scope : Scope) (q : Spot) → Sees sees c n scope → Fresh scope.locals (local_names c) → Behind q (locals_after c scope.locals) → Behind (starts c n q) scope.locals
+  start_behind : (c : Code) (n : ℕ) (scope : Scope) (q : Spot) → Sees sees c n scope → Fresh scope.locals (local_names c)
+      → Behind q (locals_after c scope.locals) → Behind (starts c n q) scope.locals
   start_behind done n scope q s f h = h
   start_behind (declare kind w e rest) n scope q s f h = at_point (statement n) scope s.0
   start_behind (assign w e rest) n scope q s f h = at_point (statement n) scope s.0
@@ -135,7 +138,8 @@ module _ (service : Service) (woven : IsWoven service) (sees : Spot → Scope) w
 
   -- what is new is no shared variable
   new_unshared : (scope : Scope) (w : List ℕ) (k : Kind) → IsNew service scope w → beside w (shared_kinds service) ≡ Some k → ⊥
-  new_unshared scope w k new e = none_is k (sym (new_at service no_locals [] w woven (matches_nothing service) (new.0, λ c. let lt = c.1 in absurd (omega arith))) ∙ e)
+  new_unshared scope w k new e =
+      none_is k (sym (new_at service no_locals [] w woven (matches_nothing service) (new.0, λ c. let lt = c.1 in absurd (omega arith))) ∙ e)
     where
       none_is : (k : Kind) → None ≡ Some k → ⊥
       none_is k e = cc
@@ -151,7 +155,8 @@ module _ (service : Service) (woven : IsWoven service) (sees : Spot → Scope) w
   received scope [] h = tt
   received scope (r ∷ rs) h = (h 0 r (omega arith), received scope rs (λ i d lt. h (suc i) d (omega arith)))
 
-  typed_edges : (c : Code) (n : ℕ) (scope : Scope) (q : Spot) → Distinct (local_names c) → Fresh scope.locals (local_names c) → IsTypedCode service scope c → Sees sees c n scope → Behind q (locals_after c scope.locals)
+  typed_edges : (c : Code) (n : ℕ) (scope : Scope) (q : Spot) → Distinct (local_names c) → Fresh scope.locals (local_names c) → IsTypedCode service scope c
+      → Sees sees c n scope → Behind q (locals_after c scope.locals)
       → EachTyped service sees (edges c n q)
   typed_edges done n scope q d f t s h = tt
   typed_edges (declare kind w e rest) n scope q d f t s h =
@@ -167,7 +172,11 @@ module _ (service : Service) (woven : IsWoven service) (sees : Spot → Scope) w
         from (statement n) (starts rest (n + 1) q) scope (sets w e) s.0 (
           t.0.0,
           t.0.2,
-          λ v k i. (λ m. some_is k t.0.0 (sym (ap (λ o. option_or o (beside w (shared_kinds service))) (ap (λ z. beside z scope.locals) (sym (same_is v w m)) ∙ b v k i)) ∙ t.0.1), λ m. b v k i),
+          λ v k i. (
+            λ m. some_is k t.0.0
+                (sym (ap (λ o. option_or o (beside w (shared_kinds service))) (ap (λ z. beside z scope.locals) (sym (same_is v w m)) ∙ b v k i)) ∙ t.0.1),
+            λ m. b v k i,
+          ),
           λ k i j. some_is k t.0.0 (sym (ap (λ o. option_or o (beside w (shared_kinds service))) i ∙ j) ∙ t.0.1),
         ),
         typed_edges rest (n + 1) scope q d f t.1 s.1 h,
@@ -183,7 +192,8 @@ module _ (service : Service) (woven : IsWoven service) (sees : Spot → Scope) w
           from (statement n) (meeting n) scope keeps s.0 join,
           (
             from (meeting n) (starts rest m q) scope keeps s.1 (start_behind rest m (behind scope y) q s.3 ff.1 h),
-            typed_append (edges y (n + 1) (meeting n)) (edges rest m q) (typed_edges y (n + 1) scope (meeting n) dd.0 ff.0 t.1 s.2 inner) (typed_edges rest m (behind scope y) q dd.1 ff.1 t.2 s.3 h),
+            typed_append (edges y (n + 1) (meeting n)) (edges rest m q) (typed_edges y (n + 1) scope (meeting n) dd.0 ff.0 t.1 s.2 inner)
+                (typed_edges rest m (behind scope y) q dd.1 ff.1 t.2 s.3 h),
           ),
         ),
       )
@@ -202,8 +212,10 @@ module _ (service : Service) (woven : IsWoven service) (sees : Spot → Scope) w
           from (statement n) (starts z j (meeting n)) scope keeps s.0 (start_behind z j (behind scope y) (meeting n) s.3 fe.0 iz),
           (
             from (meeting n) (starts rest m q) scope keeps s.1 (start_behind rest m (behind (behind scope y) z) q s.4 fe.1 h),
-            typed_append (edges y (n + 1) (meeting n)) (edges z j (meeting n) ++ edges rest m q) (typed_edges y (n + 1) scope (meeting n) dd.0 ff.0 t.1 s.2 iy)
-                (typed_append (edges z j (meeting n)) (edges rest m q) (typed_edges z j (behind scope y) (meeting n) de.0 fe.0 t.2 s.3 iz) (typed_edges rest m (behind (behind scope y) z) q de.1 fe.1 t.3 s.4 h)),
+            typed_append (edges y (n + 1) (meeting n)) (edges z j (meeting n) ++ edges rest m q)
+                (typed_edges y (n + 1) scope (meeting n) dd.0 ff.0 t.1 s.2 iy)
+                (typed_append (edges z j (meeting n)) (edges rest m q) (typed_edges z j (behind scope y) (meeting n) de.0 fe.0 t.2 s.3 iz)
+                (typed_edges rest m (behind (behind scope y) z) q de.1 fe.1 t.3 s.4 h)),
           ),
         ),
       )
@@ -215,7 +227,8 @@ module _ (service : Service) (woven : IsWoven service) (sees : Spot → Scope) w
         from (statement n) (starts b (n + 1) (statement n)) scope keeps s.0 (start_behind b (n + 1) scope (statement n) s.1 ff.0 inner),
         (
           from (statement n) (starts rest m q) scope keeps s.0 (start_behind rest m (behind scope b) q s.2 ff.1 h),
-          typed_append (edges b (n + 1) (statement n)) (edges rest m q) (typed_edges b (n + 1) scope (statement n) dd.0 ff.0 t.1 s.1 inner) (typed_edges rest m (behind scope b) q dd.1 ff.1 t.2 s.2 h),
+          typed_append (edges b (n + 1) (statement n)) (edges rest m q) (typed_edges b (n + 1) scope (statement n) dd.0 ff.0 t.1 s.1 inner)
+              (typed_edges rest m (behind scope b) q dd.1 ff.1 t.2 s.2 h),
         ),
       )
   typed_edges (block b rest) n scope q d f t s h =
@@ -223,7 +236,8 @@ module _ (service : Service) (woven : IsWoven service) (sees : Spot → Scope) w
       let dd = distinct_append (local_names b) (local_names rest) d in
       let ff = fresh_append scope.locals (local_names b) (local_names rest) f in
       let r = start_behind rest m (behind scope b) q s.1 ff.1 h in
-      typed_append (edges b n (starts rest m q)) (edges rest m q) (typed_edges b n scope (starts rest m q) dd.0 ff.0 t.0 s.0 (behind_still (starts rest m q) b scope.locals ff.0 r))
+      typed_append (edges b n (starts rest m q)) (edges rest m q)
+      (typed_edges b n scope (starts rest m q) dd.0 ff.0 t.0 s.0 (behind_still (starts rest m q) b scope.locals ff.0 r))
       (typed_edges rest m (behind scope b) q dd.1 ff.1 t.1 s.1 h)
   typed_edges (for_each w e b rest) n scope q d f t s h =
       let m = n + 1 + numbered b in
@@ -232,16 +246,19 @@ module _ (service : Service) (woven : IsWoven service) (sees : Spot → Scope) w
       let dd = distinct_append (local_names b) (local_names rest) d.1 in
       let fn = fresh_next scope.locals w kinds.Str (local_names b ++ local_names rest) d.0 f in
       let fb = (fresh_append ((w, kinds.Str) ∷ scope.locals) (local_names b) (local_names rest) fn).0 in
-      let fr = (fresh_append scope.locals (local_names b) (local_names rest) (λ v k i. (or_false (same v w) (is_among v (local_names b ++ local_names rest)) (f v k i)).1)).1 in
+      let fr = (fresh_append scope.locals (local_names b) (local_names rest)
+      (λ v k i. (or_false (same v w) (is_among v (local_names b ++ local_names rest)) (f v k i)).1)).1 in
       let head = λ (v : List ℕ) (k : Kind) (i : beside v (sees (statement n)).locals ≡ Some k).
       let j = at_point (statement n) scope s.0 v k i in
-      beside_first v w kinds.Str scope.locals ∙ pick (same v w) kinds.Str k (beside v scope.locals) (or_false (same v w) (is_among v (local_names b ++ local_names rest)) (f v k j)).0 j in
+      beside_first v w kinds.Str scope.locals
+      ∙ pick (same v w) kinds.Str k (beside v scope.locals) (or_false (same v w) (is_among v (local_names b ++ local_names rest)) (f v k j)).0 j in
       let inner = behind_still (statement n) b ((w, kinds.Str) ∷ scope.locals) fb head in
       let body = start_behind b (n + 1) (with_local scope w kinds.Str) (statement n) s.1 fb inner in (
         from (statement n) (starts b (n + 1) (statement n)) scope (brings w) s.0 (λ v k i. first_or v w kinds.Str k scope.locals (body v k i)),
         (
           from (statement n) (starts rest m q) scope keeps s.0 (start_behind rest m after q s.2 fr h),
-          typed_append (edges b (n + 1) (statement n)) (edges rest m q) (typed_edges b (n + 1) (with_local scope w kinds.Str) (statement n) dd.0 fb t.2 s.1 inner) (typed_edges rest m after q dd.1 fr t.3 s.2 h),
+          typed_append (edges b (n + 1) (statement n)) (edges rest m q)
+              (typed_edges b (n + 1) (with_local scope w kinds.Str) (statement n) dd.0 fb t.2 s.1 inner) (typed_edges rest m after q dd.1 fr t.3 s.2 h),
         ),
       )
   typed_edges (show e rs rest) n scope q d f t s h =
@@ -251,28 +268,44 @@ module _ (service : Service) (woven : IsWoven service) (sees : Spot → Scope) w
 
   -- the edges of all sessions
   all_edges : (ss : List Session) (n : ℕ)
-      → ((k : ℕ) → EachTyped service sees (edges (unwrap_or (slice_get (map (λ (s : Session). s.body) ss) k) done) (n + sum_by (λ (s : Session). numbered s.body) (take k ss)) out)) → EachTyped service sees (service_edges ss n)
+      → ((k : ℕ) → EachTyped service sees
+      (edges (unwrap_or (slice_get (map (λ (s : Session). s.body) ss) k) done) (n + sum_by (λ (s : Session). numbered s.body) (take k ss)) out))
+      → EachTyped service sees (service_edges ss n)
   all_edges [] n h = tt
   all_edges (s ∷ ss) n h =
       let e : n + sum_by (λ (x : Session). numbered x.body) [] ≡ n = omega arith in
       typed_append (edges s.body n out) (service_edges ss (n + numbered s.body)) (subst (λ m. EachTyped service sees (edges s.body m out)) e (h 0))
       (all_edges ss (n + numbered s.body) (λ k.
       let c = sum_by-cons (λ (x : Session). numbered x.body) s (take k ss) in
-      let i : n + sum_by (λ (x : Session). numbered x.body) (s ∷ take k ss) ≡ n + numbered s.body + sum_by (λ (x : Session). numbered x.body) (take k ss) = omega (arith, c) in
+      let i : n + sum_by (λ (x : Session). numbered x.body) (s ∷ take k ss) ≡ n + numbered s.body + sum_by (λ (x : Session). numbered x.body) (take k ss) =
+      omega (arith, c) in
       subst (λ m. EachTyped service sees (edges (unwrap_or (slice_get (map (λ (x : Session). x.body) ss) k) done) m out)) i (h (suc k))))
 
   -- ---- the cells that statements see
 
   cells_of : (f : Facts Spot) → ((q : Spot) → LocalsAreOf f q (sees q)) → (c : Code) (n : ℕ) (scope : Scope) → Sees sees c n scope → CellsAreOf f c n scope
   cells_of f h done n scope s = tt
-  cells_of f h (declare kind w e rest) n scope s = (subst (LocalsAreOf f (statement n)) s.0 (h (statement n)), cells_of f h rest (n + 1) (with_local scope w kind) s.1)
+  cells_of f h (declare kind w e rest) n scope s =
+      (subst (LocalsAreOf f (statement n)) s.0 (h (statement n)), cells_of f h rest (n + 1) (with_local scope w kind) s.1)
   cells_of f h (assign w e rest) n scope s = (subst (LocalsAreOf f (statement n)) s.0 (h (statement n)), cells_of f h rest (n + 1) scope s.1)
-  cells_of f h (if_then t y rest) n scope s =
-      (subst (LocalsAreOf f (statement n)) s.0 (h (statement n)), cells_of f h y (n + 1) scope s.2, cells_of f h rest (n + 1 + numbered y) (behind scope y) s.3)
-  cells_of f h (if_else t y z rest) n scope s =
-      (subst (LocalsAreOf f (statement n)) s.0 (h (statement n)), cells_of f h y (n + 1) scope s.2, cells_of f h z (n + 1 + numbered y) (behind scope y) s.3, cells_of f h rest (n + 1 + numbered y + numbered z) (behind (behind scope y) z) s.4)
-  cells_of f h (while_loop t b rest) n scope s =
-      (subst (LocalsAreOf f (statement n)) s.0 (h (statement n)), cells_of f h b (n + 1) scope s.1, cells_of f h rest (n + 1 + numbered b) (behind scope b) s.2)
+  cells_of f h (if_then t y rest) n scope s = (
+    subst (LocalsAreOf f (statement n)) s.0 (h (statement n)),
+    cells_of f h y (n + 1) scope s.2,
+    cells_of f h rest (n + 1 + numbered y)
+        (behind scope y) s.3,
+  )
+  cells_of f h (if_else t y z rest) n scope s = (
+    subst (LocalsAreOf f (statement n)) s.0 (h (statement n)),
+    cells_of f h y (n + 1) scope s.2,
+    cells_of f h z (n + 1 + numbered y) (behind scope y) s.3,
+    cells_of f h rest (n + 1 + numbered y + numbered z) (behind (behind scope y) z) s.4,
+  )
+  cells_of f h (while_loop t b rest) n scope s = (
+    subst (LocalsAreOf f (statement n)) s.0 (h (statement n)),
+    cells_of f h b (n + 1) scope s.1,
+    cells_of f h rest (n + 1 + numbered b)
+        (behind scope b) s.2,
+  )
   cells_of f h (block b rest) n scope s = (cells_of f h b n scope s.0, cells_of f h rest (n + numbered b) (behind scope b) s.1)
   cells_of f h (for_each w e b rest) n scope s = (
     subst (LocalsAreOf f (statement n)) s.0 (h (statement n)),
@@ -297,10 +330,12 @@ spots_agree out out h = refl
 pub gaps_are_there : (service : Service) → ∥ IsReadable service ∥₁ → GapsAreThere service
 gaps_are_there service h w kind e = (gaps_have_numbers service h w kind e).inside
 
-pub locals_differ : (service : Service) → ∥ IsReadable service ∥₁ → IsWellTyped service → All (λ (s : Session). AllPairs (λ v w. v ≢ w) (local_names s.body)) service.sessions
+pub locals_differ : (service : Service) → ∥ IsReadable service ∥₁ → IsWellTyped service
+    → All (λ (s : Session). AllPairs (λ v w. v ≢ w) (local_names s.body)) service.sessions
 locals_differ service r h =
     All-weaker (Walked service) (λ (s : Session). AllPairs (λ v w. v ≢ w) (local_names s.body))
-    (λ x f. (locals_own service no_locals x.body f.body (record { differ = none_differ; apart = All-nil (λ w. ¬ (Contains (declared_names service) w)) })).differ)
+    (λ x f. (locals_own service no_locals x.body f.body
+    (record { differ = none_differ; apart = All-nil (λ w. ¬ (Contains (declared_names service) w)) })).differ)
     service.sessions (sessions_none service (readable_is_woven service r) h)
 
 pub solved_is_accepted : SolvedIsAccepted
@@ -311,10 +346,12 @@ solved_is_accepted service f sees empty c h =
     let locals = locals_differ service h.readable h.typed in
     let differ = λ (k : ℕ). at_body (λ x. AllPairs (λ v w. v ≢ w) (local_names x)) (λ i j d lt l. absurd (omega arith)) service.sessions locals k in
     let edges_typed = all_edges service woven sees service.sessions 1 (λ k.
-    typed_edges service woven sees (body_of service k) (first_number service k) no_locals out (distinct (local_names (body_of service k)) (differ k)) (λ w k i. absurd (cc))
+    typed_edges service woven sees (body_of service k) (first_number service k) no_locals out (distinct (local_names (body_of service k)) (differ k))
+    (λ w k i. absurd (cc))
     (at_body (λ x. IsTypedCode service no_locals x) tt service.sessions (bodies_typed service typed_service) k) (h.sees_code k)
     (λ w kind i. absurd (nothing_there w kind (subst (λ l. beside w l ≡ Some kind) h.sees_nothing i)))) in
-    let kinded = least_kinded same_spot spots_agree service typed_service.gaps there f sees h.agree (service_edges service.sessions 1) edges_typed (typed_literals service woven typed_service) empty h.empties c h.least in
+    let kinded = least_kinded same_spot spots_agree service typed_service.gaps there f sees h.agree (service_edges service.sessions 1) edges_typed
+    (typed_literals service woven typed_service) empty h.empties c h.least in
     let all : IsChecked service f empty c = record {
       typed = typed_service;
       differ = locals;

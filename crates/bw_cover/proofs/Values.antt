@@ -1,5 +1,6 @@
 -- The value of an expression is covered by what is known of it, and each of its plugs has an open gap.
-use Rattle.std.proofs.Common.{◌≡◌, ℕ, zero, suc, ◌+◌, ◌≤◌, Bool, true, false, cond, List, [], ◌∷◌, ◌++◌, Option, Some, None, Result, Ok, Err, refl, sym, ap, ◌∙◌, subst, arith}
+use Rattle.std.proofs.Common.{◌≡◌, ℕ, zero, suc, ◌+◌, ◌≤◌, Bool, true, false, cond, List, [], ◌∷◌, ◌++◌, Option, Some, None, Result, Ok, Err, refl}
+use Rattle.std.proofs.Common.{sym, ap, ◌∙◌, subst, arith}
 use Rattle.std.specs.Prelude.{◌||◌, not, pos, if◌then◌else◌, option_map, find, map, is_some, nat_lt, length, slice_get, unwrap_or}
 use Rattle.std.specs.Option.{option_or}
 use Rattle.std.proofs.lemmas.Bool.{false≢true}
@@ -25,7 +26,8 @@ use Rattle.bw_sum.specs.Unfolding.{Covers}
 use Rattle.bw_sum.proofs.Covering.{covers_constant, covers_plug, covers_text, covers_below as graph_below}
 use Rattle.bw_sum.proofs.Opens.{opens_counted}
 use Rattle.bw_sum.specs.Templates.{template_items}
-use Rattle.bw_cover.specs.Abstracts.{Abstract, Nothing, Strings, Html, any, is_gap, covers, Below, plugged_by, summed_by, combined_by, called_by, known, known_filled, EachPair, EachFilling, IsNotLacked, IsPlug}
+use Rattle.bw_cover.specs.Abstracts.{Abstract, Nothing, Strings, Html, any, is_gap, covers, Below, plugged_by, summed_by, combined_by, called_by}
+use Rattle.bw_cover.specs.Abstracts.{known, known_filled, EachPair, EachFilling, IsNotLacked, IsPlug}
 use Rattle.bw_cover.specs.Facts.{Facts, is_shared, template_known, look}
 use Rattle.bw_types.specs.Scopes.{is_among, template_names}
 use Rattle.bw_cover.specs.Plugs.{Plug, on_unit, on_value, plugs_in, plugs_by}
@@ -75,7 +77,8 @@ module _ (service : Service) where
   given_nothing (Gives v u) = tt
   given_nothing (Faults f u) = tt
 
-  good_paid : (a : Abstract) (u : ℕ) (go : ℕ → Evaluated) (ps : ℕ → List Plug) → ((w : ℕ) → Evaluates service a (go w) (ps w)) → Evaluates service a (paid u go) (on_unit u ps)
+  good_paid : (a : Abstract) (u : ℕ) (go : ℕ → Evaluated) (ps : ℕ → List Plug) → ((w : ℕ) → Evaluates service a (go w) (ps w))
+      → Evaluates service a (paid u go) (on_unit u ps)
   good_paid a zero go ps h = (tt, tt)
   good_paid a (suc u) go ps h = h u
 
@@ -138,7 +141,8 @@ module _ (service : Service) where
   called_good funs.Count v = tt
 
   -- one pair of a plug
-  tree_good : (G : Graph) (tree : Forest) (r : Result Measure MeasureFault) (u : ℕ) → Covers (template_items service) (is_gap service) G tree → Given service (Html G) (given (with_tree tree r) u)
+  tree_good : (G : Graph) (tree : Forest) (r : Result Measure MeasureFault) (u : ℕ) → Covers (template_items service) (is_gap service) G tree
+      → Given service (Html G) (given (with_tree tree r) u)
   tree_good G tree (Ok m) u c = c
   tree_good G tree (Err f) u c = tt
 
@@ -183,22 +187,27 @@ module _ (service : Service) where
       eval_good (paren e) u g p = good_paid (known service at e) u (λ w. eval service l s e w) (λ w. plugs_in service l s e w) (λ w. eval_good e w g p)
       eval_good (negated e) u g p =
           good_paid Nothing u (λ w. and_then (eval service l s e w) (λ v. Gives (truth_value (std.not (truth_of v))))) (λ w. plugs_in service l s e w)
-          (λ w. good_last (known service at e) Nothing (eval service l s e w) (plugs_in service l s e w) (λ v. Gives (truth_value (std.not (truth_of v)))) (eval_good e w g p) (λ v x c. tt))
+          (λ w. good_last (known service at e) Nothing (eval service l s e w) (plugs_in service l s e w) (λ v. Gives (truth_value (std.not (truth_of v))))
+          (eval_good e w g p) (λ v x c. tt))
       eval_good (neg e) u g p =
           good_paid Nothing u (λ w. and_then (eval service l s e w) (λ v. given (held (std.neg_ℤ (number_of v))))) (λ w. plugs_in service l s e w)
-          (λ w. good_last (known service at e) Nothing (eval service l s e w) (plugs_in service l s e w) (λ v. given (held (std.neg_ℤ (number_of v)))) (eval_good e w g p) (λ v x c. given_nothing (given (held (std.neg_ℤ (number_of v))) x)))
+          (λ w. good_last (known service at e) Nothing (eval service l s e w) (plugs_in service l s e w) (λ v. given (held (std.neg_ℤ (number_of v))))
+          (eval_good e w g p) (λ v x c. given_nothing (given (held (std.neg_ℤ (number_of v))) x)))
       eval_good (call f e) u g p =
           good_paid (called_by f) u (λ w. and_then (eval service l s e w) (λ v. Gives (called f v))) (λ w. plugs_in service l s e w)
-          (λ w. good_last (known service at e) (called_by f) (eval service l s e w) (plugs_in service l s e w) (λ v. Gives (called f v)) (eval_good e w g p) (λ v x c. called_good f v))
+          (λ w. good_last (known service at e) (called_by f) (eval service l s e w) (plugs_in service l s e w) (λ v. Gives (called f v)) (eval_good e w g p)
+          (λ v x c. called_good f v))
       eval_good (binary op a b) u g p =
           good_paid (combined_by op (known service at a)) u
-          (λ w. and_then (eval service l s a w) (λ v u1. if decides op v then Gives v u1 else and_then (eval service l s b u1) (λ x. given (combined op v x))))
+          (λ w. and_then (eval service l s a w)
+          (λ v u1. if decides op v then Gives v u1 else and_then (eval service l s b u1) (λ x. given (combined op v x))))
           (λ w. plugs_in service l s a w ++ on_value (eval service l s a w) (λ v u1. if decides op v then [] else plugs_in service l s b u1))
           (λ w. good_then (known service at a) (combined_by op (known service at a)) (eval service l s a w) (plugs_in service l s a w)
           (λ v u1. if decides op v then Gives v u1 else and_then (eval service l s b u1) (λ x. given (combined op v x)))
           (λ v u1. if decides op v then [] else plugs_in service l s b u1)
           (eval_good a w g.0 p.0)
-          (λ v u1 c. binary_good op (known service at a) (known service at b) v u1 (eval service l s b u1) (plugs_in service l s b u1) c (eval_good b u1 g.1 p.1)))
+          (λ v u1 c. binary_good op (known service at a) (known service at b) v u1 (eval service l s b u1) (plugs_in service l s b u1) c
+          (eval_good b u1 g.1 p.1)))
       eval_good (plug b ps) u g p =
           good_paid (known_filled service at ps (known service at b)) u
           (λ w. and_then (eval service l s b w) (λ d u1. fill service l s ps d u1))
@@ -208,7 +217,8 @@ module _ (service : Service) where
           (eval_good b w g.0 p.0)
           (λ d u1 c. fill_good ps (known service at b) d u1 c g.1 p.1))
 
-      fill_good : (ps : Fillings) (a : Abstract) (d : Value) (u : ℕ) → covers service a d → EachFilling IsNotLacked service at ps a → EachFilling (IsPlug service) service at ps a
+      fill_good : (ps : Fillings) (a : Abstract) (d : Value) (u : ℕ) → covers service a d → EachFilling IsNotLacked service at ps a
+          → EachFilling (IsPlug service) service at ps a
           → Evaluates service (known_filled service at ps a) (fill service l s ps d u) (plugs_by service l s ps d u)
       fill_good no_more a d u c g p = (c, tt)
       fill_good (filling h e ps) a d u c g p =
@@ -221,7 +231,8 @@ module _ (service : Service) where
           (eval_good e u g.1 p.1)
           (λ v u1 k.
           let one = plug_good a (known service at e) d v n u1 c k g.0 p.0 in
-          let r = good_value b (known_filled service at ps b) (given (filled n v (document_of d)) u1) (λ d1 u2. fill service l s ps d1 u2) (λ d1 u2. plugs_by service l s ps d1 u2) one.0
+          let r = good_value b (known_filled service at ps b) (given (filled n v (document_of d)) u1) (λ d1 u2. fill service l s ps d1 u2)
+          (λ d1 u2. plugs_by service l s ps d1 u2) one.0
           (λ d1 u2 cd. fill_good ps b d1 u2 cd g.2 p.2) in
           (r.0, (one.1, r.1)))
 
@@ -254,7 +265,8 @@ no_template : (w : List ℕ) (ts : List Template) → is_among w (map (λ t. t.n
 no_template w [] h = refl
 no_template w (t ∷ ts) h = by_test (same w t.name) h (no_template w ts)
   where
-    by_test : (b : Bool) → (b || is_among w (map (λ u. u.name) ts)) ≡ false → (is_among w (map (λ u. u.name) ts) ≡ false → find (λ u. same w u.name) ts ≡ None) → cond b (Some t) (find (λ u. same w u.name) ts) ≡ None
+    by_test : (b : Bool) → (b || is_among w (map (λ u. u.name) ts)) ≡ false
+        → (is_among w (map (λ u. u.name) ts) ≡ false → find (λ u. same w u.name) ts ≡ None) → cond b (Some t) (find (λ u. same w u.name) ts) ≡ None
     by_test true e ih = absurd (false≢true (sym e))
     by_test false e ih = ih e
 
@@ -263,11 +275,14 @@ pub template_given : (service : Service) (w : List ℕ) (other : Value) → cove
 template_given service w other = by_test (is_among w (template_names service)) refl
   where
     by_test : (b : Bool) → is_among w (template_names service) ≡ b
-        → covers service (if b then Html (constant (template_items service) (is_gap service) (names.number (template_names service) w)) else Nothing) (unwrap_or (template_value service w) other)
+        → covers service (if b then Html (constant (template_items service) (is_gap service) (names.number (template_names service) w)) else Nothing)
+        (unwrap_or (template_value service w) other)
     by_test true e =
         let r = template_at w service.templates (show_wrapper (length service.gaps) ∷ exit_wrapper (length service.gaps) ∷ []) e in
-        subst (λ o. covers service (Html (constant (template_items service) (is_gap service) (names.number (template_names service) w))) (unwrap_or (option_map (λ (t : Template). document (document_at t.items)) o) other)) (sym r.1)
-        (subst (λ d. Covers (template_items service) (is_gap service) (constant (template_items service) (is_gap service) (names.number (template_names service) w)) d) r.2
+        subst (λ o. covers service (Html (constant (template_items service) (is_gap service) (names.number (template_names service) w)))
+        (unwrap_or (option_map (λ (t : Template). document (document_at t.items)) o) other)) (sym r.1)
+        (subst (λ d. Covers (template_items service) (is_gap service)
+        (constant (template_items service) (is_gap service) (names.number (template_names service) w)) d) r.2
         (covers_constant (template_items service) (is_gap service) (names.number (template_names service) w)))
     by_test false e = tt
 
@@ -276,13 +291,19 @@ module _ {K : Type 0} (service : Service) (f : Facts K) (p : K) (l s : Values) (
   abbrev rest_known : List ℕ → Abstract
   rest_known w = if is_shared service w then f.shared w else template_known service w
 
-  shared_value : (w : List ℕ) (o : Option Value) → beside w s ≡ o → covers service (rest_known w) (unwrap_or (option_or o (template_value service w)) (number (pos 0)))
-  shared_value w None e = subst (λ b. covers service (if b then f.shared w else template_known service w) (unwrap_or (template_value service w) (number (pos 0)))) (sym (ap is_some e) ∙ cs.names w) (template_given service w (number (pos 0)))
-  shared_value w (Some v) e = subst (λ b. covers service (if b then f.shared w else template_known service w) v) (sym (ap is_some e) ∙ cs.names w) (cs.each w v e)
+  shared_value : (w : List ℕ) (o : Option Value) → beside w s ≡ o
+      → covers service (rest_known w) (unwrap_or (option_or o (template_value service w)) (number (pos 0)))
+  shared_value w None e =
+      subst (λ b. covers service (if b then f.shared w else template_known service w) (unwrap_or (template_value service w) (number (pos 0))))
+      (sym (ap is_some e) ∙ cs.names w) (template_given service w (number (pos 0)))
+  shared_value w (Some v) e = subst (λ b. covers service (if b then f.shared w else template_known service w) v) (sym (ap is_some e) ∙ cs.names w)
+      (cs.each w v e)
 
-  local_value : (w : List ℕ) (o : Option Value) → beside w l ≡ o → covers service (look service f p w) (unwrap_or (option_or o (option_or (beside w s) (template_value service w))) (number (pos 0)))
+  local_value : (w : List ℕ) (o : Option Value) → beside w l ≡ o
+      → covers service (look service f p w) (unwrap_or (option_or o (option_or (beside w s) (template_value service w))) (number (pos 0)))
   local_value w None e =
-      subst (λ b. covers service (if b then f.local p w else rest_known w) (unwrap_or (option_or (beside w s) (template_value service w)) (number (pos 0)))) (sym (ap is_some e) ∙ cl.names w) (shared_value w (beside w s) refl)
+      subst (λ b. covers service (if b then f.local p w else rest_known w) (unwrap_or (option_or (beside w s) (template_value service w)) (number (pos 0))))
+      (sym (ap is_some e) ∙ cl.names w) (shared_value w (beside w s) refl)
   local_value w (Some v) e = subst (λ b. covers service (if b then f.local p w else rest_known w) v) (sym (ap is_some e) ∙ cl.names w) (cl.each w v e)
 
   pub looks : (w : List ℕ) → covers service (look service f p w) (named service l s w)

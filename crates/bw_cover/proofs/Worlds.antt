@@ -22,7 +22,8 @@ use Rattle.bw_cover.specs.Facts.{Facts}
 use Rattle.bw_cover.specs.Plugs.{Plug}
 use Rattle.bw_cover.specs.Sound.{AcceptsAll}
 use Rattle.bw_cover.specs.Spots.{Spot}
-use Rattle.bw_cover.specs.Worlds.{Reached, none, one_more, CoversOrigin, WaitsAtShow, plugs_over, talk_plugs, CoversTalk, CoversWorld, ComesToCovered, CoversNext}
+use Rattle.bw_cover.specs.Worlds.{Reached, none, one_more, CoversOrigin, WaitsAtShow, plugs_over, talk_plugs, CoversTalk, CoversWorld, ComesToCovered}
+use Rattle.bw_cover.specs.Worlds.{CoversNext}
 use Rattle.bw_cover.specs.Worlds.{EmptyIsCovered, StepsKeepCovering, NextIsCovered, WorldsAreCovered, StreamsReach}
 use Rattle.bw_cover.proofs.First.{first_covered}
 use Rattle.bw_cover.proofs.Sound.{turn_is_covered, turn_plugs_are_open, going_on_is_covered, going_on_plugs_are_open}
@@ -104,7 +105,8 @@ module _ (service : Service) (f : Facts Spot) (a : AcceptsAll service f) where
         by_test false =
             let r = next_of talk form w.shared c h.shared in
             turned_covered (suc (current w.first talk)) next (now service next) refl c.origin
-            (all_append (λ (j : Input). CoversShared service f j.shared) talk.inputs (record { form = form; shared = w.shared } ∷ []) c.inputs (h.shared, tt)) r.result r.plugs
+            (all_append (λ (j : Input). CoversShared service f j.shared) talk.inputs (record { form = form; shared = w.shared } ∷ []) c.inputs
+            (h.shared, tt)) r.result r.plugs
 
     waited : (talk : Talk) (method : Method) (form : Form) (o : Outcome) → CoversTalk service f talk →
         CoversFate (waits service w.first talk method form w.shared o).fate
@@ -126,7 +128,9 @@ module _ (service : Service) (f : Facts Spot) (a : AcceptsAll service f) where
         CoversFate (answered service w.first talk (record { method = method; form = form; turn = turn; shared = w.shared })).fate
     answer_covered talk method form turn c = by_test (turn == current w.first talk)
       where
-        by_test : (b : Bool) → CoversFate (if b then waits service w.first talk method form w.shared (now service talk) else no_answer (replies.Stale (current w.first talk))).fate
+        by_test : (b : Bool)
+            → CoversFate (if b then waits service w.first talk method form w.shared (now service talk) else no_answer
+            (replies.Stale (current w.first talk))).fate
         by_test true = waited talk method form (now service talk) c
         by_test false = tt
 
@@ -169,7 +173,8 @@ module _ (service : Service) (f : Facts Spot) (a : AcceptsAll service f) where
     nexts : CoversNext service f w
     nexts = record {
       begins = λ s. begun s w.shared [] h.shared tt;
-      goes_on = λ form. all_of Covered (λ (l : Live). ComesToCovered service f (with_input l.talk form w.shared)) (λ l c. next_of l.talk form w.shared c h.shared) w.live h.live;
+      goes_on = λ form. all_of Covered (λ (l : Live). ComesToCovered service f (with_input l.talk form w.shared))
+          (λ l c. next_of l.talk form w.shared c h.shared) w.live h.live;
     }
 
 -- ---- the laws
@@ -190,7 +195,8 @@ reached service f w a (one_more v request key r) = steps_keep_covering service f
 pub worlds_are_covered : WorldsAreCovered
 worlds_are_covered service f w a r = let c = reached service f w a r in (c, next_is_covered service f w a c)
 
-turn_reaches : (service : Service) (at to : At) (reply : Reply) (cost : ℕ) → Turn service at reply cost to → Reached service at.world → Reached service to.world
+turn_reaches : (service : Service) (at to : At) (reply : Reply) (cost : ℕ) → Turn service at reply cost to → Reached service at.world
+    → Reached service to.world
 turn_reaches service at to reply cost (by_request r cut e keys) h = subst (Reached service) (ap (λ (s : Step). s.world) e) (one_more at.world r _ h)
 turn_reaches service at to reply cost (no_memory cut r same keys few) h = subst (Reached service) (sym same) h
 

@@ -40,7 +40,8 @@ is_shared service w = is_among w (map (λ v. v.name) service.shared)
 
 -- of a template its constant; nothing of a name that stands for nothing
 abbrev pub template_known : Service → List ℕ → Abstract
-template_known service w = if is_among w (template_names service) then Html (constant (template_items service) (is_gap service) (number (template_names service) w)) else Nothing
+template_known service w =
+    if is_among w (template_names service) then Html (constant (template_items service) (is_gap service) (number (template_names service) w)) else Nothing
 
 -- of a shared variable's literal
 abbrev pub literal_known : Service → Literal → Abstract
@@ -83,7 +84,8 @@ Adds service f p keeps = Unit {0}
 Adds service f p (sets v e) = is_among v (f.scope p) ≡ false → is_shared service v ≡ true → Below (known service (look service f p) e) (f.shared v)
 Adds service f p (brings v) = Unit {0}
 Adds service f p (takes rs) =
-    AllByRecursion (λ (r : Receive). is_among r.target (f.scope p) ≡ false → is_shared service r.target ≡ true → Below (received_by (f.shared r.target)) (f.shared r.target)) rs
+    AllByRecursion (λ (r : Receive). is_among r.target (f.scope p) ≡ false → is_shared service r.target ≡ true
+    → Below (received_by (f.shared r.target)) (f.shared r.target)) rs
 
 -- a point that does this leads to q: what it leaves in a local in scope at q is known there
 pub record Leads {K : Type 0} (service : Service) (f : Facts K) (p : K) (what : What) (q : K) : Type 0 where

@@ -51,10 +51,13 @@ abbrev pub CellsAreOf : Facts Spot → Code → ℕ → Scope → Type 0
 CellsAreOf f done n scope = Unit {0}
 CellsAreOf f (declare kind w e rest) n scope = LocalsAreOf f (statement n) scope × CellsAreOf f rest (n + 1) (with_local scope w kind)
 CellsAreOf f (assign w e rest) n scope = LocalsAreOf f (statement n) scope × CellsAreOf f rest (n + 1) scope
-CellsAreOf f (if_then t y rest) n scope = LocalsAreOf f (statement n) scope × CellsAreOf f y (n + 1) scope × CellsAreOf f rest (n + 1 + numbered y) (behind scope y)
+CellsAreOf f (if_then t y rest) n scope = LocalsAreOf f (statement n) scope × CellsAreOf f y (n + 1) scope
+    × CellsAreOf f rest (n + 1 + numbered y) (behind scope y)
 CellsAreOf f (if_else t y z rest) n scope =
-    LocalsAreOf f (statement n) scope × CellsAreOf f y (n + 1) scope × CellsAreOf f z (n + 1 + numbered y) (behind scope y) × CellsAreOf f rest (n + 1 + numbered y + numbered z) (behind (behind scope y) z)
-CellsAreOf f (while_loop t b rest) n scope = LocalsAreOf f (statement n) scope × CellsAreOf f b (n + 1) scope × CellsAreOf f rest (n + 1 + numbered b) (behind scope b)
+    LocalsAreOf f (statement n) scope × CellsAreOf f y (n + 1) scope × CellsAreOf f z (n + 1 + numbered y) (behind scope y)
+    × CellsAreOf f rest (n + 1 + numbered y + numbered z) (behind (behind scope y) z)
+CellsAreOf f (while_loop t b rest) n scope = LocalsAreOf f (statement n) scope × CellsAreOf f b (n + 1) scope
+    × CellsAreOf f rest (n + 1 + numbered b) (behind scope b)
 CellsAreOf f (block b rest) n scope = CellsAreOf f b n scope × CellsAreOf f rest (n + numbered b) (behind scope b)
 CellsAreOf f (for_each w e b rest) n scope =
     LocalsAreOf f (statement n) scope × CellsAreOf f b (n + 1) (with_local scope w kinds.Str)
@@ -78,7 +81,8 @@ Shows service f done n = Unit {0}
 Shows service f (declare kind w e rest) n = Shows service f rest (n + 1)
 Shows service f (assign w e rest) n = Shows service f rest (n + 1)
 Shows service f (if_then t y rest) n = Shows service f y (n + 1) × Shows service f rest (n + 1 + numbered y)
-Shows service f (if_else t y z rest) n = Shows service f y (n + 1) × Shows service f z (n + 1 + numbered y) × Shows service f rest (n + 1 + numbered y + numbered z)
+Shows service f (if_else t y z rest) n = Shows service f y (n + 1) × Shows service f z (n + 1 + numbered y)
+    × Shows service f rest (n + 1 + numbered y + numbered z)
 Shows service f (while_loop t b rest) n = Shows service f b (n + 1) × Shows service f rest (n + 1 + numbered b)
 Shows service f (block b rest) n = Shows service f b n × Shows service f rest (n + numbered b)
 Shows service f (for_each w e b rest) n = Shows service f b (n + 1) × Shows service f rest (n + 1 + numbered b)
@@ -123,7 +127,8 @@ PlacesFit =
 -- each literal has the kind of its variable
 abbrev pub LiteralsAreOf : Service → Type 0
 LiteralsAreOf service =
-    AllByRecursion (λ (v : Shared). (kind : Kind) → beside v.name (shared_kinds service) ≡ Some kind → IsOf kind (literal_known service v.init)) service.shared
+    AllByRecursion (λ (v : Shared). (kind : Kind) → beside v.name (shared_kinds service) ≡ Some kind
+    → IsOf kind (literal_known service v.init)) service.shared
 
 abbrev pub TypedLiterals : Type 0
 TypedLiterals = (service : Service) → IsWoven service → IsTypedService service → LiteralsAreOf service

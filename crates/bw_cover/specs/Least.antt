@@ -55,7 +55,8 @@ abbrev pub added : {K : Type 0} → Service → Facts K → K → What → List 
 added service f p keeps w = None
 added service f p (sets v e) w = if same w v && not (is_among v (f.scope p)) then Some (known service (look service f p) e) else None
 added service f p (brings v) w = None
-added service f p (takes rs) w = if list_any (λ (r : Receive). same w r.target && not (is_among r.target (f.scope p))) rs then Some (received_by (f.shared w)) else None
+added service f p (takes rs) w = if list_any (λ (r : Receive). same w r.target && not (is_among r.target (f.scope p))) rs then Some
+    (received_by (f.shared w)) else None
 
 -- The join of what all points that lead to q leave in a local, upon its empty value. Here and below is_same tells points
 -- apart.

@@ -27,7 +27,8 @@ abbrev pub Sees : (Spot → Scope) → Code → ℕ → Scope → Type 0
 Sees sees done n scope = Unit {0}
 Sees sees (declare kind w e rest) n scope = (sees (statement n) ≡ scope) × Sees sees rest (n + 1) (with_local scope w kind)
 Sees sees (assign w e rest) n scope = (sees (statement n) ≡ scope) × Sees sees rest (n + 1) scope
-Sees sees (if_then t y rest) n scope = (sees (statement n) ≡ scope) × (sees (meeting n) ≡ scope) × Sees sees y (n + 1) scope × Sees sees rest (n + 1 + numbered y) (behind scope y)
+Sees sees (if_then t y rest) n scope = (sees (statement n) ≡ scope) × (sees (meeting n) ≡ scope) × Sees sees y (n + 1) scope
+    × Sees sees rest (n + 1 + numbered y) (behind scope y)
 Sees sees (if_else t y z rest) n scope =
     (sees (statement n) ≡ scope) × (sees (meeting n) ≡ scope) × Sees sees y (n + 1) scope × Sees sees z (n + 1 + numbered y) (behind scope y)
     × Sees sees rest (n + 1 + numbered y + numbered z) (behind (behind scope y) z)
@@ -50,13 +51,15 @@ Within p q = (w : List ℕ) (kind : Kind) → beside w q.locals ≡ Some kind �
 
 -- and so has each one but v, which has this kind
 abbrev pub WithinBut : List ℕ → Kind → Scope → Scope → Type 0
-WithinBut v own p q = (w : List ℕ) (kind : Kind) → beside w q.locals ≡ Some kind → (same w v ≡ true → kind ≡ own) × (same w v ≡ false → beside w p.locals ≡ Some kind)
+WithinBut v own p q = (w : List ℕ) (kind : Kind) → beside w q.locals ≡ Some kind → (same w v ≡ true → kind ≡ own)
+    × (same w v ≡ false → beside w p.locals ≡ Some kind)
 
 -- a typed point that does this, sees the scope p, and leads to a point that sees the scope q
 abbrev pub TypedStep : Service → Scope → What → Scope → Type 0
 TypedStep service p keeps q = Within p q
 TypedStep service p (sets v e) q =
-    (own : Kind) × HasKind service p e own × WithinBut v own p q × ((kind : Kind) → beside v p.locals ≡ None → beside v (shared_kinds service) ≡ Some kind → kind ≡ own)
+    (own : Kind) × HasKind service p e own × WithinBut v own p q
+    × ((kind : Kind) → beside v p.locals ≡ None → beside v (shared_kinds service) ≡ Some kind → kind ≡ own)
 TypedStep service p (brings v) q = WithinBut v kinds.Str p q
 TypedStep service p (takes rs) q = Within p q × AllByRecursion (IsReceived service p) rs
 
@@ -77,7 +80,8 @@ pub record IsSolved (service : Service) (f : Facts Spot) (sees : Spot → Scope)
   pub gaps : (session : ℕ) → HasNoGapFault service (with_cells f c) session
 
 abbrev pub SolvedIsAccepted : Type 0
-SolvedIsAccepted = (service : Service) (f : Facts Spot) (sees : Spot → Scope) (empty c : Cells Spot) → IsSolved service f sees empty c → AcceptsAll service (with_cells f c)
+SolvedIsAccepted = (service : Service) (f : Facts Spot) (sees : Spot → Scope) (empty c : Cells Spot) → IsSolved service f sees empty c
+    → AcceptsAll service (with_cells f c)
 
 -- so every world that requests reach is covered by the least cells
 abbrev pub SolvedWorldsAreCovered : Type 0

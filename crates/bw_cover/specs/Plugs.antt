@@ -98,7 +98,8 @@ plugs service (while_loop t b rest) n around st =
 plugs service (block b rest) n around st =
     plugs service b n around st ++ on_end (exec service (block b done) n around st) (plugs service rest (n + numbered b) around)
 plugs service (for_each w e b rest) n around st =
-    value_plugs service e st (λ v. each_plugs (list_of v) w (w ∷ declared b) (λ vs. exec service b (n + 1) (around + list_weight vs)) (λ vs. plugs service b (n + 1) (around + list_weight vs)))
+    value_plugs service e st (λ v. each_plugs (list_of v) w (w ∷ declared b) (λ vs. exec service b (n + 1) (around + list_weight vs))
+    (λ vs. plugs service b (n + 1) (around + list_weight vs)))
     ++ on_end (exec service (for_each w e b done) n around st) (plugs service rest (n + 1 + numbered b) around)
 plugs service (show p rs rest) n around st =
     begin_plugs service p st (λ v st1. []) ++ on_end (exec service (show p rs done) n around st) (plugs service rest (n + 1) around)
@@ -115,7 +116,8 @@ plugs_behind service (declare kind w e rest) n around a = plugs_behind service r
 plugs_behind service (assign w e rest) n around a = plugs_behind service rest (n + 1) around a
 plugs_behind service (if_then t y rest) n around a =
     if nat_lt a.at (n + 1 + numbered y)
-    then plugs_behind service y (n + 1) around a ++ on_end (leave (declared y) (behind service y (n + 1) around a)) (plugs service rest (n + 1 + numbered y) around)
+    then plugs_behind service y (n + 1) around a ++ on_end (leave (declared y) (behind service y (n + 1) around a))
+    (plugs service rest (n + 1 + numbered y) around)
     else plugs_behind service rest (n + 1 + numbered y) around a
 plugs_behind service (if_else t y z rest) n around a =
     if nat_lt a.at (n + 1 + numbered y)
@@ -127,7 +129,8 @@ plugs_behind service (if_else t y z rest) n around a =
     else plugs_behind service rest (n + 1 + numbered y + numbered z) around a
 plugs_behind service (while_loop t b rest) n around a =
     if nat_lt a.at (n + 1 + numbered b)
-    then plugs_behind service b (n + 1) around a ++ on_end (leave (declared b) (behind service b (n + 1) around a)) (plugs service (while_loop t b rest) n around)
+    then plugs_behind service b (n + 1) around a ++ on_end (leave (declared b) (behind service b (n + 1) around a))
+    (plugs service (while_loop t b rest) n around)
     else plugs_behind service rest (n + 1 + numbered b) around a
 plugs_behind service (block b rest) n around a =
     if nat_lt a.at (n + numbered b)
@@ -138,7 +141,8 @@ plugs_behind service (for_each w e b rest) n around a =
     then rest_plugs a.rests (λ vs inner.
     plugs_behind service b (n + 1) (around + list_weight vs) (record a { rests = inner })
     ++ on_end (leave (w ∷ declared b) (add_rest vs (behind service b (n + 1) (around + list_weight vs) (record a { rests = inner }))))
-    (each_plugs vs w (w ∷ declared b) (λ more. exec service b (n + 1) (around + list_weight more)) (λ more. plugs service b (n + 1) (around + list_weight more))))
+    (each_plugs vs w (w ∷ declared b) (λ more. exec service b (n + 1) (around + list_weight more))
+    (λ more. plugs service b (n + 1) (around + list_weight more))))
     ++ on_end (with_rest a.rests (λ vs inner.
     then_do (leave (w ∷ declared b) (add_rest vs (behind service b (n + 1) (around + list_weight vs) (record a { rests = inner }))))
     (each vs w (w ∷ declared b) (λ more. exec service b (n + 1) (around + list_weight more)))))

@@ -61,7 +61,8 @@ Scoped f (declare kind w e rest) n sc = (f.scope (statement n) ≡ sc) × Scoped
 Scoped f (assign w e rest) n sc = (f.scope (statement n) ≡ sc) × Scoped f rest (n + 1) sc
 Scoped f (if_then t y rest) n sc = (f.scope (statement n) ≡ sc) × (f.scope (meeting n) ≡ sc) × Scoped f y (n + 1) sc × Scoped f rest (n + 1 + numbered y) sc
 Scoped f (if_else t y z rest) n sc =
-    (f.scope (statement n) ≡ sc) × (f.scope (meeting n) ≡ sc) × Scoped f y (n + 1) sc × Scoped f z (n + 1 + numbered y) sc × Scoped f rest (n + 1 + numbered y + numbered z) sc
+    (f.scope (statement n) ≡ sc) × (f.scope (meeting n) ≡ sc) × Scoped f y (n + 1) sc × Scoped f z (n + 1 + numbered y) sc
+    × Scoped f rest (n + 1 + numbered y + numbered z) sc
 Scoped f (while_loop t b rest) n sc = (f.scope (statement n) ≡ sc) × Scoped f b (n + 1) sc × Scoped f rest (n + 1 + numbered b) sc
 Scoped f (block b rest) n sc = Scoped f b n sc × Scoped f rest (n + numbered b) sc
 Scoped f (for_each w e b rest) n sc = (f.scope (statement n) ≡ sc) × Scoped f b (n + 1) (sc ++ w ∷ []) × Scoped f rest (n + 1 + numbered b) sc
@@ -74,7 +75,8 @@ Pages service f done n = Unit {0}
 Pages service f (declare kind w e rest) n = Pages service f rest (n + 1)
 Pages service f (assign w e rest) n = Pages service f rest (n + 1)
 Pages service f (if_then t y rest) n = Pages service f y (n + 1) × Pages service f rest (n + 1 + numbered y)
-Pages service f (if_else t y z rest) n = Pages service f y (n + 1) × Pages service f z (n + 1 + numbered y) × Pages service f rest (n + 1 + numbered y + numbered z)
+Pages service f (if_else t y z rest) n = Pages service f y (n + 1) × Pages service f z (n + 1 + numbered y)
+    × Pages service f rest (n + 1 + numbered y + numbered z)
 Pages service f (while_loop t b rest) n = Pages service f b (n + 1) × Pages service f rest (n + 1 + numbered b)
 Pages service f (block b rest) n = Pages service f b n × Pages service f rest (n + numbered b)
 Pages service f (for_each w e b rest) n = Pages service f b (n + 1) × Pages service f rest (n + 1 + numbered b)
@@ -89,7 +91,8 @@ EachPoint P done n = Unit {0}
 EachPoint P (declare kind w e rest) n = P (statement n) e × EachPoint P rest (n + 1)
 EachPoint P (assign w e rest) n = P (statement n) e × EachPoint P rest (n + 1)
 EachPoint P (if_then t y rest) n = P (statement n) t × EachPoint P y (n + 1) × EachPoint P rest (n + 1 + numbered y)
-EachPoint P (if_else t y z rest) n = P (statement n) t × EachPoint P y (n + 1) × EachPoint P z (n + 1 + numbered y) × EachPoint P rest (n + 1 + numbered y + numbered z)
+EachPoint P (if_else t y z rest) n = P (statement n) t × EachPoint P y (n + 1) × EachPoint P z (n + 1 + numbered y)
+    × EachPoint P rest (n + 1 + numbered y + numbered z)
 EachPoint P (while_loop t b rest) n = P (statement n) t × EachPoint P b (n + 1) × EachPoint P rest (n + 1 + numbered b)
 EachPoint P (block b rest) n = EachPoint P b n × EachPoint P rest (n + numbered b)
 EachPoint P (for_each w e b rest) n = P (statement n) e × EachPoint P b (n + 1) × EachPoint P rest (n + 1 + numbered b)

@@ -54,7 +54,8 @@ place_in (while_loop t b rest) n scope k =
 place_in (block b rest) n scope k = if nat_lt k (n + numbered b) then place_in b n scope k else place_in rest (n + numbered b) (behind scope b) k
 place_in (for_each w e b rest) n scope k =
     if k == n then place scope e false
-    else if nat_lt k (n + 1 + numbered b) then place_in b (n + 1) (with_local scope w kinds.Str) k else place_in rest (n + 1 + numbered b) (behind_each scope w b) k
+    else if nat_lt k (n + 1 + numbered b) then place_in b (n + 1) (with_local scope w kinds.Str) k else place_in rest (n + 1 + numbered b)
+    (behind_each scope w b) k
 place_in (show p rs rest) n scope k = if k == n then place scope p false else place_in rest (n + 1) scope k
 place_in (exit p rest) n scope k = if k == n then place scope p true else place_in rest (n + 1) scope k
 
@@ -89,7 +90,8 @@ scope_facts service c = record {
 }
 
 abbrev pub tree_facts : Service → Cells Spot → Facts Spot
-tree_facts service c = record (scope_facts service c) { shown = λ q. summary_of (known service (look service (scope_facts service c) q) (spot_place service q).term) }
+tree_facts service c =
+    record (scope_facts service c) { shown = λ q. summary_of (known service (look service (scope_facts service c) q) (spot_place service q).term) }
 
 -- A typed service that was read, with its least cells from empty cells of the right kinds, and no fault 11.
 pub record IsAnswered (service : Service) (empty c : Cells Spot) : Type 0 where

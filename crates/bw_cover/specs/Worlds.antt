@@ -94,4 +94,5 @@ WorldsAreCovered =
 -- and the messages of a stream reach no other worlds
 abbrev pub StreamsReach : Type 0
 StreamsReach =
-    (service : Service) (at to : At) (replies : List Reply) (cost : ℕ) → Turns service at replies cost to → Reached service at.world → Reached service to.world
+    (service : Service) (at to : At) (replies : List Reply) (cost : ℕ) → Turns service at replies cost to → Reached service at.world
+    → Reached service to.world
