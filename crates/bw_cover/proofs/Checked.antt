@@ -25,21 +25,14 @@ use Rattle.bw_cover.specs.Facts.{Facts, is_shared, template_known, look}
 use Rattle.bw_cover.specs.Kinds.{IsOf, LocalsAreOf, CellsAreOf, SharedAreOf, summary_of, Shows, GapsAreThere, CheckedIsAccepted, Agree, PlacesFit}
 use Rattle.bw_cover.specs.Least.{with_cells}
 use Rattle.bw_cover.specs.Spots.{Spot, statement, Scoped, Pages, EachPoint}
-use Rattle.bw_cover.proofs.Names.{or_none, among-added}
+use Rattle.bw_cover.proofs.Names.{or_none, among-added, some_is, beside-cons}
 use Rattle.bw_cover.proofs.Solved.{least_obeys}
-use Rattle.bw_cover.proofs.Typed.{typed_known, kind_of_some}
+use Rattle.bw_cover.proofs.Typed.{typed_known}
 use Rattle.bw_lang.specs.declared.stmt.Kind.TheVariants as kinds
-
-pub beside_first : {A : Type 0} (w v : List ℕ) (x : A) (l : List (List ℕ × A)) → beside w ((v, x) ∷ l) ≡ (if same w v then Some x else beside w l)
-beside_first {A} w v x l = by_test (same w v)
-  where
-    by_test : (b : Bool) → option_map (λ (y : List ℕ × A). y.1) (cond b (Some (v, x)) (find (λ y. same w y.0) l)) ≡ (if b then Some x else beside w l)
-    by_test true = refl
-    by_test false = refl
 
 pub agree_next : (scope : Scope) (sc : List (List ℕ)) (w : List ℕ) (kind : Kind) → ((v : List ℕ) → is_some (beside v scope.locals) ≡ is_among v sc)
     → (v : List ℕ) → is_some (beside v ((w, kind) ∷ scope.locals)) ≡ is_among v (sc ++ w ∷ [])
-agree_next scope sc w kind h v = ap is_some (beside_first v w kind scope.locals) ∙ by_test (same v w) (is_among v sc) (h v) ∙ sym (among-added v w sc)
+agree_next scope sc w kind h v = ap is_some (beside-cons v w kind scope.locals) ∙ by_test (same v w) (is_among v sc) (h v) ∙ sym (among-added v w sc)
   where
     by_test : (b c : Bool) → is_some (beside v scope.locals) ≡ c → is_some (if b then Some kind else beside v scope.locals) ≡ (c || b)
     by_test true true k = refl
@@ -49,7 +42,7 @@ agree_next scope sc w kind h v = ap is_some (beside_first v w kind scope.locals)
 pub shared_names : (vs : List Shared) (w : List ℕ) → is_some (beside w (map (λ (v : Shared). (v.name, v.kind)) vs)) ≡ is_among w
     (map (λ (v : Shared). v.name) vs)
 shared_names [] w = refl
-shared_names (v ∷ vs) w = ap is_some (beside_first w v.name v.kind (map (λ (x : Shared). (x.name, x.kind)) vs)) ∙ by_test (same w v.name) (shared_names vs w)
+shared_names (v ∷ vs) w = ap is_some (beside-cons w v.name v.kind (map (λ (x : Shared). (x.name, x.kind)) vs)) ∙ by_test (same w v.name) (shared_names vs w)
   where
     by_test : (b : Bool) → is_some (beside w (map (λ (x : Shared). (x.name, x.kind)) vs)) ≡ is_among w (map (λ (x : Shared). x.name) vs)
         → is_some (if b then Some v.kind else beside w (map (λ (x : Shared). (x.name, x.kind)) vs)) ≡ (b || is_among w (map (λ (x : Shared). x.name) vs))
@@ -64,7 +57,7 @@ pub template_of : (service : Service) (w : List ℕ) (kind : Kind) → template_
 template_of service w kind e = by_test (is_among w (template_names service)) refl e
   where
     by_test : (b : Bool) → is_among w (template_names service) ≡ b → (if b then Some kinds.Html else None) ≡ Some kind → IsOf kind (template_known service w)
-    by_test true t k = subst (λ x. IsOf x (template_known service w)) (kind_of_some kinds.Html kind k)
+    by_test true t k = subst (λ x. IsOf x (template_known service w)) (some_is kinds.Html kind k)
         (is_html (is_among w (template_names service)) (constant (template_items service) (is_gap service) (number (template_names service) w)) t)
     by_test false t k = cc
 

@@ -12,11 +12,9 @@ use Rattle.bw_cover.specs.Facts.{keeps, takes, look, received_by, Leads}
 use Rattle.bw_types.specs.Scopes.{is_among}
 use Rattle.bw_cover.specs.Spots.{Spot, statement}
 use Rattle.bw_cover.specs.Examples.{rows_service, rows_known, cell, rows_facts, RowsAreAccepted}
-use Rattle.bw_cover.proofs.Names.{same_is, same_self}
+use Rattle.bw_cover.proofs.Names.{same_self, some_is}
+use Rattle.bw_types.proofs.Seek.{same_is}
 use Rattle.bw_cover.proofs.Rising.{below_refl, below_nothing}
-
-some_is : (a b : Abstract) → Some a ≡ Some b → a ≡ b
-some_is a b e = cc
 
 own_is : (w : List ℕ) (b : Bool) (a : Abstract) → (if b then Some (cell w) else None) ≡ Some a → Below a (cell w)
 own_is w true a e = subst (λ x. Below x (cell w)) (some_is (cell w) a e) (below_refl (cell w))

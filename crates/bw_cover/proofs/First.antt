@@ -14,8 +14,10 @@ use Rattle.bw_cover.specs.Abstracts.{covers, Below}
 use Rattle.bw_cover.specs.Covered.{CoversShared}
 use Rattle.bw_cover.specs.Facts.{Facts, literal_known}
 use Rattle.bw_cover.proofs.Locals.{none_some}
-use Rattle.bw_cover.proofs.Names.{same_is, same_self, beside-cons}
-use Rattle.bw_cover.proofs.Values.{covers_below, template_given}
+use Rattle.bw_cover.proofs.Names.{same_self, beside-cons}
+use Rattle.bw_types.proofs.Seek.{same_is}
+use Rattle.bw_cover.proofs.Values.{covers_below}
+use Rattle.bw_cover.proofs.Lookups.{template_given}
 
 module _ {K : Type 0} (service : Service) (f : Facts K) where
   literal_covered : (l : Literal) → covers service (literal_known service l) (literal_value service l)

@@ -1,7 +1,7 @@
 -- A flow that stands for a session lays it out over its places.
 use Rattle.std.proofs.Common.{◌≡◌, ℕ, zero, suc, ◌+◌, true, List, [], ◌∷◌, ◌++◌, refl, sym, ap, subst, arith}
 use Rattle.std.specs.Prelude.{◌==◌}
-use Rattle.std.proofs.lemmas.Bool.{false≢true, eq-eqb}
+use Rattle.std.proofs.lemmas.Bool.{false≢true, eq-eqb, or_parts}
 use Rattle.bw_lang.specs.declared.service.Service.{Service}
 use Rattle.bw_lang.specs.declared.stmt.Kind.{Kind}
 use Rattle.bw_lang.specs.declared.stmt.Receive.{Receive}
@@ -23,7 +23,7 @@ use Rattle.bw_cover.specs.Least.{with_cells}
 use Rattle.bw_cover.specs.Flows.{names_of, written, Fits, LeadsToAll, ActLeads, ObeysFlow, FlowTurnIsCovered, FlowGoingOnIsCovered, edges_to}
 use Rattle.bw_cover.specs.Flows.{act_edges, flow_edges, FlowLeastObeys}
 use Rattle.bw_cover.proofs.Solved.{least_leads}
-use Rattle.bw_cover.proofs.Laying.{Distinct, distinct, distinct_append, apart_append, apart_new, apart_next, apart_declared, or_false, both_false}
+use Rattle.bw_cover.proofs.Laying.{Distinct, distinct, distinct_append, apart_append, apart_new, apart_next, apart_declared, both_false}
 use Rattle.bw_cover.proofs.Turns.{laid_turn, laid_go_on}
 use Rattle.bw_lang.specs.declared.stmt.Kind.TheVariants as kinds
 use Rattle.bw_cover.specs.Facts as facts
@@ -119,7 +119,7 @@ module _ (service : Service) (f : Facts ℕ) (flow : List Step) (h : ObeysFlow s
       let inner = local_names b ++ local_names rest in
       let ii = distinct_append (local_names b) (local_names rest) i.1 in
       let ai = apart_append (names_of sc ++ w ∷ []) (local_names b) (local_names rest) (apart_next (names_of sc) w inner a i.0) in
-      let tail = λ (v : List ℕ) (m : is_among v (names_of sc) ≡ true). or_false (same v w) (is_among v inner) (a v m) in
+      let tail = λ (v : List ℕ) (m : is_among v (names_of sc) ≡ true). or_parts (same v w) (is_among v inner) (a v m) in
       let aa = apart_append (names_of sc) (local_names b) (local_names rest) (λ v m. (tail v m).1) in (
         y,
         r,

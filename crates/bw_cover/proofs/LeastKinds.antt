@@ -19,7 +19,8 @@ use Rattle.bw_cover.specs.Kinds.{IsOf, GapsAreThere, Agree, LiteralsAreOf}
 use Rattle.bw_cover.specs.Least.{Cells, with_cells, join, join_if, added, joined_local, joined_shared, joined_literals, rounds, IsLeast}
 use Rattle.bw_cover.specs.LeastKinds.{AreKinded, TypedStep, EachTyped}
 use Rattle.bw_cover.specs.Facts.{literal_known}
-use Rattle.bw_cover.proofs.Names.{same_is}
+use Rattle.bw_cover.proofs.Names.{some_is}
+use Rattle.bw_types.proofs.Seek.{same_is}
 use Rattle.bw_cover.proofs.Checked.{shared_names, typed_at}
 use Rattle.bw_lang.specs.declared.stmt.Kind.TheVariants as kinds
 
@@ -80,9 +81,6 @@ received_of k a (inr e) h = subst (λ x. IsOf x (received_by a)) (sym e) (string
     strings Nothing h = tt
     strings (Strings S) h = absurd h
     strings (Html G) h = absurd h
-
-some_is : {A : Type 0} (a b : A) → Some a ≡ Some b → a ≡ b
-some_is a b e = cc
 
 -- the kind of a variable that is received into
 target_of : (service : Service) (p : Scope) (r : Receive) (k : Kind) → IsReceived service p r → variable_kind service p r.target ≡ Some k
@@ -155,14 +153,14 @@ module _ {K : Type 0} (is_same : K → K → Bool) (agrees : (p q : K) → is_sa
     taken_of p rs w k None a t i g e = cc
     taken_of p rs w k (Some x) a t i g e = subst (IsOf k) (some_is (receives_by rs w x) a e) (receives_of service (sees p) w k rs x t i (g x refl))
 
-    left_of : (p : K) (what : What) (q : K) (w : List ℕ) (k : Kind) (a : Abstract) → TypedStep service (sees p) what (sees q)
+    left_kinded : (p : K) (what : What) (q : K) (w : List ℕ) (k : Kind) (a : Abstract) → TypedStep service (sees p) what (sees q)
         → beside w (sees q).locals ≡ Some k → left service C p what w ≡ Some a → IsOf k a
-    left_of p keeps q w k a t i e = own_of p w a k (t w k i) e
-    left_of p (sets v x) q w k a (kind, hk, but, sh) i e =
+    left_kinded p keeps q w k a t i e = own_of p w a k (t w k i) e
+    left_kinded p (sets v x) q w k a (kind, hk, but, sh) i e =
         or_own p w (known service (look service C p) x) a k (same w v)
         (λ s. subst (λ z. IsOf z (known service (look service C p) x)) (sym ((but w k i).0 s)) (known_of p x kind hk)) (λ s. (but w k i).1 s) e
-    left_of p (brings v) q w k a but i e = or_own p w any a k (same w v) (λ s. subst (λ z. IsOf z any) (sym ((but w k i).0 s)) tt) (λ s. (but w k i).1 s) e
-    left_of p (takes rs) q w k a (sub, t) i e = taken_of p rs w k (own C p w) a t (sub w k i) (λ x j. own_of p w x k (sub w k i) j) e
+    left_kinded p (brings v) q w k a but i e = or_own p w any a k (same w v) (λ s. subst (λ z. IsOf z any) (sym ((but w k i).0 s)) tt) (λ s. (but w k i).1 s) e
+    left_kinded p (takes rs) q w k a (sub, t) i e = taken_of p rs w k (own C p w) a t (sub w k i) (λ x j. own_of p w x k (sub w k i) j) e
 
     added_if : (b : Bool) (x a : Abstract) (k : Kind) → (b ≡ true → IsOf k x) → (if b then Some x else None) ≡ Some a → IsOf k a
     added_if true x a k g e = subst (IsOf k) (some_is x a e) (g refl)
@@ -203,7 +201,7 @@ module _ {K : Type 0} (is_same : K → K → Bool) (agrees : (p q : K) → is_sa
     local_of [] q w k empty t i g = g
     local_of (e ∷ es) q w k empty t i g =
         join_if_of (is_same e.to q) (left service C e.from e.what w) (joined_local is_same service C es q w empty) k
-        (λ s a j. left_of e.from e.what e.to w k a t.0 (ap (λ z. beside w (sees z).locals) (agrees e.to q s) ∙ i) j) (local_of es q w k empty t.1 i g)
+        (λ s a j. left_kinded e.from e.what e.to w k a t.0 (ap (λ z. beside w (sees z).locals) (agrees e.to q s) ∙ i) j) (local_of es q w k empty t.1 i g)
 
     shared_of : (es : List (Edge K)) (w : List ℕ) (k : Kind) (first : Abstract) → EachTyped service sees es → beside w (shared_kinds service) ≡ Some k
         → IsOf k first → IsOf k (joined_shared service C es w first)

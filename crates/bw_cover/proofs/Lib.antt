@@ -1,6 +1,9 @@
 pub mod Names
 pub mod Values
+pub mod Lookups
 pub mod Locals
+pub mod States
+pub mod Outcomes
 pub mod Turns
 pub mod Laying
 pub mod Sound
@@ -14,5 +17,7 @@ pub mod Flows
 pub mod Examples
 pub mod LeastKinds
 pub mod TypedEdges
+pub mod SolvedLaws
 pub mod Literals
 pub mod Trees
+pub mod EdgeLaws

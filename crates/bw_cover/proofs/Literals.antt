@@ -1,4 +1,5 @@
 -- In a typed service each literal has the kind of its variable.
+use Rattle.bw_cover.proofs.Names.{some_is}
 use Rattle.std.proofs.Common.{◌≡◌, ℕ, suc, Bool, true, false, List, [], ◌∷◌, ◌++◌, map, Option, Some, refl, sym, ap, ◌∙◌, subst, arith}
 use Rattle.std.specs.Prelude.{slice_get}
 use Rattle.std.specs.List.{All, AllByRecursion}
@@ -18,9 +19,6 @@ use Rattle.bw_cover.proofs.Checked.{template_of}
 use Rattle.bw_flow.proofs.Names.{shared_is}
 use Rattle.bw_lang.specs.declared.service.Literal.TheVariants as literals
 use Rattle.bw_lang.specs.declared.stmt.Kind.TheVariants as kinds
-
-some_is : (a b : Kind) → Some a ≡ Some b → a ≡ b
-some_is a b e = cc
 
 module _ (service : Service) where
   literal_of : (l : Literal) (k : Kind) → literal_kind service l ≡ Some k → IsOf k (literal_known service l)

@@ -3,7 +3,7 @@ use Rattle.std.proofs.Common.{map, ◌≡◌, ℕ, Bool, true, false, cond, List
 use Rattle.std.specs.Prelude.{◌||◌, not, if◌then◌else◌, option_map, find, is_some}
 use Rattle.std.specs.List.{list_any}
 use Rattle.std.specs.Option.{option_or}
-use Rattle.std.proofs.lemmas.Bool.{false≢true}
+use Rattle.std.proofs.lemmas.Bool.{false≢true, cond-true, cond-false}
 use Rattle.std.proofs.lemmas.List.Folds.{list_any-append}
 use Rattle.std.proofs.lemmas.Slice.Eq.{bytes_eq-Decides}
 use Rattle.bw_lang.specs.Code.{Code, done, declare, assign, if_then, if_else, while_loop, block, for_each, show, exit}
@@ -11,12 +11,10 @@ use Rattle.bw_lang.specs.Names.{same, beside}
 use Rattle.bw_meaning.specs.Statements.{declared}
 use Rattle.bw_meaning.specs.Values.{Value, Values, replaced, without}
 use Rattle.bw_types.specs.Scopes.{is_among}
+use Rattle.bw_types.proofs.Seek.{same_is}
 use Rattle.bw_cover.specs.Facts.{Apart, after}
 
 -- ---- equal names
-
-pub same_is : (a b : List ℕ) → same a b ≡ true → a ≡ b
-same_is a b h = (bytes_eq-Decides a b).0 h
 
 pub same_self : (a : List ℕ) → same a a ≡ true
 same_self a = (bytes_eq-Decides a a).1 refl
@@ -30,22 +28,17 @@ pub same_sym : (a b : List ℕ) → same a b ≡ same b a
 same_sym a b = is_true (same a b) (same b a) (λ h. subst (λ x. same x a ≡ true) (same_is a b h) (same_self a))
     (λ h. subst (λ x. same x b ≡ true) (same_is b a h) (same_self b))
 
+pub some_is : {A : Type 0} (a b : A) → Some a ≡ Some b → a ≡ b
+some_is a b e = cc
+
 -- ---- what stands beside a name
 
-pub beside-cons : (w v : List ℕ) (x : Value) (l : Values) → beside w ((v, x) ∷ l) ≡ (if same w v then Some x else beside w l)
-beside-cons w v x l = by_test (same w v)
+pub beside-cons : {A : Type 0} (w v : List ℕ) (x : A) (l : List (List ℕ × A)) → beside w ((v, x) ∷ l) ≡ (if same w v then Some x else beside w l)
+beside-cons {A} w v x l = by_test (same w v)
   where
-    by_test : (b : Bool) → option_map (λ (y : List ℕ × Value). y.1) (cond b (Some (v, x)) (find (λ y. same w y.0) l)) ≡ (if b then Some x else beside w l)
+    by_test : (b : Bool) → option_map (λ (y : List ℕ × A). y.1) (cond b (Some (v, x)) (find (λ y. same w y.0) l)) ≡ (if b then Some x else beside w l)
     by_test true = refl
     by_test false = refl
-
-if_true : {A : Type 0} (b : Bool) (x y : A) → b ≡ true → (if b then x else y) ≡ x
-if_true true x y h = refl
-if_true false x y h = absurd (false≢true h)
-
-if_false : {A : Type 0} (b : Bool) (x y : A) → b ≡ false → (if b then x else y) ≡ y
-if_false true x y h = absurd (false≢true (sym h))
-if_false false x y h = refl
 
 -- a value that is stored
 pub beside-replaced : (w : List ℕ) (v : Value) (l : Values) (y : List ℕ)

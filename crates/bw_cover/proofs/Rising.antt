@@ -1,7 +1,7 @@
 -- What is known grows with what is known of names, and a join is above its parts.
 use Rattle.std.proofs.Common.{◌≡◌, ℕ, Bool, true, false, List, [], ◌∷◌, refl}
 use Rattle.std.specs.Prelude.{◌||◌, ◌&&◌, ◌==◌, if◌then◌else◌}
-use Rattle.std.proofs.lemmas.Bool.{false≢true}
+use Rattle.std.proofs.lemmas.Bool.{false≢true, or_left, or_right}
 use Rattle.bw_lang.specs.declared.expr.Op.{Op}
 use Rattle.bw_lang.specs.declared.expr.Op.TheVariants.{Or, And, Eq, Ne, Lt, Le, Gt, Ge, Add, Sub, Mul, Div, Rem}
 use Rattle.bw_lang.specs.declared.service.Service.{Service}
@@ -27,14 +27,6 @@ and_more false b c d h k e = absurd (false≢true e)
 if_more : (t a b c d : Bool) → (a ≡ true → c ≡ true) → (b ≡ true → d ≡ true) → (if t then a else b) ≡ true → (if t then c else d) ≡ true
 if_more true a b c d h k e = h e
 if_more false a b c d h k e = k e
-
-left_of : (a b : Bool) → a ≡ true → (a || b) ≡ true
-left_of true b h = refl
-left_of false b h = absurd (false≢true h)
-
-right_of : (a b : Bool) → b ≡ true → (a || b) ≡ true
-right_of true b h = refl
-right_of false b h = h
 
 itself : (b : Bool) → b ≡ true → b ≡ true
 itself b h = h
@@ -77,31 +69,31 @@ below_nothing (Html G) = tt
 pub join_left : (a b : Abstract) → Below a (join a b)
 join_left Nothing b = tt
 join_left (Strings S) Nothing = tt
-join_left (Strings S) (Strings T) = λ s h. left_of (S s) (T s) h
+join_left (Strings S) (Strings T) = λ s h. or_left (S s) (T s) h
 join_left (Strings S) (Html H) = tt
 join_left (Html G) Nothing = tt
 join_left (Html G) (Strings T) = tt
 join_left (Html G) (Html H) = record {
-  roots = λ n h. left_of (G.root n) (H.root n) h;
-  edges = λ n g m h. left_of (G.edge n g m) (H.edge n g m) h;
-  labels = λ n g s h. left_of (G.label n g s) (H.label n g s) h;
-  tracks = λ g n h. left_of (G.track g n) (H.track g n) h;
-  lacks = λ g h. left_of (G.lack g) (H.lack g) h;
+  roots = λ n h. or_left (G.root n) (H.root n) h;
+  edges = λ n g m h. or_left (G.edge n g m) (H.edge n g m) h;
+  labels = λ n g s h. or_left (G.label n g s) (H.label n g s) h;
+  tracks = λ g n h. or_left (G.track g n) (H.track g n) h;
+  lacks = λ g h. or_left (G.lack g) (H.lack g) h;
 }
 
 pub join_right : (a b : Abstract) → Below b (join a b)
 join_right Nothing b = below_nothing b
 join_right (Strings S) Nothing = tt
-join_right (Strings S) (Strings T) = λ s h. right_of (S s) (T s) h
+join_right (Strings S) (Strings T) = λ s h. or_right (S s) (T s) h
 join_right (Strings S) (Html H) = tt
 join_right (Html G) Nothing = tt
 join_right (Html G) (Strings T) = tt
 join_right (Html G) (Html H) = record {
-  roots = λ n h. right_of (G.root n) (H.root n) h;
-  edges = λ n g m h. right_of (G.edge n g m) (H.edge n g m) h;
-  labels = λ n g s h. right_of (G.label n g s) (H.label n g s) h;
-  tracks = λ g n h. right_of (G.track g n) (H.track g n) h;
-  lacks = λ g h. right_of (G.lack g) (H.lack g) h;
+  roots = λ n h. or_right (G.root n) (H.root n) h;
+  edges = λ n g m h. or_right (G.edge n g m) (H.edge n g m) h;
+  labels = λ n g s h. or_right (G.label n g s) (H.label n g s) h;
+  tracks = λ g n h. or_right (G.track g n) (H.track g n) h;
+  lacks = λ g h. or_right (G.lack g) (H.lack g) h;
 }
 
 -- ---- plugs

@@ -20,7 +20,7 @@ use Rattle.bw_cover.specs.LeastKinds.{Sees, IsSolved}
 use Rattle.bw_cover.specs.Spots.{Spot, statement, Scoped}
 use Rattle.bw_cover.specs.Trees.{Place, place, behind_each, place_in, place_of, tree_sees, in_order, tree_facts, AnsweredIsAccepted, AnsweredWorldsAreCovered}
 use Rattle.bw_cover.proofs.Checked.{agree_next}
-use Rattle.bw_cover.proofs.TypedEdges.{solved_is_accepted}
+use Rattle.bw_cover.proofs.SolvedLaws.{solved_is_accepted}
 use Rattle.bw_cover.proofs.Worlds.{worlds_are_covered}
 use Rattle.bw_lang.specs.declared.stmt.Kind.TheVariants as kinds
 

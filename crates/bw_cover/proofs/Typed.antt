@@ -3,7 +3,7 @@ use Rattle.std.proofs.Common.{◌≡◌, ◌⊎◌, inl, inr, ℕ, zero, suc, �
 use Rattle.std.proofs.Common.{ap, ◌∙◌, subst, arith}
 use Rattle.std.specs.Prelude.{◌||◌, ◌==◌, find, option_map, slice_get, unwrap_or}
 use Rattle.std.specs.List.{list_any, AllByRecursion, AllPairs}
-use Rattle.std.proofs.lemmas.Bool.{false≢true, eqb-true, eq-eqb, lt-ltb, ltb-true}
+use Rattle.std.proofs.lemmas.Bool.{false≢true, eqb-true, eq-eqb, lt-ltb, ltb-true, or_parts}
 use Rattle.std.proofs.lemmas.List.Folds.{list_any-append, list_any_none}
 use Rattle.bw_lang.specs.declared.expr.Fun.{Fun}
 use Rattle.bw_lang.specs.declared.expr.Op.{Op}
@@ -59,10 +59,6 @@ tree_holes g (element tag attrs i d) =
     ∙ ap (λ b. holes g attrs || b) (list_any-append (is_attribute g) (gap_uses i) (gap_uses d) ∙ ap (λ b. b || attribute_in g (gap_uses d)) (tree_holes g i)
     ∙ ap (λ b. has_hole g i || b) (tree_holes g d))
 
-none_of : (a b : Bool) → (a || b) ≡ false → (a ≡ false) × (b ≡ false)
-none_of true b h = absurd (false≢true (sym h))
-none_of false b h = (refl, h)
-
 not_true : (b : Bool) → (b ≡ true → ⊥) → b ≡ false
 not_true true h = absurd (h refl)
 not_true false h = refl
@@ -77,11 +73,11 @@ no_hole gaps g [] (suc zero) lt h = refl
 no_hole gaps g [] (suc (suc n)) lt h = refl
 no_hole gaps g (t ∷ ts) zero lt h =
     sym (tree_holes g t.items)
-    ∙ (none_of (attribute_in g (gap_uses t.items)) (attribute_in g (template_uses ts))
+    ∙ (or_parts (attribute_in g (gap_uses t.items)) (attribute_in g (template_uses ts))
     (sym (list_any-append (is_attribute g) (gap_uses t.items) (template_uses ts)) ∙ h)).0
 no_hole gaps g (t ∷ ts) (suc n) lt h =
     no_hole gaps g ts n lt
-    (none_of (attribute_in g (gap_uses t.items)) (attribute_in g (template_uses ts))
+    (or_parts (attribute_in g (gap_uses t.items)) (attribute_in g (template_uses ts))
     (sym (list_any-append (is_attribute g) (gap_uses t.items) (template_uses ts)) ∙ h)).1
 
 attribute_is : (g : ℕ) (x : ℕ × GapKind) → is_attribute g x ≡ true → (x.0 ≡ g) × (x.1 ≡ Attribute)
@@ -113,9 +109,6 @@ all_content (x ∷ xs) g h e = by_test (x.0 == g) refl e (all_content xs g (λ i
         eq_test m n i = eq-eqb m n i
 
 -- ---- kinds
-
-pub kind_of_some : (a b : Kind) → Some a ≡ Some b → a ≡ b
-kind_of_some a b e = cc
 
 module _ (service : Service) (one : AllPairs (λ x y. x.0 ≡ y.0 → x.1 ≡ y.1) (template_uses service.templates)) (there : GapsAreThere service) (scope : Scope)
     (at : List ℕ → Abstract)

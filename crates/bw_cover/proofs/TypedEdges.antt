@@ -3,7 +3,7 @@ use Rattle.std.proofs.Common.{◌≡◌, ℕ, suc, ◌+◌, Bool, true, false, L
 use Rattle.std.specs.Prelude.{◌≢◌, ◌||◌, if◌then◌else◌, is_some, sum_by, slice_get, unwrap_or}
 use Rattle.std.specs.List.{All, AllByRecursion, AllPairs, Contains}
 use Rattle.std.specs.Option.{option_or}
-use Rattle.std.proofs.lemmas.Bool.{false≢true, eqb-true}
+use Rattle.std.proofs.lemmas.Bool.{false≢true, eqb-true, or_parts}
 use Rattle.std.proofs.lemmas.List.Folds.{list_any-append}
 use Rattle.std.proofs.lemmas.List.Sums.{sum_by-cons}
 use Rattle.std.proofs.lemmas.List.Elements.{All-weaker, All-nil}
@@ -30,14 +30,15 @@ use Rattle.bw_types.proofs.Sorted.{sessions_none}
 use Rattle.bw_types.proofs.WellTyped.{typed}
 use Rattle.bw_typed.proofs.Named.{gaps_have_numbers}
 use Rattle.bw_flow.proofs.Names.{matches_nothing, new_at}
-use Rattle.bw_cover.specs.Facts.{What, keeps, sets, brings, takes, Facts, Edge}
+use Rattle.bw_cover.specs.Facts.{What, keeps, sets, brings, takes, Facts, Edge, edge}
 use Rattle.bw_cover.specs.Kinds.{LocalsAreOf, CellsAreOf, GapsAreThere, IsChecked}
 use Rattle.bw_cover.specs.Least.{with_cells, same_spot, service_edges}
 use Rattle.bw_cover.specs.LeastKinds.{Sees, TypedStep, EachTyped, SolvedIsAccepted, SolvedWorldsAreCovered}
 use Rattle.bw_cover.specs.Spots.{Spot, statement, meeting, out, starts, edges}
-use Rattle.bw_cover.proofs.Names.{same_is}
-use Rattle.bw_cover.proofs.Laying.{Distinct, distinct, distinct_append, or_false, declared_local}
-use Rattle.bw_cover.proofs.Checked.{beside_first, at_body, bodies_typed, checked_is_accepted}
+use Rattle.bw_cover.proofs.Names.{some_is, beside-cons}
+use Rattle.bw_types.proofs.Seek.{same_is}
+use Rattle.bw_cover.proofs.Laying.{Distinct, distinct, distinct_append, declared_local}
+use Rattle.bw_cover.proofs.Checked.{at_body, bodies_typed, checked_is_accepted}
 use Rattle.bw_cover.proofs.LeastKinds.{least_kinded}
 use Rattle.bw_cover.proofs.Literals.{typed_literals}
 use Rattle.bw_cover.proofs.Worlds.{worlds_are_covered}
@@ -67,8 +68,8 @@ pick false x k o e h = h
 still : (c : Code) (l : Locals) (w : List ℕ) (k : Kind) → is_among w (declared c) ≡ false → beside w l ≡ Some k → beside w (locals_after c l) ≡ Some k
 still done l w k n h = h
 still (declare kind v e rest) l w k n h =
-    let r = or_false (same w v) (is_among w (declared rest)) n in
-    still rest ((v, kind) ∷ l) w k r.1 (beside_first w v kind l ∙ pick (same w v) kind k (beside w l) r.0 h)
+    let r = or_parts (same w v) (is_among w (declared rest)) n in
+    still rest ((v, kind) ∷ l) w k r.1 (beside-cons w v kind l ∙ pick (same w v) kind k (beside w l) r.0 h)
 still (assign v e rest) l w k n h = still rest l w k n h
 still (if_then t y rest) l w k n h = still rest l w k n h
 still (if_else t y z rest) l w k n h = still rest l w k n h
@@ -84,17 +85,14 @@ Fresh l names = (w : List ℕ) (k : Kind) → beside w l ≡ Some k → is_among
 
 fresh_append : (l : Locals) (xs ys : List (List ℕ)) → Fresh l (xs ++ ys) → Fresh l xs × Fresh l ys
 fresh_append l xs ys h =
-    let both = λ (w : List ℕ) (k : Kind) (i : beside w l ≡ Some k). or_false (is_among w xs) (is_among w ys)
+    let both = λ (w : List ℕ) (k : Kind) (i : beside w l ≡ Some k). or_parts (is_among w xs) (is_among w ys)
     (sym (list_any-append (same w) xs ys) ∙ h w k i) in
     (λ w k i. (both w k i).0, λ w k i. (both w k i).1)
-
-some_is : (a b : Kind) → Some a ≡ Some b → a ≡ b
-some_is a b e = cc
 
 -- of what is found in front of the others or among them
 first_or : (v w : List ℕ) (kind k : Kind) (l : Locals) → beside v ((w, kind) ∷ l) ≡ Some k → (same v w ≡ true → k ≡ kind)
     × (same v w ≡ false → beside v l ≡ Some k)
-first_or v w kind k l h = by_test (same v w) (sym (beside_first v w kind l) ∙ h)
+first_or v w kind k l h = by_test (same v w) (sym (beside-cons v w kind l) ∙ h)
   where
     by_test : (s : Bool) → (if s then Some kind else beside v l) ≡ Some k → (s ≡ true → k ≡ kind) × (s ≡ false → beside v l ≡ Some k)
     by_test true e = (λ t. sym (some_is kind k e), λ t. absurd (false≢true (sym t)))
@@ -105,7 +103,7 @@ fresh_next l w kind names d h v k i = by_test (same v w) refl (first_or v w kind
   where
     by_test : (s : Bool) → same v w ≡ s → (same v w ≡ true → k ≡ kind) × (same v w ≡ false → beside v l ≡ Some k) → is_among v names ≡ false
     by_test true t r = ap (λ z. is_among z names) (same_is v w t) ∙ d
-    by_test false t r = (or_false (same v w) (is_among v names) (h v k (r.1 t))).1
+    by_test false t r = (or_parts (same v w) (is_among v names) (h v k (r.1 t))).1
 
 module _ (service : Service) (woven : IsWoven service) (sees : Spot → Scope) where
   -- the locals that q sees are among these, with the same kinds
@@ -155,7 +153,7 @@ module _ (service : Service) (woven : IsWoven service) (sees : Spot → Scope) w
   received scope [] h = tt
   received scope (r ∷ rs) h = (h 0 r (omega arith), received scope rs (λ i d lt. h (suc i) d (omega arith)))
 
-  typed_edges : (c : Code) (n : ℕ) (scope : Scope) (q : Spot) → Distinct (local_names c) → Fresh scope.locals (local_names c) → IsTypedCode service scope c
+  pub typed_edges : (c : Code) (n : ℕ) (scope : Scope) (q : Spot) → Distinct (local_names c) → Fresh scope.locals (local_names c) → IsTypedCode service scope c
       → Sees sees c n scope → Behind q (locals_after c scope.locals)
       → EachTyped service sees (edges c n q)
   typed_edges done n scope q d f t s h = tt
@@ -190,11 +188,11 @@ module _ (service : Service) (woven : IsWoven service) (sees : Spot → Scope) w
         from (statement n) (starts y (n + 1) (meeting n)) scope keeps s.0 (start_behind y (n + 1) scope (meeting n) s.2 ff.0 inner),
         (
           from (statement n) (meeting n) scope keeps s.0 join,
-          (
-            from (meeting n) (starts rest m q) scope keeps s.1 (start_behind rest m (behind scope y) q s.3 ff.1 h),
-            typed_append (edges y (n + 1) (meeting n)) (edges rest m q) (typed_edges y (n + 1) scope (meeting n) dd.0 ff.0 t.1 s.2 inner)
-                (typed_edges rest m (behind scope y) q dd.1 ff.1 t.2 s.3 h),
-          ),
+          typed_append (edges y (n + 1) (meeting n)) (edge (meeting n) keeps (starts rest m q) ∷ edges rest m q)
+              (typed_edges y (n + 1) scope (meeting n) dd.0 ff.0 t.1 s.2 inner) (
+                from (meeting n) (starts rest m q) scope keeps s.1 (start_behind rest m (behind scope y) q s.3 ff.1 h),
+                typed_edges rest m (behind scope y) q dd.1 ff.1 t.2 s.3 h,
+              ),
         ),
       )
   typed_edges (if_else x y z rest) n scope q d f t s h =
@@ -210,13 +208,13 @@ module _ (service : Service) (woven : IsWoven service) (sees : Spot → Scope) w
         from (statement n) (starts y (n + 1) (meeting n)) scope keeps s.0 (start_behind y (n + 1) scope (meeting n) s.2 ff.0 iy),
         (
           from (statement n) (starts z j (meeting n)) scope keeps s.0 (start_behind z j (behind scope y) (meeting n) s.3 fe.0 iz),
-          (
-            from (meeting n) (starts rest m q) scope keeps s.1 (start_behind rest m (behind (behind scope y) z) q s.4 fe.1 h),
-            typed_append (edges y (n + 1) (meeting n)) (edges z j (meeting n) ++ edges rest m q)
-                (typed_edges y (n + 1) scope (meeting n) dd.0 ff.0 t.1 s.2 iy)
-                (typed_append (edges z j (meeting n)) (edges rest m q) (typed_edges z j (behind scope y) (meeting n) de.0 fe.0 t.2 s.3 iz)
-                (typed_edges rest m (behind (behind scope y) z) q de.1 fe.1 t.3 s.4 h)),
-          ),
+          typed_append (edges y (n + 1) (meeting n)) (edges z j (meeting n) ++ edge (meeting n) keeps (starts rest m q) ∷ edges rest m q)
+              (typed_edges y (n + 1) scope (meeting n) dd.0 ff.0 t.1 s.2 iy)
+              (typed_append (edges z j (meeting n)) (edge (meeting n) keeps (starts rest m q) ∷ edges rest m q)
+              (typed_edges z j (behind scope y) (meeting n) de.0 fe.0 t.2 s.3 iz) (
+                from (meeting n) (starts rest m q) scope keeps s.1 (start_behind rest m (behind (behind scope y) z) q s.4 fe.1 h),
+                typed_edges rest m (behind (behind scope y) z) q de.1 fe.1 t.3 s.4 h,
+              )),
         ),
       )
   typed_edges (while_loop x b rest) n scope q d f t s h =
@@ -247,11 +245,11 @@ module _ (service : Service) (woven : IsWoven service) (sees : Spot → Scope) w
       let fn = fresh_next scope.locals w kinds.Str (local_names b ++ local_names rest) d.0 f in
       let fb = (fresh_append ((w, kinds.Str) ∷ scope.locals) (local_names b) (local_names rest) fn).0 in
       let fr = (fresh_append scope.locals (local_names b) (local_names rest)
-      (λ v k i. (or_false (same v w) (is_among v (local_names b ++ local_names rest)) (f v k i)).1)).1 in
+      (λ v k i. (or_parts (same v w) (is_among v (local_names b ++ local_names rest)) (f v k i)).1)).1 in
       let head = λ (v : List ℕ) (k : Kind) (i : beside v (sees (statement n)).locals ≡ Some k).
       let j = at_point (statement n) scope s.0 v k i in
-      beside_first v w kinds.Str scope.locals
-      ∙ pick (same v w) kinds.Str k (beside v scope.locals) (or_false (same v w) (is_among v (local_names b ++ local_names rest)) (f v k j)).0 j in
+      beside-cons v w kinds.Str scope.locals
+      ∙ pick (same v w) kinds.Str k (beside v scope.locals) (or_parts (same v w) (is_among v (local_names b ++ local_names rest)) (f v k j)).0 j in
       let inner = behind_still (statement n) b ((w, kinds.Str) ∷ scope.locals) fb head in
       let body = start_behind b (n + 1) (with_local scope w kinds.Str) (statement n) s.1 fb inner in (
         from (statement n) (starts b (n + 1) (statement n)) scope (brings w) s.0 (λ v k i. first_or v w kinds.Str k scope.locals (body v k i)),
@@ -267,7 +265,7 @@ module _ (service : Service) (woven : IsWoven service) (sees : Spot → Scope) w
   typed_edges (exit e rest) n scope q d f t s h = typed_edges rest (n + 1) scope q d f t.1 s.1 h
 
   -- the edges of all sessions
-  all_edges : (ss : List Session) (n : ℕ)
+  pub all_edges : (ss : List Session) (n : ℕ)
       → ((k : ℕ) → EachTyped service sees
       (edges (unwrap_or (slice_get (map (λ (s : Session). s.body) ss) k) done) (n + sum_by (λ (s : Session). numbered s.body) (take k ss)) out))
       → EachTyped service sees (service_edges ss n)
@@ -280,93 +278,3 @@ module _ (service : Service) (woven : IsWoven service) (sees : Spot → Scope) w
       let i : n + sum_by (λ (x : Session). numbered x.body) (s ∷ take k ss) ≡ n + numbered s.body + sum_by (λ (x : Session). numbered x.body) (take k ss) =
       omega (arith, c) in
       subst (λ m. EachTyped service sees (edges (unwrap_or (slice_get (map (λ (x : Session). x.body) ss) k) done) m out)) i (h (suc k))))
-
-  -- ---- the cells that statements see
-
-  cells_of : (f : Facts Spot) → ((q : Spot) → LocalsAreOf f q (sees q)) → (c : Code) (n : ℕ) (scope : Scope) → Sees sees c n scope → CellsAreOf f c n scope
-  cells_of f h done n scope s = tt
-  cells_of f h (declare kind w e rest) n scope s =
-      (subst (LocalsAreOf f (statement n)) s.0 (h (statement n)), cells_of f h rest (n + 1) (with_local scope w kind) s.1)
-  cells_of f h (assign w e rest) n scope s = (subst (LocalsAreOf f (statement n)) s.0 (h (statement n)), cells_of f h rest (n + 1) scope s.1)
-  cells_of f h (if_then t y rest) n scope s = (
-    subst (LocalsAreOf f (statement n)) s.0 (h (statement n)),
-    cells_of f h y (n + 1) scope s.2,
-    cells_of f h rest (n + 1 + numbered y)
-        (behind scope y) s.3,
-  )
-  cells_of f h (if_else t y z rest) n scope s = (
-    subst (LocalsAreOf f (statement n)) s.0 (h (statement n)),
-    cells_of f h y (n + 1) scope s.2,
-    cells_of f h z (n + 1 + numbered y) (behind scope y) s.3,
-    cells_of f h rest (n + 1 + numbered y + numbered z) (behind (behind scope y) z) s.4,
-  )
-  cells_of f h (while_loop t b rest) n scope s = (
-    subst (LocalsAreOf f (statement n)) s.0 (h (statement n)),
-    cells_of f h b (n + 1) scope s.1,
-    cells_of f h rest (n + 1 + numbered b)
-        (behind scope b) s.2,
-  )
-  cells_of f h (block b rest) n scope s = (cells_of f h b n scope s.0, cells_of f h rest (n + numbered b) (behind scope b) s.1)
-  cells_of f h (for_each w e b rest) n scope s = (
-    subst (LocalsAreOf f (statement n)) s.0 (h (statement n)),
-    cells_of f h b (n + 1) (with_local scope w kinds.Str) s.1,
-    cells_of f h rest (n + 1 + numbered b) (record { locals = scope.locals; taken = scope.taken ++ w ∷ local_names b }) s.2,
-  )
-  cells_of f h (show p rs rest) n scope s = (subst (LocalsAreOf f (statement n)) s.0 (h (statement n)), cells_of f h rest (n + 1) scope s.1)
-  cells_of f h (exit p rest) n scope s = (subst (LocalsAreOf f (statement n)) s.0 (h (statement n)), cells_of f h rest (n + 1) scope s.1)
-
-spots_agree : (p q : Spot) → same_spot p q ≡ true → p ≡ q
-spots_agree (statement m) (statement n) h = ap statement (eqb-true m n h)
-spots_agree (statement m) (meeting n) h = absurd (false≢true h)
-spots_agree (statement m) out h = absurd (false≢true h)
-spots_agree (meeting m) (statement n) h = absurd (false≢true h)
-spots_agree (meeting m) (meeting n) h = ap meeting (eqb-true m n h)
-spots_agree (meeting m) out h = absurd (false≢true h)
-spots_agree out (statement n) h = absurd (false≢true h)
-spots_agree out (meeting n) h = absurd (false≢true h)
-spots_agree out out h = refl
-
--- what reading and typing give
-pub gaps_are_there : (service : Service) → ∥ IsReadable service ∥₁ → GapsAreThere service
-gaps_are_there service h w kind e = (gaps_have_numbers service h w kind e).inside
-
-pub locals_differ : (service : Service) → ∥ IsReadable service ∥₁ → IsWellTyped service
-    → All (λ (s : Session). AllPairs (λ v w. v ≢ w) (local_names s.body)) service.sessions
-locals_differ service r h =
-    All-weaker (Walked service) (λ (s : Session). AllPairs (λ v w. v ≢ w) (local_names s.body))
-    (λ x f. (locals_own service no_locals x.body f.body
-    (record { differ = none_differ; apart = All-nil (λ w. ¬ (Contains (declared_names service) w)) })).differ)
-    service.sessions (sessions_none service (readable_is_woven service r) h)
-
-pub solved_is_accepted : SolvedIsAccepted
-solved_is_accepted service f sees empty c h =
-    let woven = readable_is_woven service h.readable in
-    let typed_service = typed service woven h.typed in
-    let there = gaps_are_there service h.readable in
-    let locals = locals_differ service h.readable h.typed in
-    let differ = λ (k : ℕ). at_body (λ x. AllPairs (λ v w. v ≢ w) (local_names x)) (λ i j d lt l. absurd (omega arith)) service.sessions locals k in
-    let edges_typed = all_edges service woven sees service.sessions 1 (λ k.
-    typed_edges service woven sees (body_of service k) (first_number service k) no_locals out (distinct (local_names (body_of service k)) (differ k))
-    (λ w k i. absurd (cc))
-    (at_body (λ x. IsTypedCode service no_locals x) tt service.sessions (bodies_typed service typed_service) k) (h.sees_code k)
-    (λ w kind i. absurd (nothing_there w kind (subst (λ l. beside w l ≡ Some kind) h.sees_nothing i)))) in
-    let kinded = least_kinded same_spot spots_agree service typed_service.gaps there f sees h.agree (service_edges service.sessions 1) edges_typed
-    (typed_literals service woven typed_service) empty h.empties c h.least in
-    let all : IsChecked service f empty c = record {
-      typed = typed_service;
-      differ = locals;
-      there = there;
-      scoped = h.scoped;
-      shows = h.shows;
-      cells = λ k. cells_of service woven sees (with_cells f c) kinded.locals (body_of service k) (first_number service k) no_locals (h.sees_code k);
-      shared = kinded.shared;
-      least = h.least;
-      gaps = h.gaps;
-    } in
-    checked_is_accepted service f empty c all
-  where
-    nothing_there : (w : List ℕ) (kind : Kind) → None ≡ Some kind → ⊥
-    nothing_there w kind e = cc
-
-pub solved_worlds_are_covered : SolvedWorldsAreCovered
-solved_worlds_are_covered service f sees empty c w h r = worlds_are_covered service (with_cells f c) w (solved_is_accepted service f sees empty c h) r

@@ -11,3 +11,4 @@ pub mod LeastKinds
 pub mod Flows
 pub mod Examples
 pub mod Trees
+pub mod EdgeLaws

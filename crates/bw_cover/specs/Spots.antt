@@ -38,12 +38,11 @@ edges (declare kind w e rest) n q = edge (statement n) (sets w e) (starts rest (
 edges (assign w e rest) n q = edge (statement n) (sets w e) (starts rest (n + 1) q) ∷ edges rest (n + 1) q
 edges (if_then t y rest) n q =
     edge (statement n) keeps (starts y (n + 1) (meeting n)) ∷ edge (statement n) keeps (meeting n)
-    ∷ edge (meeting n) keeps (starts rest (n + 1 + numbered y) q)
-    ∷ (edges y (n + 1) (meeting n) ++ edges rest (n + 1 + numbered y) q)
+    ∷ (edges y (n + 1) (meeting n) ++ edge (meeting n) keeps (starts rest (n + 1 + numbered y) q) ∷ edges rest (n + 1 + numbered y) q)
 edges (if_else t y z rest) n q =
     edge (statement n) keeps (starts y (n + 1) (meeting n)) ∷ edge (statement n) keeps (starts z (n + 1 + numbered y) (meeting n))
-    ∷ edge (meeting n) keeps (starts rest (n + 1 + numbered y + numbered z) q)
-    ∷ (edges y (n + 1) (meeting n) ++ (edges z (n + 1 + numbered y) (meeting n) ++ edges rest (n + 1 + numbered y + numbered z) q))
+    ∷ (edges y (n + 1) (meeting n) ++ (edges z (n + 1 + numbered y) (meeting n)
+    ++ edge (meeting n) keeps (starts rest (n + 1 + numbered y + numbered z) q) ∷ edges rest (n + 1 + numbered y + numbered z) q))
 edges (while_loop t b rest) n q =
     edge (statement n) keeps (starts b (n + 1) (statement n)) ∷ edge (statement n) keeps (starts rest (n + 1 + numbered b) q)
     ∷ (edges b (n + 1) (statement n) ++ edges rest (n + 1 + numbered b) q)

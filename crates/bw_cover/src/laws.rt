@@ -2,6 +2,7 @@
 
 ghost use Rattle.bw_cover.specs.Sound.{TurnIsCovered, GoingOnIsCovered, TurnPlugsAreOpen, GoingOnPlugsAreOpen};
 ghost use Rattle.bw_cover.specs.Worlds.{EmptyIsCovered, StepsKeepCovering, NextIsCovered, WorldsAreCovered, StreamsReach};
+ghost use Rattle.bw_cover.specs.EdgeLaws.{EdgesAreLeads, EdgesAreNexts};
 ghost use Rattle.bw_cover.specs.Least.{LeastObeys};
 ghost use Rattle.bw_cover.specs.Kinds.{CheckedIsAccepted, PlacesFit, TypedLiterals};
 ghost use Rattle.bw_cover.specs.LeastKinds.{SolvedIsAccepted, SolvedWorldsAreCovered};
@@ -30,6 +31,13 @@ pub fn worlds_are_covered()
     ensures next { NextIsCovered }
     ensures reached { WorldsAreCovered }
     ensures streams { StreamsReach }
+{}
+
+/// The edges over which the analysis goes are read from the statements. They lead from each point to those that the flow
+/// says, and nowhere else.
+pub fn edges_are_leads()
+    ensures tree { EdgesAreLeads }
+    ensures flow { EdgesAreNexts }
 {}
 
 /// The union of all rounds from empty cells obeys where each point leads, and the literals of the shared variables.
