@@ -1,0 +1,218 @@
+-- Typed expressions have what is known by their kinds, and their plugs fill what they may fill.
+use Rattle.std.proofs.Common.{◌≡◌, ◌⊎◌, inl, inr, ℕ, zero, suc, ◌+◌, ◌<◌, Bool, true, false, cond, List, [], ◌∷◌, ◌++◌, length, map, Some, refl, sym}
+use Rattle.std.proofs.Common.{ap, ◌∙◌, subst, arith}
+use Rattle.std.specs.Prelude.{◌||◌, ◌==◌, find, option_map, slice_get, unwrap_or}
+use Rattle.std.specs.List.{list_any, AllByRecursion, AllPairs}
+use Rattle.std.proofs.lemmas.Bool.{false≢true, eqb-true, eq-eqb, lt-ltb, ltb-true, or_parts}
+use Rattle.std.proofs.lemmas.List.Folds.{list_any-append, list_any_none}
+use Rattle.bw_lang.specs.declared.expr.Fun.{Fun}
+use Rattle.bw_lang.specs.declared.expr.Op.{Op}
+use Rattle.bw_lang.specs.declared.expr.Op.TheVariants.{Or, And, Eq, Ne, Lt, Le, Gt, Ge, Add, Sub, Mul, Div, Rem}
+use Rattle.bw_lang.specs.declared.items.Attr.{Attr}
+use Rattle.bw_lang.specs.declared.items.AttrValue.{AttrValue}
+use Rattle.bw_lang.specs.declared.items.AttrValue.TheVariants.{Fixed, Hole}
+use Rattle.bw_lang.specs.declared.service.Service.{Service}
+use Rattle.bw_lang.specs.declared.service.Template.{Template}
+use Rattle.bw_lang.specs.declared.stmt.Kind.{Kind}
+use Rattle.bw_lang.specs.Documents.{is_hole}
+use Rattle.bw_lang.specs.Forest.{Forest, none, text, gap, element}
+use Rattle.bw_lang.specs.Wrappers.{show_wrapper, exit_wrapper}
+use Rattle.bw_lang.specs.Names.{same, number}
+use Rattle.bw_lang.specs.Term.{Term, int, truth, string, name, paren, not as negated, neg, binary, call, plug, nothing, Fillings, no_more, filling}
+use Rattle.bw_types.specs.declared.fault.GapKind.{GapKind}
+use Rattle.bw_types.specs.declared.fault.GapKind.TheVariants.{Content, Attribute}
+use Rattle.bw_types.specs.ExpressionFaults.{op_sort, fun_takes, fun_gives}
+use Rattle.bw_types.specs.Gaps.{value_use, attr_uses, gap_uses, template_uses, gap_kind, kind_of_gap}
+use Rattle.bw_types.specs.Scopes.{Scope, name_kind}
+use Rattle.bw_types.specs.Typing.{Takes, Fits, HasKind, AreTyped}
+use Rattle.bw_sum.specs.Opening.{holes, has_hole}
+use Rattle.bw_cover.specs.Abstracts.{Abstract, Nothing, Strings, Html, is_gap, plugged_by, summed_by, combined_by, called_by, known, known_filled}
+use Rattle.bw_cover.specs.Abstracts.{EachPair, EachFilling, IsPlug}
+use Rattle.bw_cover.specs.Kinds.{IsOf, GapsAreThere}
+use Rattle.bw_lang.specs.declared.expr.Fun.TheVariants as funs
+use Rattle.bw_lang.specs.declared.stmt.Kind.TheVariants as kinds
+
+-- ---- gaps
+
+abbrev is_attribute : ℕ → ℕ × GapKind → Bool
+is_attribute g (h, Content) = false
+is_attribute g (h, Attribute) = h == g
+
+abbrev attribute_in : ℕ → List (ℕ × GapKind) → Bool
+attribute_in g uses = list_any (is_attribute g) uses
+
+value_holes : (g : ℕ) (v : AttrValue) (rest : List (ℕ × GapKind)) → attribute_in g (value_use v ++ rest) ≡ (is_hole g v || attribute_in g rest)
+value_holes g (Fixed s) rest = refl
+value_holes g (Hole h) rest = refl
+
+attr_holes : (g : ℕ) (attrs : List Attr) → attribute_in g (attr_uses attrs) ≡ holes g attrs
+attr_holes g [] = refl
+attr_holes g (a ∷ attrs) = value_holes g a.value (attr_uses attrs) ∙ ap (λ b. is_hole g a.value || b) (attr_holes g attrs)
+
+tree_holes : (g : ℕ) (d : Forest) → attribute_in g (gap_uses d) ≡ has_hole g d
+tree_holes g none = refl
+tree_holes g (text s d) = tree_holes g d
+tree_holes g (gap h d) = tree_holes g d
+tree_holes g (element tag attrs i d) =
+    list_any-append (is_attribute g) (attr_uses attrs) (gap_uses i ++ gap_uses d)
+    ∙ ap (λ b. b || attribute_in g (gap_uses i ++ gap_uses d)) (attr_holes g attrs)
+    ∙ ap (λ b. holes g attrs || b) (list_any-append (is_attribute g) (gap_uses i) (gap_uses d) ∙ ap (λ b. b || attribute_in g (gap_uses d)) (tree_holes g i)
+    ∙ ap (λ b. has_hole g i || b) (tree_holes g d))
+
+not_true : (b : Bool) → (b ≡ true → ⊥) → b ≡ false
+not_true true h = absurd (h refl)
+not_true false h = refl
+
+-- a gap that no template has for an attribute, and none of the wrappers
+no_hole : (gaps g : ℕ) (ts : List Template) (n : ℕ) → g < gaps → attribute_in g (template_uses ts) ≡ false
+    → has_hole g (unwrap_or (slice_get (map (λ (t : Template). t.items) ts ++ show_wrapper gaps ∷ exit_wrapper gaps ∷ []) n) none) ≡ false
+no_hole gaps g [] zero lt h =
+    let apart : (gaps + 1 == g) ≡ false = not_true (gaps + 1 == g) (λ e. let i = eqb-true (gaps + 1) g e in absurd (omega arith)) in
+    ap (λ b. (((b || false) || false) || false) || false) apart
+no_hole gaps g [] (suc zero) lt h = refl
+no_hole gaps g [] (suc (suc n)) lt h = refl
+no_hole gaps g (t ∷ ts) zero lt h =
+    sym (tree_holes g t.items)
+    ∙ (or_parts (attribute_in g (gap_uses t.items)) (attribute_in g (template_uses ts))
+    (sym (list_any-append (is_attribute g) (gap_uses t.items) (template_uses ts)) ∙ h)).0
+no_hole gaps g (t ∷ ts) (suc n) lt h =
+    no_hole gaps g ts n lt
+    (or_parts (attribute_in g (gap_uses t.items)) (attribute_in g (template_uses ts))
+    (sym (list_any-append (is_attribute g) (gap_uses t.items) (template_uses ts)) ∙ h)).1
+
+attribute_is : (g : ℕ) (x : ℕ × GapKind) → is_attribute g x ≡ true → (x.0 ≡ g) × (x.1 ≡ Attribute)
+attribute_is g (h, Content) e = absurd (false≢true e)
+attribute_is g (h, Attribute) e = (eqb-true h g e, refl)
+
+content_is_none : Content ≡ Attribute → ⊥
+content_is_none e = cc
+
+-- a gap whose first place is one for content has no other
+all_content : (uses : List (ℕ × GapKind)) (g : ℕ) → AllPairs (λ x y. x.0 ≡ y.0 → x.1 ≡ y.1) uses → gap_kind uses g ≡ Some Content
+    → attribute_in g uses ≡ false
+all_content [] g h e = refl
+all_content (x ∷ xs) g h e = by_test (x.0 == g) refl e (all_content xs g (λ i j d lt l. h (suc i) (suc j) d (omega arith) (omega arith)))
+  where
+    by_test : (b : Bool) → (x.0 == g) ≡ b → option_map (λ (y : ℕ × GapKind). y.1) (cond b (Some x) (find (λ y. y.0 == g) xs)) ≡ Some Content
+        → (gap_kind xs g ≡ Some Content → attribute_in g xs ≡ false)
+        → (is_attribute g x || attribute_in g xs) ≡ false
+    by_test true t k ih =
+        let c : x.1 ≡ Content = cc in
+        ap (λ b. b || attribute_in g xs) (not_true (is_attribute g x) (λ q. content_is_none (sym c ∙ (attribute_is g x q).1)))
+        ∙ list_any_none (is_attribute g) xs (λ i d lt. not_true (is_attribute g _) (λ q.
+        let r = attribute_is g _ q in
+        content_is_none (sym c ∙ h 0 (suc i) d (omega arith) (omega arith) (eqb-true x.0 g t ∙ sym r.0) ∙ r.1)))
+    by_test false t k ih = ap (λ b. b || attribute_in g xs) (not_true (is_attribute g x) (λ q. false≢true (sym t ∙ eq_test x.0 g (attribute_is g x q).0)))
+        ∙ ih k
+      where
+        eq_test : (m n : ℕ) → m ≡ n → (m == n) ≡ true
+        eq_test m n i = eq-eqb m n i
+
+-- ---- kinds
+
+module _ (service : Service) (one : AllPairs (λ x y. x.0 ≡ y.0 → x.1 ≡ y.1) (template_uses service.templates)) (there : GapsAreThere service) (scope : Scope)
+    (at : List ℕ → Abstract)
+    (names : (w : List ℕ) (kind : Kind) → name_kind service scope w ≡ Some kind → IsOf kind (at w)) where
+  nothing_of : (op : Op) (side kind : Kind) → Takes (op_sort op) side kind → (a : Abstract) → IsOf side a → IsOf kind (combined_by op a)
+  nothing_of Or side kind t a h = subst (λ k. IsOf k Nothing) (sym t.1) tt
+  nothing_of And side kind t a h = subst (λ k. IsOf k Nothing) (sym t.1) tt
+  nothing_of Eq side kind t a h = subst (λ k. IsOf k Nothing) (sym t.2) tt
+  nothing_of Ne side kind t a h = subst (λ k. IsOf k Nothing) (sym t.2) tt
+  nothing_of Lt side kind t a h = subst (λ k. IsOf k Nothing) (sym t.1) tt
+  nothing_of Le side kind t a h = subst (λ k. IsOf k Nothing) (sym t.1) tt
+  nothing_of Gt side kind t a h = subst (λ k. IsOf k Nothing) (sym t.1) tt
+  nothing_of Ge side kind t a h = subst (λ k. IsOf k Nothing) (sym t.1) tt
+  nothing_of Add side kind t a h = subst (λ k. IsOf k (summed_by a)) (sym t.1) (sum t.0 a h)
+    where
+      sum_int : (a : Abstract) → IsOf kinds.Int a → IsOf kinds.Int (summed_by a)
+      sum_int Nothing h = tt
+      sum_int (Strings S) h = absurd h
+      sum_int (Html G) h = absurd h
+
+      sum_str : (a : Abstract) → IsOf kinds.Str a → IsOf kinds.Str (summed_by a)
+      sum_str Nothing h = absurd h
+      sum_str (Strings S) h = tt
+      sum_str (Html G) h = absurd h
+
+      sum : (side ≡ kinds.Int) ⊎ (side ≡ kinds.Str) → (a : Abstract) → IsOf side a → IsOf side (summed_by a)
+      sum (inl e) a h = subst (λ k. IsOf k (summed_by a)) (sym e) (sum_int a (subst (λ k. IsOf k a) e h))
+      sum (inr e) a h = subst (λ k. IsOf k (summed_by a)) (sym e) (sum_str a (subst (λ k. IsOf k a) e h))
+  nothing_of Sub side kind t a h = subst (λ k. IsOf k Nothing) (sym t.1) tt
+  nothing_of Mul side kind t a h = subst (λ k. IsOf k Nothing) (sym t.1) tt
+  nothing_of Div side kind t a h = subst (λ k. IsOf k Nothing) (sym t.1) tt
+  nothing_of Rem side kind t a h = subst (λ k. IsOf k Nothing) (sym t.1) tt
+
+  called_of : (f : Fun) → IsOf (fun_gives f) (called_by f)
+  called_of funs.Text = tt
+  called_of funs.Number = tt
+  called_of funs.IsNumber = tt
+  called_of funs.Count = tt
+
+  -- one pair
+  plug_of : (a e : Abstract) (w : List ℕ) (g : GapKind) (kind : Kind) → IsOf kinds.Html a → IsOf kind e → kind_of_gap service w ≡ Some g → Fits g kind
+      → IsOf kinds.Html (plugged_by a (number service.gaps w) e) × IsPlug service a (number service.gaps w) e
+  plug_of Nothing e w g kind h k q t = absurd h
+  plug_of (Strings S) e w g kind h k q t = absurd h
+  plug_of (Html B) e w g kind h k q t = by_kind g t q
+    where
+      n : ℕ
+      n = number service.gaps w
+
+      is_there : (g : GapKind) → kind_of_gap service w ≡ Some g → is_gap service (number service.gaps w) ≡ true
+      is_there g q = lt-ltb (number service.gaps w) (length service.gaps) (there w g q)
+
+      of_string : (e : Abstract) → IsOf kinds.Str e → is_gap service (number service.gaps w) ≡ true
+          → IsOf kinds.Html (plugged_by (Html B) (number service.gaps w) e) × IsPlug service (Html B) (number service.gaps w) e
+      of_string Nothing h i = absurd h
+      of_string (Strings S) h i = (tt, i)
+      of_string (Html A) h i = absurd h
+
+      of_document : (e : Abstract) → IsOf kinds.Html e → is_gap service (number service.gaps w) ≡ true
+          → attribute_in (number service.gaps w) (template_uses service.templates) ≡ false
+          → IsOf kinds.Html (plugged_by (Html B) (number service.gaps w) e) × IsPlug service (Html B) (number service.gaps w) e
+      of_document Nothing h i c = absurd h
+      of_document (Strings S) h i c = absurd h
+      of_document (Html A) h i c = (
+        tt,
+        (
+          i,
+          λ m. no_hole (length service.gaps) (number service.gaps w) service.templates m
+              (ltb-true (number service.gaps w) (length service.gaps) i) c,
+        ),
+      )
+
+      by_kind : (g : GapKind) → Fits g kind → kind_of_gap service w ≡ Some g → IsOf kinds.Html (plugged_by (Html B) (number service.gaps w) e)
+          × IsPlug service (Html B) (number service.gaps w) e
+      by_kind Content (inl s) q = of_string e (subst (λ x. IsOf x e) s k) (is_there Content q)
+      by_kind Content (inr s) q =
+          of_document e (subst (λ x. IsOf x e) s k) (is_there Content q) (all_content (template_uses service.templates) (number service.gaps w) one q)
+      by_kind Attribute s q = of_string e (subst (λ x. IsOf x e) s k) (is_there Attribute q)
+
+  mutual
+    pub typed_known : (e : Term) (kind : Kind) → HasKind service scope e kind → IsOf kind (known service at e) × EachPair (IsPlug service) service at e
+    typed_known (int n) kind h = (subst (λ k. IsOf k Nothing) (sym h) tt, tt)
+    typed_known (truth b) kind h = (subst (λ k. IsOf k Nothing) (sym h) tt, tt)
+    typed_known (string s) kind h = (subst (λ k. IsOf k (Strings (same s))) (sym h) tt, tt)
+    typed_known nothing kind h = (subst (λ k. IsOf k Nothing) (sym h) tt, tt)
+    typed_known (name w) kind h = (names w kind h, tt)
+    typed_known (paren e) kind h = typed_known e kind h
+    typed_known (negated e) kind h = (subst (λ k. IsOf k Nothing) (sym h.1) tt, (typed_known e kinds.Bool h.0).1)
+    typed_known (neg e) kind h = (subst (λ k. IsOf k Nothing) (sym h.1) tt, (typed_known e kinds.Int h.0).1)
+    typed_known (call f e) kind h = (subst (λ k. IsOf k (called_by f)) (sym h.1) (called_of f), (typed_known e (fun_takes f) h.0).1)
+    typed_known (binary op l r) kind h =
+        let a = typed_known l h.0 h.1 in
+        let b = typed_known r h.0 h.2 in
+        (nothing_of op h.0 kind h.3 (known service at l) a.0, (a.1, b.1))
+    typed_known (plug b ps) kind h =
+        let a = typed_known b kinds.Html h.0 in
+        let r = typed_filled ps (known service at b) a.0 h.1 in
+        (subst (λ k. IsOf k (known_filled service at ps (known service at b))) (sym h.2) r.0, (a.1, r.1))
+
+    typed_filled : (ps : Fillings) (a : Abstract) → IsOf kinds.Html a → AreTyped service scope ps → IsOf kinds.Html (known_filled service at ps a)
+        × EachFilling (IsPlug service) service at ps a
+    typed_filled no_more a k h = (k, tt)
+    typed_filled (filling w e ps) a k h =
+        let v = typed_known e h.0.1 h.0.3 in
+        let one = plug_of a (known service at e) w h.0.0 h.0.1 k v.0 h.0.2 h.0.4 in
+        let r = typed_filled ps (plugged_by a (number service.gaps w) (known service at e)) one.0 h.1 in
+        (r.0, (one.1, v.1, r.1))

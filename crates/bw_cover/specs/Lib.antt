@@ -1,0 +1,14 @@
+pub mod Abstracts
+pub mod Facts
+pub mod Spots
+pub mod Covered
+pub mod Plugs
+pub mod Sound
+pub mod Worlds
+pub mod Least
+pub mod Kinds
+pub mod LeastKinds
+pub mod Flows
+pub mod Examples
+pub mod Trees
+pub mod EdgeLaws
