@@ -111,15 +111,17 @@ impl Both {
         shown(alloc, sheet.as_bytes(), &page)
     }
 
-    /// Whether its two sides are the same document.
+    /// Whether its two sides have the same measure, as many gaps of that number, and pages of the same bytes.
     pub fn is_same(&self, alloc: Global, gap: GapId) -> Result<bool, Fault> {
         let gaps = self.plain.gaps(gap);
-        let page = Sheet::of(alloc, &self.plain.tree)?;
+        let title = Name::of(alloc, "Same")?;
+        let page = Sheet::of(alloc, &wrap_exit(&title, &self.plain.tree)?)?;
+        let sheet = self.doc.sheet(&title, None)?;
         Ok(
             self.doc.measure() == self.plain.measure
                 && self.doc.count(gap) == gaps.count
                 && self.doc.around(gap) == gaps.around
-                && self.doc.length()? == page.length(),
+                && sheet.as_bytes() == page.as_bytes(),
         )
     }
 }
