@@ -1,6 +1,6 @@
 -- A typed service whose least cells have the kinds of their variables is accepted where no plug may lack its gap.
 use Rattle.std.proofs.Common.{◌≡◌, ℕ, zero, suc, ◌+◌, Bool, true, false, List, [], ◌∷◌, ◌++◌, map, Option, Some, None, refl, sym, ap, ◌∙◌, subst, arith}
-use Rattle.std.specs.Prelude.{◌≢◌, ◌||◌, cond, if◌then◌else◌, find, option_map, slice_get, unwrap_or, is_some}
+use Rattle.std.specs.Prelude.{◌≢◌, ◌||◌, if◌then◌else◌, slice_get, unwrap_or, is_some}
 use Rattle.std.specs.List.{All, AllPairs}
 use Rattle.std.specs.Option.{option_or}
 use Rattle.std.proofs.lemmas.Bool.{false≢true}

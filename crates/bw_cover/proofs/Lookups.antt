@@ -1,41 +1,23 @@
 -- What is known of a name covers what it stands for.
-use Rattle.std.proofs.Common.{◌≡◌, ℕ, zero, suc, ◌+◌, ◌≤◌, Bool, true, false, cond, List, [], ◌∷◌, ◌++◌, Option, Some, None, Result, Ok, Err, refl}
+use Rattle.std.proofs.Common.{◌≡◌, ℕ, suc, ◌+◌, Bool, true, false, cond, List, [], ◌∷◌, ◌++◌, Option, Some, None, refl}
 use Rattle.std.proofs.Common.{sym, ap, ◌∙◌, subst, arith}
-use Rattle.std.specs.Prelude.{◌||◌, not, pos, if◌then◌else◌, option_map, find, map, is_some, nat_lt, length, slice_get, unwrap_or}
+use Rattle.std.specs.Prelude.{◌||◌, not, pos, if◌then◌else◌, option_map, find, map, is_some, length, slice_get, unwrap_or}
 use Rattle.std.specs.Option.{option_or}
 use Rattle.std.proofs.lemmas.Bool.{false≢true}
-use Rattle.bw_lang.specs.declared.expr.Fun.{Fun}
-use Rattle.bw_lang.specs.declared.expr.Op.{Op}
-use Rattle.bw_lang.specs.declared.expr.Op.TheVariants.{Or, And, Eq, Ne, Lt, Le, Gt, Ge, Add, Sub, Mul, Div, Rem}
-use Rattle.bw_lang.specs.declared.measure.Measure.{Measure}
-use Rattle.bw_lang.specs.declared.measure.MeasureFault.{MeasureFault}
 use Rattle.bw_lang.specs.declared.service.Service.{Service}
 use Rattle.bw_lang.specs.declared.service.Template.{Template}
-use Rattle.bw_lang.specs.declared.turn.TurnFault.TheVariants.{StringTooLong}
-use Rattle.bw_lang.specs.Documents.{count}
 use Rattle.bw_lang.specs.Forest.{Forest, none}
-use Rattle.bw_lang.specs.Measures.{text_measure, plugged as measured, tested}
 use Rattle.bw_lang.specs.Names.{same, beside}
-use Rattle.bw_lang.specs.Term.{Term, int, truth, string, name, paren, not as negated, neg, binary, call, plug, nothing, Fillings, no_more, filling}
-use Rattle.bw_meaning.specs.Expressions.{Evaluated, Gives, Faults, paid, and_then, given, named, eval, fill}
-use Rattle.bw_meaning.specs.Operators.{number_of, truth_of, text_of, document_of, held, joined, sum, decides, combined, called, with_tree, filled}
-use Rattle.bw_meaning.specs.Values.{Value, Values, number, truth_value, text, document, list, constant as document_at, template_value}
-use Rattle.bw_sum.specs.Graph.{Graph, constant, plugged, plugged_text}
-use Rattle.bw_sum.specs.Opening.{opens}
+use Rattle.bw_meaning.specs.Expressions.{named}
+use Rattle.bw_meaning.specs.Values.{Value, Values, number, document, constant as document_at, template_value}
+use Rattle.bw_sum.specs.Graph.{constant}
 use Rattle.bw_sum.specs.Unfolding.{Covers}
-use Rattle.bw_sum.proofs.Covering.{covers_constant, covers_plug, covers_text, covers_below as graph_below}
-use Rattle.bw_sum.proofs.Opens.{opens_counted}
+use Rattle.bw_sum.proofs.Covering.{covers_constant}
 use Rattle.bw_sum.specs.Templates.{template_items}
-use Rattle.bw_cover.specs.Abstracts.{Abstract, Nothing, Strings, Html, any, is_gap, covers, Below, plugged_by, summed_by, combined_by, called_by}
-use Rattle.bw_cover.specs.Abstracts.{known, known_filled, EachPair, EachFilling, IsNotLacked, IsPlug}
+use Rattle.bw_cover.specs.Abstracts.{Abstract, Nothing, Html, is_gap, covers}
 use Rattle.bw_cover.specs.Facts.{Facts, is_shared, template_known, look}
 use Rattle.bw_types.specs.Scopes.{is_among, template_names}
-use Rattle.bw_cover.specs.Plugs.{Plug, on_unit, on_value, plugs_in, plugs_by}
-use Rattle.bw_cover.specs.Covered.{CoversLocals, CoversShared, AreOpen}
-use Rattle.bw_cover.proofs.Names.{same_self}
-use Rattle.std.specs.Prelude as std
-use Rattle.bw_lang.specs.declared.expr.Fun.TheVariants as funs
-use Rattle.bw_lang.specs.Documents as doc
+use Rattle.bw_cover.specs.Covered.{CoversLocals, CoversShared}
 use Rattle.bw_lang.specs.Wrappers.{show_wrapper, exit_wrapper}
 use Rattle.bw_lang.specs.Names as names
 

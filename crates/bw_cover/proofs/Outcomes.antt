@@ -1,36 +1,30 @@
 -- One thing after another, loops and pages keep what is covered.
-use Rattle.std.proofs.Common.{◌≡◌, ℕ, zero, suc, ◌+◌, Bool, true, false, List, [], ◌∷◌, ◌++◌, Option, Some, None, refl, sym, ap, ◌∙◌, subst}
-use Rattle.std.specs.Prelude.{◌==◌, ◌||◌, nat_lt, if◌then◌else◌, is_some}
-use Rattle.std.proofs.lemmas.Bool.{false≢true, eqb-true}
+use Rattle.std.proofs.Common.{◌≡◌, ℕ, zero, suc, Bool, true, false, List, [], ◌∷◌, ◌++◌, Option, Some, None, refl, sym, ◌∙◌, subst}
+use Rattle.std.specs.Prelude.{◌||◌, if◌then◌else◌}
+use Rattle.std.proofs.lemmas.Bool.{false≢true}
 use Rattle.bw_lang.specs.declared.service.Service.{Service}
 use Rattle.bw_lang.specs.declared.stmt.Receive.{Receive}
 use Rattle.bw_lang.specs.declared.turn.TurnFault.{TurnFault}
-use Rattle.bw_lang.specs.Code.{Code, done, declare, assign, if_then, if_else, while_loop, block, for_each, show, exit, numbered}
+use Rattle.bw_lang.specs.Code.{Code}
 use Rattle.bw_lang.specs.Names.{same, beside}
 use Rattle.bw_lang.specs.Term.{Term}
 use Rattle.bw_meaning.specs.Expressions.{Evaluated, Gives, Faults, eval}
-use Rattle.bw_meaning.specs.GoOn.{with_rest, behind, body_of, turn, go_on}
-use Rattle.bw_lang.specs.Numbers.{first_number}
-use Rattle.bw_meaning.specs.Operators.{truth_of, list_of, document_of}
-use Rattle.bw_meaning.specs.Pages.{show_fault, exit_fault}
-use Rattle.bw_meaning.specs.States.{Rests, Input, State, Outcome, Went, Shown, Exited, Failed, Answered, budget}
-use Rattle.bw_meaning.specs.Statements.{declared, add_local, store, variable, received, taken, when_paid, when_given, with_value, begin, then_do}
-use Rattle.bw_meaning.specs.Statements.{unless_fault, leave, room, turns, add_rest, each, wait, shows, exits, exec}
-use Rattle.bw_lang.specs.Submissions.{values_of}
-use Rattle.bw_meaning.specs.Forms.{received_value}
-use Rattle.bw_meaning.specs.Values.{Value, Values, number, truth_value, text, document, list, list_weight, replaced}
+use Rattle.bw_meaning.specs.Operators.{truth_of, document_of}
+use Rattle.bw_meaning.specs.States.{Input, State, Outcome, Went, Shown, Exited, Failed}
+use Rattle.bw_meaning.specs.Statements.{declared, add_local, when_paid, when_given, with_value, begin, then_do}
+use Rattle.bw_meaning.specs.Statements.{unless_fault, leave, turns, add_rest, each, wait}
+use Rattle.bw_meaning.specs.Values.{Value, Values, number, truth_value, text, document, list}
 use Rattle.bw_sum.specs.Graph.{Graph}
-use Rattle.bw_cover.specs.Abstracts.{Abstract, Html, any, CoversTree, covers, known}
-use Rattle.bw_cover.specs.Facts.{What, keeps, sets, brings, takes, Facts, look, own, left, Leads, IsPoint, Apart, after, Laid}
+use Rattle.bw_cover.specs.Abstracts.{Abstract, Html, CoversTree, covers, known}
+use Rattle.bw_cover.specs.Facts.{keeps, takes, Facts, look, Leads, IsPoint, Apart, after}
 use Rattle.bw_types.specs.Scopes.{is_among}
-use Rattle.bw_cover.specs.Plugs.{Plug, on_unit, on_value, on_end, plugs_in, value_plugs, begin_plugs, turns_plugs, each_plugs, plugs, rest_plugs}
-use Rattle.bw_cover.specs.Plugs.{plugs_behind, turn_plugs, go_on_plugs}
-use Rattle.bw_cover.specs.Covered.{CoversLocals, CoversShared, CoversInputs, WaitsCovered, EndsCovered, IsCovered, AreOpen}
-use Rattle.bw_cover.proofs.Names.{same_self, beside-without, some-replaced, some-added, some-without, among-after, among-inner}
-use Rattle.bw_cover.proofs.Values.{covers_below, open_append, Given, eval_good}
+use Rattle.bw_cover.specs.Plugs.{Plug, on_unit, on_value, on_end, plugs_in, value_plugs, begin_plugs, turns_plugs, each_plugs}
+use Rattle.bw_cover.specs.Covered.{CoversLocals, CoversInputs}
+use Rattle.bw_cover.proofs.Names.{same_self, beside-without, some-without, among-after, among-inner}
+use Rattle.bw_cover.proofs.Values.{open_append, Given, eval_good}
 use Rattle.bw_cover.proofs.Lookups.{looks}
-use Rattle.bw_cover.proofs.Locals.{none_some, Holds, holds_own, holds_added, holds_replaced, leads_covered, shared_stored, is_there, Receives, received_all}
-use Rattle.bw_cover.proofs.States.{IsAt, Fine, Good, with_units, here, kept, added, stored, received_inputs, taken_good}
+use Rattle.bw_cover.proofs.Locals.{none_some}
+use Rattle.bw_cover.proofs.States.{IsAt, Fine, Good, with_units, here, kept, taken_good}
 
 module _ {K : Type 0} (service : Service) (f : Facts K) where
   -- ---- one thing after another

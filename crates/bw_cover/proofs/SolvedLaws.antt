@@ -1,28 +1,21 @@
 -- The least cells of a typed service are accepted, and cover every world that requests reach.
-use Rattle.bw_cover.proofs.Names.{beside-cons}
-use Rattle.std.proofs.Common.{◌≡◌, ℕ, suc, ◌+◌, Bool, true, false, List, [], ◌∷◌, ◌++◌, map, take, Option, Some, None, refl, sym, ap, ◌∙◌, subst, arith}
-use Rattle.std.specs.Prelude.{◌≢◌, ◌||◌, if◌then◌else◌, is_some, sum_by, slice_get, unwrap_or}
-use Rattle.std.specs.List.{All, AllByRecursion, AllPairs, Contains}
-use Rattle.std.specs.Option.{option_or}
-use Rattle.std.proofs.lemmas.Bool.{false≢true, eqb-true, or_parts}
-use Rattle.std.proofs.lemmas.List.Folds.{list_any-append}
-use Rattle.std.proofs.lemmas.List.Sums.{sum_by-cons}
+use Rattle.std.proofs.Common.{◌≡◌, ℕ, ◌+◌, true, List, ◌∷◌, ◌++◌, Some, None, refl, ap, subst, arith}
+use Rattle.std.specs.Prelude.{◌≢◌}
+use Rattle.std.specs.List.{All, AllPairs, Contains}
+use Rattle.std.proofs.lemmas.Bool.{false≢true, eqb-true}
 use Rattle.std.proofs.lemmas.List.Elements.{All-weaker, All-nil}
 use Rattle.bw_lang.specs.declared.service.Service.{Service}
 use Rattle.bw_lang.specs.declared.service.Session.{Session}
 use Rattle.bw_lang.specs.declared.stmt.Kind.{Kind}
-use Rattle.bw_lang.specs.declared.stmt.Receive.{Receive}
 use Rattle.bw_lang.specs.Code.{Code, done, declare, assign, if_then, if_else, while_loop, block, for_each, show, exit, numbered}
 use Rattle.bw_lang.specs.CodeNames.{local_names}
-use Rattle.bw_lang.specs.Names.{same, beside}
-use Rattle.bw_lang.specs.Order.{IsWoven}
+use Rattle.bw_lang.specs.Names.{beside}
 use Rattle.bw_lang.specs.Reads.{IsReadable}
 use Rattle.bw_lang.proofs.Small.{readable_is_woven}
 use Rattle.bw_meaning.specs.GoOn.{body_of}
 use Rattle.bw_lang.specs.Numbers.{first_number}
-use Rattle.bw_meaning.specs.Statements.{declared}
-use Rattle.bw_types.specs.Scopes.{Scope, no_locals, declared_names, shared_kinds, with_local, behind, is_among}
-use Rattle.bw_types.specs.Typing.{IsReceived, IsTypedCode, IsNew}
+use Rattle.bw_types.specs.Scopes.{Scope, no_locals, declared_names, with_local, behind}
+use Rattle.bw_types.specs.Typing.{IsTypedCode}
 use Rattle.bw_types.specs.Faults.{IsWellTyped}
 use Rattle.bw_types.proofs.Differing.{none_differ}
 use Rattle.bw_types.proofs.OwnLocals.{locals_own}
@@ -30,14 +23,12 @@ use Rattle.bw_types.proofs.Services.{Walked}
 use Rattle.bw_types.proofs.Sorted.{sessions_none}
 use Rattle.bw_types.proofs.WellTyped.{typed}
 use Rattle.bw_typed.proofs.Named.{gaps_have_numbers}
-use Rattle.bw_flow.proofs.Names.{matches_nothing, new_at}
-use Rattle.bw_cover.specs.Facts.{What, keeps, sets, brings, takes, Facts, Edge}
+use Rattle.bw_cover.specs.Facts.{Facts}
 use Rattle.bw_cover.specs.Kinds.{LocalsAreOf, CellsAreOf, GapsAreThere, IsChecked}
 use Rattle.bw_cover.specs.Least.{with_cells, same_spot, service_edges}
-use Rattle.bw_cover.specs.LeastKinds.{Sees, TypedStep, EachTyped, SolvedIsAccepted, SolvedWorldsAreCovered}
-use Rattle.bw_cover.specs.Spots.{Spot, statement, meeting, out, starts, edges}
-use Rattle.bw_types.proofs.Seek.{same_is}
-use Rattle.bw_cover.proofs.Laying.{Distinct, distinct, distinct_append, declared_local}
+use Rattle.bw_cover.specs.LeastKinds.{Sees, SolvedIsAccepted, SolvedWorldsAreCovered}
+use Rattle.bw_cover.specs.Spots.{Spot, statement, meeting, out}
+use Rattle.bw_cover.proofs.Laying.{distinct}
 use Rattle.bw_cover.proofs.Checked.{at_body, bodies_typed, checked_is_accepted}
 use Rattle.bw_cover.proofs.LeastKinds.{least_kinded}
 use Rattle.bw_cover.proofs.Literals.{typed_literals}

@@ -1,37 +1,26 @@
 -- Each turn is covered, and its plugs are open: by induction on the statements, and on a loop's turns.
-use Rattle.std.proofs.Common.{◌≡◌, ℕ, zero, suc, ◌+◌, Bool, true, false, List, [], ◌∷◌, ◌++◌, Option, Some, None, refl, sym, ap, ◌∙◌, subst}
-use Rattle.std.specs.Prelude.{◌==◌, ◌||◌, nat_lt, if◌then◌else◌, is_some}
-use Rattle.std.proofs.lemmas.Bool.{false≢true, eqb-true}
+use Rattle.std.proofs.Common.{◌≡◌, ℕ, ◌+◌, List, [], ◌∷◌, ◌++◌, None, refl, ap, ◌∙◌, subst}
+use Rattle.std.specs.Prelude.{◌==◌, nat_lt, if◌then◌else◌}
+use Rattle.std.proofs.lemmas.Bool.{eqb-true}
 use Rattle.bw_lang.specs.declared.service.Service.{Service}
-use Rattle.bw_lang.specs.declared.stmt.Receive.{Receive}
-use Rattle.bw_lang.specs.declared.turn.TurnFault.{TurnFault}
 use Rattle.bw_lang.specs.Code.{Code, done, declare, assign, if_then, if_else, while_loop, block, for_each, show, exit, numbered}
-use Rattle.bw_lang.specs.Names.{same, beside}
-use Rattle.bw_lang.specs.Term.{Term}
-use Rattle.bw_meaning.specs.Expressions.{Evaluated, Gives, Faults, eval}
+use Rattle.bw_lang.specs.Names.{beside}
 use Rattle.bw_meaning.specs.GoOn.{with_rest, behind, body_of, turn, go_on}
 use Rattle.bw_lang.specs.Numbers.{first_number}
 use Rattle.bw_meaning.specs.Operators.{truth_of, list_of, document_of}
 use Rattle.bw_meaning.specs.Pages.{show_fault, exit_fault}
 use Rattle.bw_meaning.specs.States.{Rests, Input, State, Outcome, Went, Shown, Exited, Failed, Answered, budget}
-use Rattle.bw_meaning.specs.Statements.{declared, add_local, store, variable, received, taken, when_paid, when_given, with_value, begin, then_do}
-use Rattle.bw_meaning.specs.Statements.{unless_fault, leave, room, turns, add_rest, each, wait, shows, exits, exec}
-use Rattle.bw_lang.specs.Submissions.{values_of}
-use Rattle.bw_meaning.specs.Forms.{received_value}
-use Rattle.bw_meaning.specs.Values.{Value, Values, number, truth_value, text, document, list, list_weight, replaced}
-use Rattle.bw_sum.specs.Graph.{Graph}
-use Rattle.bw_cover.specs.Abstracts.{Abstract, Html, any, CoversTree, covers, known}
-use Rattle.bw_cover.specs.Facts.{What, keeps, sets, brings, takes, Facts, look, own, left, Leads, IsPoint, Apart, after, Laid}
-use Rattle.bw_types.specs.Scopes.{is_among}
-use Rattle.bw_cover.specs.Plugs.{Plug, on_unit, on_value, on_end, plugs_in, value_plugs, begin_plugs, turns_plugs, each_plugs, plugs, rest_plugs}
+use Rattle.bw_meaning.specs.Statements.{declared, add_local, store, taken, with_value, begin, then_do}
+use Rattle.bw_meaning.specs.Statements.{leave, room, turns, add_rest, each, wait, shows, exits, exec}
+use Rattle.bw_meaning.specs.Values.{Value, Values, text, list_weight}
+use Rattle.bw_cover.specs.Abstracts.{any, covers, known}
+use Rattle.bw_cover.specs.Facts.{keeps, sets, brings, Facts, look, Leads, Apart, after, Laid}
+use Rattle.bw_cover.specs.Plugs.{Plug, on_end, value_plugs, begin_plugs, turns_plugs, each_plugs, plugs, rest_plugs}
 use Rattle.bw_cover.specs.Plugs.{plugs_behind, turn_plugs, go_on_plugs}
-use Rattle.bw_cover.specs.Covered.{CoversLocals, CoversShared, CoversInputs, WaitsCovered, EndsCovered, IsCovered, AreOpen}
-use Rattle.bw_cover.proofs.Names.{same_self, beside-without, some-replaced, some-added, some-without, among-after, among-inner}
-use Rattle.bw_cover.proofs.Values.{covers_below, open_append, Given, eval_good}
-use Rattle.bw_cover.proofs.Lookups.{looks}
-use Rattle.bw_cover.proofs.Locals.{none_some, Holds, holds_own, holds_added, holds_replaced, leads_covered, shared_stored, is_there, Receives, received_all}
-use Rattle.bw_cover.proofs.States.{IsAt, Fine, Good, with_units, here, kept, added, stored, received_inputs, taken_good}
-use Rattle.bw_cover.proofs.Outcomes.{good_paid, good_given, good_value, good_begin, good_next, good_then, went_same, good_step, good_if, fine_kept, fine_rest, left_out, fine_leave, good_leave, good_inner, good_turns, good_each, fine_unless, page_is, fine_wait, fresh_name}
+use Rattle.bw_cover.specs.Covered.{CoversLocals, CoversShared, CoversInputs, IsCovered, AreOpen}
+use Rattle.bw_cover.proofs.Locals.{none_some}
+use Rattle.bw_cover.proofs.States.{IsAt, Fine, Good, kept, added, stored, taken_good}
+use Rattle.bw_cover.proofs.Outcomes.{good_value, good_begin, good_then, good_step, good_if, fine_kept, good_leave, good_inner, good_turns, good_each, fine_unless, page_is, fine_wait, fresh_name}
 
 module _ {K : Type 0} (service : Service) (f : Facts K) where
   -- ---- statements

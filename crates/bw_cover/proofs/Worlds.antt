@@ -1,6 +1,6 @@
 -- Each world that requests reach is covered.
-use Rattle.std.proofs.Common.{◌≡◌, ℕ, zero, suc, Bool, true, false, List, [], ◌∷◌, ◌++◌, Option, Some, None, refl, sym, ap, ◌∙◌, subst}
-use Rattle.std.specs.Prelude.{nat_lt, ◌==◌, if◌then◌else◌, take}
+use Rattle.std.proofs.Common.{◌≡◌, ℕ, zero, suc, Bool, true, false, List, [], ◌∷◌, ◌++◌, Option, Some, None, refl, sym, ap, subst}
+use Rattle.std.specs.Prelude.{◌==◌, if◌then◌else◌, take}
 use Rattle.std.specs.List.{AllByRecursion}
 use Rattle.bw_http.specs.declared.replies.Reply.{Reply}
 use Rattle.bw_http.specs.declared.replies.Reply.TheVariants as replies
@@ -12,17 +12,16 @@ use Rattle.bw_meaning.specs.States.{Form, Input, Outcome, Went, Shown, Exited, F
 use Rattle.bw_meaning.specs.Values.{Values}
 use Rattle.bw_model.specs.Answers.{Fate, Stays, IsUsed, GoesOn, Leaves, refuses as no_answer, turned, with_input, takes, waits, answered}
 use Rattle.bw_model.specs.Received.{first_refusal, receives_of}
-use Rattle.bw_model.specs.Runs.{At, Turn, request as by_request, no_memory, Turns}
+use Rattle.bw_model.specs.Runs.{At, Turn, request as by_request, no_memory}
 use Rattle.bw_model.specs.Sessions.{Origin, Started, Loaded, Talk, Live, World, now, current}
 use Rattle.bw_model.specs.Steps.{Step, fated, founded, beginner, asks, taken_out, step}
-use Rattle.bw_model.proofs.Found.{IsOut, no_session, session as a_session, out, out_all}
+use Rattle.bw_model.proofs.Found.{IsOut, session as a_session, out, out_all}
 use Rattle.bw_model.proofs.Kept.{by_path, by_start}
 use Rattle.bw_cover.specs.Covered.{CoversShared, CoversInputs, IsCovered, AreOpen}
 use Rattle.bw_cover.specs.Facts.{Facts}
-use Rattle.bw_cover.specs.Plugs.{Plug}
 use Rattle.bw_cover.specs.Sound.{AcceptsAll}
 use Rattle.bw_cover.specs.Spots.{Spot}
-use Rattle.bw_cover.specs.Worlds.{Reached, none, one_more, CoversOrigin, WaitsAtShow, plugs_over, talk_plugs, CoversTalk, CoversWorld, ComesToCovered}
+use Rattle.bw_cover.specs.Worlds.{Reached, none, one_more, CoversOrigin, WaitsAtShow, talk_plugs, CoversTalk, CoversWorld, ComesToCovered}
 use Rattle.bw_cover.specs.Worlds.{CoversNext}
 use Rattle.bw_cover.specs.Worlds.{EmptyIsCovered, StepsKeepCovering, NextIsCovered, WorldsAreCovered, StreamsReach}
 use Rattle.bw_cover.proofs.First.{first_covered}

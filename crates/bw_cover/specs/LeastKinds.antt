@@ -19,7 +19,6 @@ use Rattle.bw_cover.specs.Spots.{Spot, statement, meeting, out, Scoped, HasNoGap
 use Rattle.bw_model.specs.Sessions.{World}
 use Rattle.bw_cover.specs.Worlds.{Reached, CoversWorld, CoversNext}
 use Rattle.bw_cover.specs.Sound.{AcceptsAll}
-use Rattle.std.specs.Prelude as std
 use Rattle.bw_lang.specs.declared.stmt.Kind.TheVariants as kinds
 
 -- what each point sees is the scope of its place

@@ -5,7 +5,6 @@ use Rattle.bw_http.specs.declared.replies.Reply.{Reply}
 use Rattle.bw_http.specs.declared.request.Request.{Request}
 use Rattle.bw_lang.specs.declared.service.Service.{Service}
 use Rattle.bw_meaning.specs.States.{Form, Input, Outcome, Went, Shown, Exited, Failed}
-use Rattle.bw_meaning.specs.Values.{Values}
 use Rattle.bw_model.specs.Answers.{with_input}
 use Rattle.bw_model.specs.Runs.{At, Turns}
 use Rattle.bw_model.specs.Sessions.{Origin, Started, Loaded, Talk, Live, World, empty, now}
