@@ -1,0 +1,12 @@
+pub mod Forms
+pub mod Laws
+pub mod Marks
+pub mod Needs
+pub mod NeedsCode
+pub mod NeedsFalls
+pub mod NeedsView
+pub mod Reads
+pub mod Rules
+pub mod RulesOf
+pub mod Validity
+pub mod Words
