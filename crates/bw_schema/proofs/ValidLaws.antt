@@ -35,7 +35,7 @@ pub closed_has : (a : List Attr) (x : List ℕ) → v.has_fixed (closed_attrs a)
 closed_has [] x = refl
 closed_has (a ∷ rest) x = keep_has a a.value (closed_attrs rest) x refl ∙ ap (λ b. (same a.name x && v.is_fixed a.value) || b) (closed_has rest x)
 
-all_has : (a : List Attr) (xs : List (List ℕ)) → list_all (v.has_fixed (closed_attrs a)) xs ≡ list_all (v.has_fixed a) xs
+pub all_has : (a : List Attr) (xs : List (List ℕ)) → list_all (v.has_fixed (closed_attrs a)) xs ≡ list_all (v.has_fixed a) xs
 all_has a [] = refl
 all_has a (x ∷ xs) = ap (λ b. b && list_all (v.has_fixed (closed_attrs a)) xs) (closed_has a x) ∙ ap (λ b. v.has_fixed a x && b) (all_has a xs)
 
@@ -85,7 +85,7 @@ closed_bare (text s r) = refl
 closed_bare (gap g r) = closed_bare r
 closed_bare (element tag a i r) = refl
 
-closed_root : (root : List ℕ) (t : Forest) → v.is_rooted root (close t) ≡ v.is_rooted root t
+pub closed_root : (root : List ℕ) (t : Forest) → v.is_rooted root (close t) ≡ v.is_rooted root t
 closed_root root none = refl
 closed_root root (text s r) = refl
 closed_root root (gap g r) = closed_root root r

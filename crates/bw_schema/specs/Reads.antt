@@ -33,7 +33,7 @@ pub record IsText (bytes root : List ℕ) (lines : List Line) : Type 0 where
   pub read : is_read version ≡ true
   pub behind : has_version.behind ≡ (codes "root" ∷ root ∷ []) ∷ map spell_line lines
   pub root_tag : is_name class.Tag root ≡ true
-  pub lines : list_all (is_line version) lines ≡ true
+  pub formed : list_all (is_line version) lines ≡ true
   pub headed : is_headed lines ≡ true
 
 -- the text reads as the schema of this root and these rules
@@ -43,7 +43,7 @@ pub record Reads (bytes root : List ℕ) (rules : List Rule) : Type 0 where
   pub text : IsText bytes root lines
   pub once : repeated lines ≡ None
   pub known : unknown root lines ≡ None
-  pub rules : rules ≡ rules_of lines
+  pub give : rules ≡ rules_of lines
 
 -- some text reads as the schema
 abbrev pub IsReadable : List ℕ → List Rule → Type 0
