@@ -1,7 +1,7 @@
 -- Which words each line of a schema is written with.
 use Rattle.std.specs.Prelude.{ℕ, suc, max, Bool, true, false, not, ◌&&◌, ◌||◌, ◌==◌, nat_le, List, [], ◌∷◌, ◌++◌, length, codes}
+use Rattle.std.specs.Char.{is_ascii_digit}
 use Rattle.std.specs.List.{list_all}
-use Rattle.bw_lang.specs.Bytes.{is_digit}
 use Rattle.bw_lang.specs.MarkupNames.{first_of, later_of, begins}
 use Rattle.bw_lang.specs.Names.{same}
 use Rattle.bw_lang.specs.declared.pieces.NameClass.{NameClass}
@@ -25,7 +25,7 @@ are_names c ws = has_some ws && list_all (is_name c) ws
 
 -- a number of one to nine digits
 abbrev pub is_number : List ℕ → Bool
-is_number w = has_some w && nat_le (length w) 9 && list_all is_digit w
+is_number w = has_some w && nat_le (length w) 9 && list_all is_ascii_digit w
 
 -- ---- formulas
 

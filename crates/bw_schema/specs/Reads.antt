@@ -2,7 +2,7 @@
 use Rattle.std.specs.Prelude.{◌≡◌, ◌≤◌, ◌<◌, ℕ, true, false, List, [], ◌∷◌, length, map, codes, Some, None}
 use Rattle.std.specs.List.{list_all}
 use Rattle.std.specs.Str.{IsUtf8}
-use Rattle.bw_lang.specs.TokenForms.{value}
+use Rattle.std.specs.Str.Parse.{digits_value}
 use Rattle.bw_lang.specs.declared.pieces.NameClass.TheVariants as class
 use Rattle.bw_schema.specs.Forms.{is_name, is_number, is_line, is_headed, is_read, spell_line}
 use Rattle.bw_schema.specs.Marks.{repeated, unknown}
@@ -22,7 +22,7 @@ pub record HasVersion (bytes : List ℕ) (version : ℕ) : Type 0 where
   pub utf8 : IsUtf8 bytes
   pub number : List ℕ
   pub is_number : is_number number ≡ true
-  pub is : value number ≡ version
+  pub value : digits_value 10 number ≡ version
   pub behind : List (List (List ℕ))
   pub says : said bytes ≡ (codes "schema" ∷ number ∷ []) ∷ behind
 

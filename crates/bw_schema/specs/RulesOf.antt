@@ -1,7 +1,7 @@
 -- The rules that the lines of a schema give.
-use Rattle.std.specs.Prelude.{ℕ, Bool, true, false, List, [], ◌∷◌, flat_map}
+use Rattle.std.specs.Prelude.{ℕ, Bool, true, false, List, [], ◌∷◌, ◌++◌, flat_map}
 use Rattle.std.specs.List.{list_any}
-use Rattle.bw_schema.specs.Needs.{Needs, nothing}
+use Rattle.bw_schema.specs.Needs.{Needs, nothing, append_needs}
 use Rattle.bw_schema.specs.NeedsView.{before_need}
 use Rattle.bw_schema.specs.declared.lines.Line.{Line}
 use Rattle.bw_schema.specs.declared.lines.Line.TheVariants.{Element, May, Must, Value, Has, Text, Need}
@@ -56,3 +56,19 @@ abbrev pub rules_of : List Line → List Rule
 rules_of [] = []
 rules_of (Element tag ∷ lines) = rule_with tag (own lines) ∷ rules_of lines
 rules_of (line ∷ lines) = rules_of lines
+
+-- ---- for the steps of the code
+
+-- the rule of an element without lines
+abbrev pub bare : List ℕ → Rule
+bare tag = rule_with tag []
+
+-- the rule with one line more
+abbrev pub with_line : Rule → Line → Rule
+with_line r (Element tag) = r
+with_line r (May names) = record r { may = r.may ++ names }
+with_line r (Must names) = record r { must = r.must ++ names }
+with_line r (Value name values) = record r { values = r.values ++ record { name = name; words = values } ∷ [] }
+with_line r (Has tags) = record r { has = r.has ++ tags }
+with_line r Text = record r { text = true }
+with_line r (Need formula) = record r { needs = append_needs r.needs (before_need formula nothing) }
