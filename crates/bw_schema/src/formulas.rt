@@ -65,6 +65,7 @@ pub fn copied(alloc: Global, words: &[Text]) -> Result<Words, Memory>
 }
 
 /// The formula, if a closing parenthesis stands at the front, and the words behind it.
+#[tactic(auto, unfolding(crate::specs::Reading::ended))]
 fn ended(formula: Formula, words: &[Text]) -> Result<(Formula, &[Text]), SchemaFault>
     ensures { spec.Gives (λ x. (x.0, x.1.now)) result (spec.ended formula words.now) }
 {
@@ -75,6 +76,7 @@ fn ended(formula: Formula, words: &[Text]) -> Result<(Formula, &[Text]), SchemaF
 }
 
 /// `A )`, behind `( attr`.
+#[tactic(auto, unfolding(crate::specs::Reading::attr_at))]
 fn attr_at(alloc: Global, words: &[Text]) -> Result<(Formula, &[Text]), SchemaFault>
     ensures { spec.Gives (λ x. (x.0, x.1.now)) result (spec.attr_at words.now) }
 {
@@ -83,6 +85,7 @@ fn attr_at(alloc: Global, words: &[Text]) -> Result<(Formula, &[Text]), SchemaFa
 }
 
 /// `A V .. )`, behind `( value`.
+#[tactic(auto, unfolding(crate::specs::Reading::value_at))]
 fn value_at(alloc: Global, words: &[Text]) -> Result<(Formula, &[Text]), SchemaFault>
     ensures { spec.Gives (λ x. (x.0, x.1.now)) result (spec.value_at words.now) }
 {
@@ -96,6 +99,7 @@ fn value_at(alloc: Global, words: &[Text]) -> Result<(Formula, &[Text]), SchemaF
 }
 
 /// `T )`, behind `( content`.
+#[tactic(auto, unfolding(crate::specs::Reading::content_at))]
 fn content_at(alloc: Global, words: &[Text]) -> Result<(Formula, &[Text]), SchemaFault>
     ensures { spec.Gives (λ x. (x.0, x.1.now)) result (spec.content_at words.now) }
 {
@@ -104,6 +108,7 @@ fn content_at(alloc: Global, words: &[Text]) -> Result<(Formula, &[Text]), Schem
 }
 
 /// `T U )`, behind `( order`.
+#[tactic(auto, unfolding(crate::specs::Reading::order_at))]
 fn order_at(alloc: Global, words: &[Text]) -> Result<(Formula, &[Text]), SchemaFault>
     ensures { spec.Gives (λ x. (x.0, x.1.now)) result (spec.order_at words.now) }
 {
@@ -113,6 +118,7 @@ fn order_at(alloc: Global, words: &[Text]) -> Result<(Formula, &[Text]), SchemaF
 }
 
 /// A formula without parts, behind its parenthesis and its first word.
+#[tactic(auto, unfolding(crate::specs::Reading::simple_at))]
 fn simple_at<'a>(alloc: Global, head: &str, words: &'a [Text]) -> Result<(Formula, &'a [Text]), SchemaFault>
     ensures { spec.Gives (λ x. (x.0, x.1.now)) result (spec.simple_at head.now words.now) }
 {
@@ -151,6 +157,7 @@ fn needs_at(alloc: Global, depth: usize, words: &[Text]) -> Result<(Formulas, &[
 }
 
 /// The parts of `and` and `or`, one at least, and a closing parenthesis.
+#[tactic(auto, unfolding(crate::specs::Reading::parts_at))]
 #[cycle(formulas)]
 fn parts_at(alloc: Global, depth: usize, words: &[Text]) -> Result<(Formulas, &[Text]), SchemaFault>
     ensures { spec.Gives (λ x. (x.0, x.1.now)) result (spec.parts_at (spec.formula_at depth) words.now) }
@@ -166,6 +173,7 @@ fn parts_at(alloc: Global, depth: usize, words: &[Text]) -> Result<(Formulas, &[
 }
 
 /// The formula behind its parenthesis and its first word.
+#[tactic(auto, unfolding(crate::specs::Reading::inside_at))]
 #[cycle(formulas)]
 fn inside_at<'a>(alloc: Global, depth: usize, head: &Text, words: &'a [Text]) -> Result<(Formula, &'a [Text]), SchemaFault>
     ensures { spec.Gives (λ x. (x.0, x.1.now)) result (spec.inside_at (spec.formula_at depth) head.now words.now) }
@@ -182,7 +190,19 @@ fn inside_at<'a>(alloc: Global, depth: usize, head: &Text, words: &'a [Text]) ->
     simple_at(alloc, head, words)
 }
 
+/// The formula at the front, with at most `depth` formulas inside one another in it, and the words behind it.
+#[cycle(formulas)]
+fn opened_at(alloc: Global, depth: usize, words: &[Text]) -> Result<(Formula, &[Text]), SchemaFault>
+    ensures { spec.Gives (λ x. (x.0, x.1.now)) result (spec.opened (spec.inside_at (spec.formula_at depth)) words.now) }
+{
+    match words {
+        [paren, head, rest @ ..] if paren.as_str() == "(" => inside_at(alloc, depth, head, rest),
+        _ => Err(SchemaFault::Malformed),
+    }
+}
+
 /// The formula at the front, at most `depth` formulas inside one another, and the words behind it.
+#[tactic(auto, using(crate::proofs::Complete::formula_again))]
 #[cycle(formulas)]
 fn formula_at(alloc: Global, depth: usize, words: &[Text]) -> Result<(Formula, &[Text]), SchemaFault>
     ensures { spec.Gives (λ x. (x.0, x.1.now)) result (spec.formula_at depth words.now) }
@@ -190,13 +210,11 @@ fn formula_at(alloc: Global, depth: usize, words: &[Text]) -> Result<(Formula, &
     if depth == 0 {
         return Err(SchemaFault::Malformed);
     }
-    match words {
-        [paren, head, rest @ ..] if paren.as_str() == "(" => inside_at(alloc, depth - 1, head, rest),
-        _ => Err(SchemaFault::Malformed),
-    }
+    opened_at(alloc, depth - 1, words)
 }
 
 /// The formula that all of the words write.
+#[tactic(auto, unfolding(crate::specs::Reading::formula_of))]
 pub fn formula_of(alloc: Global, words: &[Text]) -> Result<Formula, SchemaFault>
     ensures { spec.Gives (λ f. f) result (spec.formula_of words.now) }
 {

@@ -63,6 +63,7 @@ fn value_line(alloc: Global, words: &[Text]) -> Result<Line, SchemaFault>
 }
 
 /// A line of names.
+#[tactic(auto, unfolding(crate::specs::Reading::names_line))]
 fn names_line(alloc: Global, key: &str, words: &[Text]) -> Result<Line, SchemaFault>
     ensures { spec.Gives (λ line. line) result (spec.names_line key.now words.now) }
 {
@@ -79,6 +80,7 @@ fn names_line(alloc: Global, key: &str, words: &[Text]) -> Result<Line, SchemaFa
 }
 
 /// A line that says that text is allowed, or what is needed.
+#[tactic(auto, unfolding(crate::specs::Reading::rare_line))]
 fn rare_line(alloc: Global, version: u64, key: &str, words: &[Text]) -> Result<Line, SchemaFault>
     ensures { spec.Gives (λ line. line) result (spec.rare_line version key.now words.now) }
 {
@@ -92,6 +94,7 @@ fn rare_line(alloc: Global, version: u64, key: &str, words: &[Text]) -> Result<L
 }
 
 /// The line that begins with this word and has these behind it.
+#[tactic(auto, unfolding(crate::specs::Reading::line_with))]
 fn line_with(alloc: Global, version: u64, key: &str, words: &[Text]) -> Result<Line, SchemaFault>
     ensures { spec.Gives (λ line. line) result (spec.line_with version key.now words.now) }
 {

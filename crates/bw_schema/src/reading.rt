@@ -51,6 +51,7 @@ fn read_said(alloc: Global, said: &[Words]) -> Result<(Name, Vec<Rule>), SchemaF
 }
 
 /// The root and the rules of a text.
+#[tactic(auto, unfolding(crate::specs::Reading::read))]
 fn read(alloc: Global, bytes: &[u8]) -> Result<(Name, Vec<Rule>), SchemaFault>
     ensures { spec.Answers (λ x. (x.0, x.1.items)) result (spec.read bytes.now) }
 {
