@@ -11,7 +11,7 @@ use Rattle.bw_schema.proofs.NeedsLaws.{before_append}
 use Rattle.bw_schema.proofs.Spelled.{both, ended_there, formula_sound, name_there, IsSpelled}
 use Rattle.bw_schema.specs.Forms.{are_formed, depth, is_name, is_nothing, is_paren, one, spell_needs}
 use Rattle.bw_schema.specs.Needs.{Needs, nothing, all_of, some_of, attr, one_value, content, order, append_needs}
-use Rattle.bw_schema.specs.NeedsView.{before_need}
+use Rattle.bw_schema.specs.NeedsView.{before_need, needs}
 use Rattle.bw_schema.specs.Reading.{attr_at, closed, content_at, count_values, ended, formula_at, formula_of, inside_at, name_at, needs_at, needs_next, opened, order_at, parts_at, simple_at, value_at}
 use Rattle.bw_schema.specs.Words.{has_some}
 use Rattle.bw_schema.specs.declared.needs.Formula.{Formula}
@@ -127,13 +127,26 @@ needs_complete d step c (content x rest) n r stop h e t =
 needs_complete d step c (order x y rest) n r stop h e t =
     begun d step c n (formula.Order x y) rest r (with_end _ _ h) (omega (arith, e)) t (λ m l. needs_complete d step c rest m r stop (behind _ _ h) (omega (arith, e)) l)
 
+-- what follows parts
+abbrev with_rest : Needs → List (List ℕ) → Option (Needs × List (List ℕ))
+with_rest ns rest = Some (ns, rest)
+
+abbrev ended_parts : Needs × List (List ℕ) → Option (Needs × List (List ℕ))
+ended_parts p = if is_nothing p.0 then None else (closed p.1 >>= with_rest p.0)
+
+abbrev as_and : Needs × List (List ℕ) → Option (Formula × List (List ℕ))
+as_and p = Some (formula.And p.0, p.1)
+
+abbrev as_or : Needs × List (List ℕ) → Option (Formula × List (List ℕ))
+as_or p = Some (formula.Or p.0, p.1)
+
 parts_complete : (d : ℕ) (step : Step) → Complete d step → (ns : Needs) (r : List (List ℕ)) → step (codes ")" ∷ r) ≡ None → (not (is_nothing ns) && are_formed ns) ≡ true → depth ns ≤ d
     → parts_at step (spell_needs ns (codes ")" ∷ r)) ≡ Some (ns, r)
 unfolding parts_at
 parts_complete d step c ns r stop h e =
     let k = both (not (is_nothing ns)) (are_formed ns) h in
     let words = spell_needs ns (codes ")" ∷ r) in
-    ap (λ (p : Needs × List (List ℕ)). if is_nothing p.0 then None else (closed p.1 >>= λ rest. Some (p.0, rest)))
+    ap ended_parts
       (needs_complete d step c ns (length words) (codes ")" ∷ r) stop k.1 e (omega (arith, longer ns (codes ")" ∷ r))))
     ∙ by_test (is_nothing ns) k.0
   where
@@ -149,11 +162,11 @@ no_formula (suc d) (w ∷ r) = refl
 
 open_complete : (d : ℕ) → Complete d (formula_at d) → (f : Formula) (r : List (List ℕ)) → are_formed (one f) ≡ true → depth (one f) ≤ suc d
     → formula_at (suc d) (spell_needs (one f) r) ≡ Some (f, r)
-unfolding formula_at, inside_at, simple_at
+unfolding formula_at inside_at simple_at
 open_complete d c (formula.And p) r h e =
-    ap (λ o. o >>= λ q. Some (formula.And q.0, q.1)) (parts_complete d (formula_at d) c p r (no_formula d r) (front _ _ h) (omega (arith, e)))
+    ap (λ o. o >>= as_and) (parts_complete d (formula_at d) c p r (no_formula d r) (front _ _ h) (omega (arith, e)))
 open_complete d c (formula.Or p) r h e =
-    ap (λ o. o >>= λ q. Some (formula.Or q.0, q.1)) (parts_complete d (formula_at d) c p r (no_formula d r) (front _ _ h) (omega (arith, e)))
+    ap (λ o. o >>= as_or) (parts_complete d (formula_at d) c p r (no_formula d r) (front _ _ h) (omega (arith, e)))
 open_complete d c (formula.Attr x) r h e = attr_complete x r (front _ _ h)
 open_complete d c (formula.OneOf x vs) r h e =
     let k = both (is_name class.Attr x) (has_some vs && list_all (λ v. not (is_paren v)) vs) (front _ _ h) in
@@ -226,7 +239,7 @@ at_once d n ws x e l m =
     ap (λ k. needs_at (formula_at d) k ws) l ∙ ap (λ o. needs_next o ws (needs_at (formula_at d) n)) e
     ∙ ap (λ (t : Needs × List (List ℕ)). (before_need x.0 t.0, t.1)) (needs_fuel d n (length x.1) x.1 m (omega arith))
 
-append_one : (done : Needs) (f : Formula) (b : Needs) → append_needs (append_needs done (before_need f nothing)) b ≡ append_needs done (before_need f b)
+pub append_one : (done : Needs) (f : Formula) (b : Needs) → append_needs (append_needs done (before_need f nothing)) b ≡ append_needs done (before_need f b)
 append_one nothing f b = before_append f nothing b
 append_one (all_of p rest) f b = ap (all_of p) (append_one rest f b)
 append_one (some_of p rest) f b = ap (some_of p) (append_one rest f b)
@@ -247,7 +260,7 @@ onto_more d done ws x all e h = by_words ws refl
         (λ i. (append_one done x.0 (all_needs d x.1).0 i, (all_needs d x.1).1)) ∙ ap (onto done) (sym once) ∙ h
 
 -- no more
-append-nothing : (a : Needs) → append_needs a nothing ≡ a
+pub append-nothing : (a : Needs) → append_needs a nothing ≡ a
 append-nothing nothing = refl
 append-nothing (all_of p rest) = ap (all_of p) (append-nothing rest)
 append-nothing (some_of p rest) = ap (some_of p) (append-nothing rest)
@@ -269,3 +282,23 @@ pub formula_again : (d : ℕ) (ws : List (List ℕ)) → 0 < d → formula_at d 
 unfolding formula_at
 formula_again zero ws h = absurd (omega (arith, h))
 formula_again (suc d) ws h = let e : d ≡ suc d - 1 = omega arith in ap (λ k. opened (inside_at (formula_at k)) ws) e
+
+pub no_depth : (d : ℕ) (ws : List (List ℕ)) → d ≡ 0 → formula_at d ws ≡ None
+unfolding formula_at
+no_depth d ws h = ap (λ k. formula_at k ws) h
+
+-- parts that were found
+pub some_needs : (fs : List Formula) → (length fs == 0) ≡ false → is_nothing (needs fs) ≡ false
+some_needs [] h = absurd (false≢true (sym h))
+some_needs (formula.And p ∷ fs) h = refl
+some_needs (formula.Or p ∷ fs) h = refl
+some_needs (formula.Attr x ∷ fs) h = refl
+some_needs (formula.OneOf x vs ∷ fs) h = refl
+some_needs (formula.Content x ∷ fs) h = refl
+some_needs (formula.Order x y ∷ fs) h = refl
+
+pub parts_found : (step : Step) (ws : List (List ℕ)) (ns : Needs) (behind rest : List (List ℕ)) → needs_at step (length ws) ws ≡ (ns, behind) → is_nothing ns ≡ false
+    → closed behind ≡ Some rest → parts_at step ws ≡ Some (ns, rest)
+unfolding parts_at
+parts_found step ws ns behind rest h n c =
+    ap ended_parts h ∙ ap (λ b. if b then None else (closed behind >>= with_rest ns)) n ∙ ap (λ o. o >>= with_rest ns) c

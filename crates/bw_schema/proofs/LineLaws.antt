@@ -51,8 +51,8 @@ formula_is : (v : ℕ) (ws : List (List ℕ)) (f : Formula) → (v == 2) ≡ tru
 unfolding formula_of
 formula_is v ws f two h =
     let b = bind_some (formula_at 16 ws) (λ x. if length x.1 == 0 then Some x.0 else None) f h in
-    let k = cond_some (length b.0.1 == 0) b.0.0 f b.1.1 in
-    let s = (formula_sound 16).one_is ws b.0 b.1.0 in
+    let k = cond_some (length b.0.1 == 0) b.0.0 f b.2 in
+    let s = (formula_sound 16).one_is ws b.0 b.1 in
     let made : IsWritten v (codes "need" ∷ ws) (Need b.0.0) = record {
         spelled = ap (λ (t : List (List ℕ)). codes "need" ∷ t) (s.spelled ∙ ap (spell_needs (one b.0.0)) (no_words b.0.1 k.0));
         formed = both_back (v == 2 && are_formed (one b.0.0)) (nat_le (depth (one b.0.0)) 16) (both_back (v == 2) (are_formed (one b.0.0)) two s.formed) (le-leb (depth (one b.0.0)) 16 s.deep);
@@ -68,7 +68,7 @@ rare_is v key ws line h = first (same key (codes "text") && (length ws == 0)) re
         let k = both (same key (codes "need")) (v == 2) e in
         let b = bind_some (formula_of ws) (λ f. Some (Need f)) line h in
         let n : Need b.0 ≡ line = cc in
-        with_key v key (codes "need") ws line k.0 (written_as v _ (Need b.0) line n (formula_is v ws b.0 k.1 b.1.0))
+        with_key v key (codes "need") ws line k.0 (written_as v _ (Need b.0) line n (formula_is v ws b.0 k.1 b.1))
     second false e h = absurd cc
 
     first : (b : Bool) → (same key (codes "text") && (length ws == 0)) ≡ b
@@ -89,7 +89,7 @@ names_line_is v key ws line h = first (same key (codes "may")) refl h
     made k c l e w h =
         let b = bind_some (names_of c ws) (λ names. Some (l names)) line h in
         let n : l b.0 ≡ line = cc in
-        let a = names_are c ws b.0 b.1.0 in
+        let a = names_are c ws b.0 b.1 in
         with_key v key k ws line e (written_as v _ (l b.0) line n (subst (λ (t : List (List ℕ)). IsWritten v (k ∷ t) (l b.0)) (sym a.0) (w b.0 a.1)))
 
     third : (b : Bool) → same key (codes "has") ≡ b → (if b then (names_of class.Tag ws >>= λ tags. Some (Has tags)) else None) ≡ Some line → IsWritten v (key ∷ ws) line
@@ -129,7 +129,7 @@ with_is v key ws line h = first (same key (codes "element")) refl h
     first true e h =
         let b = bind_some (tag_of ws) (λ tag. Some (Element tag)) line h in
         let n : Element b.0 ≡ line = cc in
-        let t = tag_is ws b.0 b.1.0 in
+        let t = tag_is ws b.0 b.1 in
         with_key v key (codes "element") ws line e
           (written_as v _ (Element b.0) line n (record { spelled = ap (λ (t : List (List ℕ)). codes "element" ∷ t) t.0; formed = t.1 }))
     first false e h = second (same key (codes "value")) refl h
@@ -142,10 +142,10 @@ pub lines_are : (v : ℕ) (said : List (List (List ℕ))) (lines : List Line) �
 lines_are v [] lines h = let n : [] ≡ lines = cc in (ap (map spell_line) n, ap (list_all (is_line v)) (sym n))
 lines_are v (ws ∷ said) lines h =
     let b = bind_some (line_of v ws) (λ line. lines_of v said >>= λ more. Some (line ∷ more)) lines h in
-    let k = bind_some (lines_of v said) (λ more. Some (b.0 ∷ more)) lines b.1.1 in
+    let k = bind_some (lines_of v said) (λ more. Some (b.0 ∷ more)) lines b.2 in
     let n : b.0 ∷ k.0 ≡ lines = cc in
-    let w = line_is v ws b.0 b.1.0 in
-    let rest = lines_are v said k.0 k.1.0 in
+    let w = line_is v ws b.0 b.1 in
+    let rest = lines_are v said k.0 k.1 in
     ((λ i. w.spelled i ∷ rest.0 i) ∙ ap (map spell_line) n, ap (list_all (is_line v)) (sym n) ∙ both_back (is_line v b.0) (list_all (is_line v) k.0) w.formed rest.1)
 
 -- ---- what is written so is read
@@ -161,7 +161,7 @@ unfolding formula_of
 formula_there f h e = ap (λ o. o >>= λ x. if length x.1 == 0 then Some x.0 else None) ((formula_complete 16).one_read f [] h e)
 
 pub line_there : (v : ℕ) (line : Line) → is_line v line ≡ true → line_of v (spell_line line) ≡ Some line
-unfolding line_with, names_line, rare_line
+unfolding line_with names_line rare_line
 line_there v (Element tag) h = ap (λ o. o >>= λ t. Some (Element t)) (tag_there tag h)
 line_there v (May names) h = ap (λ o. o >>= λ ns. Some (May ns)) (names_there class.Attr names h)
 line_there v (Must names) h = ap (λ o. o >>= λ ns. Some (Must ns)) (names_there class.Attr names h)
@@ -200,10 +200,10 @@ pub text_is : (v : ℕ) (said : List (List (List ℕ))) (t : List ℕ × List Li
 text_is v [] t h = absurd cc
 text_is v (ws ∷ said) t h =
     let b = bind_some (root_of ws) (λ root. lines_of v said >>= λ lines. if is_headed lines then Some (root, lines) else None) t h in
-    let k = bind_some (lines_of v said) (λ lines. if is_headed lines then Some (b.0, lines) else None) t b.1.1 in
-    let c = cond_some (is_headed k.0) (b.0, k.0) t k.1.1 in
-    let r = root_is ws b.0 b.1.0 in
-    let l = lines_are v said k.0 k.1.0 in
+    let k = bind_some (lines_of v said) (λ lines. if is_headed lines then Some (b.0, lines) else None) t b.2 in
+    let c = cond_some (is_headed k.0) (b.0, k.0) t k.2 in
+    let r = root_is ws b.0 b.1 in
+    let l = lines_are v said k.0 k.1 in
     let made : IsBehind v (ws ∷ said) b.0 k.0 = record {
         spelled = λ i. r.0 i ∷ l.0 i;
         root_tag = r.1;

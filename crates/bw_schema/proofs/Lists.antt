@@ -1,10 +1,12 @@
 -- Lists of lists, and the words of a line.
-use Rattle.std.proofs.Common.{◌≡◌, ℕ, ◌+◌, ◌<◌, Bool, true, false, cond, not, ◌||◌, List, [], ◌∷◌, ◌++◌, length, get_or, take, map, refl, ap, sym, ◌∙◌, append_assoc}
+use Rattle.std.proofs.Common.{◌≡◌, ℕ, ◌+◌, ◌-◌, ◌<◌, ◌≤◌, Bool, true, false, cond, not, ◌||◌, List, [], ◌∷◌, ◌++◌, length, get_or, take, drop, map, refl, ap, sym, ◌∙◌, append_assoc, arith}
 use Rattle.std.specs.Prelude.{flat_map, filter, ◌==◌, if◌then◌else◌}
 use Rattle.std.specs.List.{slice_split, onto_first}
 use Rattle.std.specs.Str.Lines.{lines}
+use Rattle.std.proofs.Math.Dec.{eqb-suc-zero}
+use Rattle.std.proofs.Math.Nat.{suc-ne-zero}
 use Rattle.std.proofs.lemmas.Grind.{flat_map-append}
-use Rattle.std.proofs.lemmas.List.{take_more, append-nil}
+use Rattle.std.proofs.lemmas.List.{take_more, append-nil, length-drop, nil_from_length, take-append-drop}
 use Rattle.std.proofs.lemmas.List.Elements.{filter-append}
 use Rattle.bw_schema.specs.Words.{has_some, is_skipped, parts_words, said, words_of}
 
@@ -106,3 +108,39 @@ said_each (l ∷ ls) = by_test (not (is_skipped l)) (said_each ls)
 
 pub said_all : (text : List ℕ) → flat_map said_by (lines text) ≡ said text
 said_all text = said_each (lines text)
+
+-- ---- steps of loops
+
+-- no word stands in nothing
+pub no_words : (part : List ℕ) (old : List (List ℕ)) → length part ≡ 0 → old ≡ old ++ tab_words part
+no_words [] old h = sym (append-nil old)
+no_words (b ∷ part) old h = absurd (suc-ne-zero (length part) h)
+
+pub kept_none : (w : List ℕ) → length w ≡ 0 → kept w ≡ []
+kept_none [] h = refl
+kept_none (b ∷ w) h = absurd (suc-ne-zero (length w) h)
+
+pub kept_one : (w : List ℕ) → (length w ≡ 0 → ⊥) → kept w ≡ w ∷ []
+kept_one [] h = absurd (h refl)
+kept_one (b ∷ w) h = ap (λ c. if not c then (b ∷ w) ∷ [] else []) (eqb-suc-zero (length w))
+
+pub said_none : (line : List ℕ) → is_skipped line ≡ true → said_by line ≡ []
+said_none line h = ap (λ b. if not b then words_of line ∷ [] else []) h
+
+pub said_one : (line : List ℕ) → is_skipped line ≡ false → said_by line ≡ words_of line ∷ []
+said_one line h = ap (λ b. if not b then words_of line ∷ [] else []) h
+
+pub ruleset word_steps = (flat_onto, flat_grow, kept_none, kept_one, said_none, said_one)
+
+-- behind its end nothing is left of a list
+pub drop_past : {A : Type 0} (xs : List A) (i : ℕ) → length xs ≤ i → drop i xs ≡ []
+drop_past xs i h = nil_from_length (drop i xs) (omega (arith, length-drop i xs, h))
+
+-- and all of it is in front
+take_past : {A : Type 0} (xs : List A) (i : ℕ) → length xs ≤ i → take i xs ≡ xs
+take_past xs i h = sym (append-nil (take i xs)) ∙ ap (λ t. take i xs ++ t) (sym (drop_past xs i h)) ∙ take-append-drop i xs
+
+-- what a loop over parts comes to, where each gives what f gives
+pub flat_end : {A B C : Type 0} (f : B → List C) (g : A → B) (items : List A) (i : ℕ) (all : List B) → length items ≤ i → map g items ≡ all
+    → flat_map (λ x. f (g x)) (take i items) ≡ flat_map f all
+flat_end f g items i all h e = ap (flat_map (λ x. f (g x))) (take_past items i h) ∙ flat_map-map f g items ∙ ap (flat_map f) e

@@ -2,7 +2,7 @@
 use Rattle.std.proofs.Common.{◌≡◌, ℕ, ◌+◌, ◌<◌, ◌≤◌, Bool, true, false, ◌||◌, List, [], ◌∷◌, ◌++◌, length, get_or, take, drop, map, Option, Some, None, refl, ap, sym, ◌∙◌, arith, append_assoc}
 use Rattle.std.specs.Prelude.{flat_map, if◌then◌else◌}
 use Rattle.std.specs.List.{list_any}
-use Rattle.std.proofs.lemmas.List.{take_more, drop_more, append-nil, map-append}
+use Rattle.std.proofs.lemmas.List.{take_more, drop_more, append-nil}
 use Rattle.bw_lang.specs.Options.{◌>>=◌}
 use Rattle.bw_schema.specs.Forms.{one}
 use Rattle.bw_schema.specs.Judging.{marks_of}
@@ -20,6 +20,7 @@ use Rattle.bw_schema.specs.declared.needs.Formula.{Formula}
 use Rattle.bw_schema.specs.declared.needs.Formula.TheVariants as formula
 use Rattle.bw_schema.specs.declared.rules.Rule.{Rule}
 use Rattle.bw_schema.proofs.Complete.{append-nothing, append_one}
+use Rattle.bw_schema.proofs.Lists.{drop_past}
 use Rattle.bw_schema.proofs.NeedsLaws.{needs_more}
 
 -- what is left of a list begins with what was read
@@ -177,3 +178,6 @@ rules_skip (Need f) lines h = refl
 
 pub needs_read : (fs : List Formula) (i : ℕ) (f : Formula) → f ≡ get_or fs i f → i < length fs → needs (take (i + 1) fs) ≡ append_needs (needs (take i fs)) (before_need f nothing)
 needs_read fs i f e h = ap needs (take_read fs i f e h) ∙ needs_more (take i fs) f
+
+pub filled_end : (r : Rule) (lines : List Line) (i : ℕ) → length lines ≤ i → filled r (own (drop i lines)) ≡ r
+filled_end r lines i h = ap (λ t. filled r (own t)) (drop_past lines i h) ∙ filled_none r

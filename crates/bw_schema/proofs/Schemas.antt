@@ -24,6 +24,10 @@ use Rattle.bw_schema.specs.declared.rules.Rule.{Rule}
 abbrev Answer : Type 0
 Answer = Result (List ℕ × List Rule) SchemaFault
 
+is_ok : Answer → Bool
+is_ok (Ok t) = true
+is_ok (Err e) = false
+
 -- ---- the first line
 
 record IsFirst (ws : List (List ℕ)) (v : ℕ) : Type 0 where
@@ -46,7 +50,7 @@ version_there w h = ap (λ b. if b then Some (digits_value 10 w) else None) h
 
 -- ---- each step of reading, where what it asks is there
 
-short_step : (bytes : List ℕ) → IsShort bytes → IsUtf8 bytes → read bytes ≡ read_said (said bytes)
+pub short_step : (bytes : List ℕ) → IsShort bytes → IsUtf8 bytes → read bytes ≡ read_said (said bytes)
 unfolding read
 short_step bytes h u =
     ap (λ b. if b then Err fault.TooLong else (if is_utf8 bytes then read_said (said bytes) else Err fault.Malformed)) (le-ltb 1048576 (length bytes) h)
@@ -153,7 +157,7 @@ record Says (bytes : List ℕ) (ws : List (List ℕ)) (more : List (List (List �
 -- a version of the text is its version, and stands in front of the same
 record Agrees (more : List (List (List ℕ))) (v : ℕ) (behind : List (List (List ℕ))) (w : ℕ) : Type 0 where
   version : w ≡ v
-  more : behind ≡ more
+  rest : behind ≡ more
 
 agree : (bytes : List ℕ) (ws : List (List ℕ)) (more : List (List (List ℕ))) (v w : ℕ) → Says bytes ws more v → (h : HasVersion bytes w) → Agrees more v h.behind w
 agree bytes ws more v w s h =
@@ -162,7 +166,7 @@ agree bytes ws more v w s h =
     let rest : more ≡ h.behind = cc in
     let o : Some v ≡ Some w = sym s.version ∙ ap version_of first ∙ version_there h.number h.is_number ∙ ap Some h.value in
     let n : v ≡ w = cc in
-    record { version = sym n; more = sym rest }
+    record { version = sym n; rest = sym rest }
 
 text_verdict : (bytes : List ℕ) (ws : List (List ℕ)) (more : List (List (List ℕ))) (v : ℕ) → IsShort bytes → IsUtf8 bytes → Says bytes ws more v → is_read v ≡ true
     → (o : Option (List ℕ × List Line)) → text_of v more ≡ o → Verdict bytes (judged_text o)
@@ -185,7 +189,7 @@ text_verdict bytes ws more v short u s good None e = (malformed_is, record {
   text = λ root lines t.
     let a = agree bytes ws more v t.version s t.has_version in
     let there : text_of v more ≡ Some (root, lines) =
-        sym (λ i. text_of (a.version i) (a.more i)) ∙ text_there t.version t.has_version.behind root lines (is_behind bytes root lines t) in
+        sym (λ i. text_of (a.version i) (a.rest i)) ∙ text_there t.version t.has_version.behind root lines (is_behind bytes root lines t) in
     absurd (none_some (root, lines) (sym e ∙ there));
 })
 
@@ -233,6 +237,20 @@ read_is bytes root rules h = subst (Verdict bytes) h (decide bytes)
 pub refused_is : (bytes : List ℕ) (e : SchemaFault) → read bytes ≡ Err e → IsRefused bytes e
 refused_is bytes e h = let v : Verdict bytes (Err e) = subst (Verdict bytes) h (decide bytes) in v.1
 
+-- what a call answers, want of memory aside
+pub says_refused : (bytes : List ℕ) (e : SchemaFault) → (e ≡ fault.Memory) ⊎ (read bytes ≡ Err e) → IsRefused bytes e
+says_refused bytes e (inl m) = subst (IsRefused bytes) (sym m) tt
+says_refused bytes e (inr h) = refused_is bytes e h
+
+pub not_utf8 : (bytes : List ℕ) → IsShort bytes → (IsUtf8 bytes → ⊥) → read bytes ≡ Err fault.Malformed
+unfolding read
+not_utf8 bytes h u =
+    ap (λ b. if b then Err fault.TooLong else (if is_utf8 bytes then read_said (said bytes) else Err fault.Malformed)) (le-ltb 1048576 (length bytes) h) ∙ by_test (is_utf8 bytes) refl
+  where
+    by_test : (b : Bool) → is_utf8 bytes ≡ b → (if b then read_said (said bytes) else Err fault.Malformed) ≡ Err fault.Malformed
+    by_test true e = absurd (u (IsUtf8-from_is_utf8 bytes e))
+    by_test false e = refl
+
 -- ---- laws
 
 malformed_there : (bytes : List ℕ) → IsMalformed bytes → (r : Answer) → Verdict bytes r → r ≡ Err fault.Malformed
@@ -259,7 +277,8 @@ one_schema bytes r s q t h k =
     (ap (λ (x : List ℕ × List Rule). x.0) p, ap (λ (x : List ℕ × List Rule). x.1) p)
 
 pub not_both : NotBoth
-not_both bytes r q e h n k = let c : Ok (r, q) ≡ Err e = sym (reads_there bytes r q h) ∙ refused_there bytes e n k in absurd cc
+unfolding is_ok
+not_both bytes r q e h n k = false≢true (sym (ap is_ok (sym (reads_there bytes r q h) ∙ refused_there bytes e n k)))
 
 pub one_reason : OneReason
 one_reason bytes d e m n h k = let c : Err d ≡ Err e = sym (refused_there bytes d m h) ∙ refused_there bytes e n k in cc

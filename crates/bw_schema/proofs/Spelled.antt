@@ -42,7 +42,7 @@ name_is c (w ∷ ws) x h =
     let e = cond_some (is_name c w) (w, ws) x h in
     (λ i. (e.1 i).0 ∷ (e.1 i).1, ap (λ (y : List ℕ × List (List ℕ)). is_name c y.0) (sym e.1) ∙ e.0)
 
-name_there : (c : NameClass) (w : List ℕ) (ws : List (List ℕ)) → is_name c w ≡ true → name_at c (w ∷ ws) ≡ Some (w, ws)
+pub name_there : (c : NameClass) (w : List ℕ) (ws : List (List ℕ)) → is_name c w ≡ true → name_at c (w ∷ ws) ≡ Some (w, ws)
 name_there c w ws h = ap (λ b. if b then Some (w, ws) else None) h
 
 ended_is : (f : Formula) (ws : List (List ℕ)) (x : Formula × List (List ℕ)) → ended f ws ≡ Some x → (x.0 ≡ f) × (ws ≡ codes ")" ∷ x.1)
@@ -50,9 +50,9 @@ unfolding ended
 ended_is f ws x h =
     let b = bind_some (closed ws) (λ rest. Some (f, rest)) x h in
     let e : (f, b.0) ≡ x = cc in
-    (ap (λ (y : Formula × List (List ℕ)). y.0) (sym e), closed_is ws b.0 b.1.0 ∙ ap (λ (y : Formula × List (List ℕ)). codes ")" ∷ y.1) e)
+    (ap (λ (y : Formula × List (List ℕ)). y.0) (sym e), closed_is ws b.0 b.1 ∙ ap (λ (y : Formula × List (List ℕ)). codes ")" ∷ y.1) e)
 
-ended_there : (f : Formula) (ws : List (List ℕ)) → ended f (codes ")" ∷ ws) ≡ Some (f, ws)
+pub ended_there : (f : Formula) (ws : List (List ℕ)) → ended f (codes ")" ∷ ws) ≡ Some (f, ws)
 unfolding ended
 ended_there f ws = refl
 
@@ -70,8 +70,8 @@ attr_sound : (d : ℕ) (ws : List (List ℕ)) (x : Formula × List (List ℕ)) �
 unfolding attr_at
 attr_sound d ws x h =
     let b = bind_some (name_at class.Attr ws) (λ n. ended (formula.Attr n.0) n.1) x h in
-    let n = name_is class.Attr ws b.0 b.1.0 in
-    let e = ended_is (formula.Attr b.0.0) b.0.1 x b.1.1 in
+    let n = name_is class.Attr ws b.0 b.1 in
+    let e = ended_is (formula.Attr b.0.0) b.0.1 x b.2 in
     spelled_as (suc d) _ x.0 (formula.Attr b.0.0) x.1 e.0 (record {
       spelled = ap (λ (t : List (List ℕ)). codes "(" ∷ codes "attr" ∷ t) (n.0 ∙ ap (λ (t : List (List ℕ)). b.0.0 ∷ t) e.1);
       formed = both_back (is_name class.Attr b.0.0) true n.1 refl;
@@ -82,8 +82,8 @@ content_sound : (d : ℕ) (ws : List (List ℕ)) (x : Formula × List (List ℕ)
 unfolding content_at
 content_sound d ws x h =
     let b = bind_some (name_at class.Tag ws) (λ n. ended (formula.Content n.0) n.1) x h in
-    let n = name_is class.Tag ws b.0 b.1.0 in
-    let e = ended_is (formula.Content b.0.0) b.0.1 x b.1.1 in
+    let n = name_is class.Tag ws b.0 b.1 in
+    let e = ended_is (formula.Content b.0.0) b.0.1 x b.2 in
     spelled_as (suc d) _ x.0 (formula.Content b.0.0) x.1 e.0 (record {
       spelled = ap (λ (t : List (List ℕ)). codes "(" ∷ codes "content" ∷ t) (n.0 ∙ ap (λ (t : List (List ℕ)). b.0.0 ∷ t) e.1);
       formed = both_back (is_name class.Tag b.0.0) true n.1 refl;
@@ -94,10 +94,10 @@ order_sound : (d : ℕ) (ws : List (List ℕ)) (x : Formula × List (List ℕ)) 
 unfolding order_at
 order_sound d ws x h =
     let b = bind_some (name_at class.Tag ws) (λ n. name_at class.Tag n.1 >>= λ m. ended (formula.Order n.0 m.0) m.1) x h in
-    let n = name_is class.Tag ws b.0 b.1.0 in
-    let q = bind_some (name_at class.Tag b.0.1) (λ m. ended (formula.Order b.0.0 m.0) m.1) x b.1.1 in
-    let m = name_is class.Tag b.0.1 q.0 q.1.0 in
-    let e = ended_is (formula.Order b.0.0 q.0.0) q.0.1 x q.1.1 in
+    let n = name_is class.Tag ws b.0 b.1 in
+    let q = bind_some (name_at class.Tag b.0.1) (λ m. ended (formula.Order b.0.0 m.0) m.1) x b.2 in
+    let m = name_is class.Tag b.0.1 q.0 q.1 in
+    let e = ended_is (formula.Order b.0.0 q.0.0) q.0.1 x q.2 in
     spelled_as (suc d) _ x.0 (formula.Order b.0.0 q.0.0) x.1 e.0 (record {
       spelled =
         ap (λ (t : List (List ℕ)). codes "(" ∷ codes "order" ∷ t)
@@ -135,10 +135,10 @@ value_sound d ws x h =
     let after : List ℕ × List (List ℕ) → Option (Formula × List (List ℕ)) =
         λ n. if count_values n.1 == 0 then None else ended (formula.OneOf n.0 (take (count_values n.1) n.1)) (drop (count_values n.1) n.1) in
     let b = bind_some (name_at class.Attr ws) after x h in
-    let n = name_is class.Attr ws b.0 b.1.0 in
+    let n = name_is class.Attr ws b.0 b.1 in
     let k = count_values b.0.1 in
     let vs = take k b.0.1 in
-    let some = cond_none (k == 0) (ended (formula.OneOf b.0.0 vs) (drop k b.0.1)) x b.1.1 in
+    let some = cond_none (k == 0) (ended (formula.OneOf b.0.0 vs) (drop k b.0.1)) x b.2 in
     let e = ended_is (formula.OneOf b.0.0 vs) (drop k b.0.1) x some.1 in
     spelled_as (suc d) _ x.0 (formula.OneOf b.0.0 vs) x.1 e.0 (record {
       spelled =
@@ -255,7 +255,7 @@ parts_sound d step s ws p h =
     let e : (q.0, b.0) ≡ p = cc in
     let r = needs_sound d step s (length ws) ws in
     let made : ArePartsSpelled d ws q.0 b.0 = record {
-        spelled = r.spelled ∙ ap (spell_needs q.0) (closed_is q.1 b.0 b.1.0);
+        spelled = r.spelled ∙ ap (spell_needs q.0) (closed_is q.1 b.0 b.1);
         formed = both_back (not (is_nothing q.0)) (are_formed q.0) (ap not some.0) r.formed;
         deep = r.deep;
       } in
@@ -272,7 +272,7 @@ inside_sound d step s head ws x h = first (same head (codes "and")) refl h
     made k c e one_of h =
         let b = bind_some (parts_at step ws) (λ p. Some (c p.0, p.1)) x h in
         let f : (c b.0.0, b.0.1) ≡ x = cc in
-        let p = one_of b.0.0 b.0.1 (parts_sound d step s ws b.0 b.1.0) in
+        let p = one_of b.0.0 b.0.1 (parts_sound d step s ws b.0 b.1) in
         subst (λ (t : Formula × List (List ℕ)). IsSpelled (suc d) (codes "(" ∷ head ∷ ws) t.0 t.1) f
           (subst (λ w. IsSpelled (suc d) (codes "(" ∷ w ∷ ws) (c b.0.0) b.0.1) (sym (same_is head k e)) p)
 

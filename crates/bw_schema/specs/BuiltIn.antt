@@ -1,5 +1,6 @@
 -- The schema by which pages are judged where no other is given.
-use Rattle.std.specs.Prelude.{◌==◌, ℕ, String, Bool, true, false, List, [], ◌∷◌, codes}
+use Prim.Native.String.{String}
+use Rattle.std.specs.Prelude.{◌==◌, ℕ, Bool, true, false, List, [], ◌∷◌, codes}
 use Rattle.std.specs.List.{slice_split}
 use Rattle.bw_schema.specs.Needs.{nothing}
 use Rattle.bw_schema.specs.declared.rules.Rule.{Rule}

@@ -1,3 +1,4 @@
+pub mod BuiltIn
 pub mod Forms
 pub mod Judging
 pub mod Laws

@@ -1,9 +1,11 @@
 -- What the lines of a schema declare, and what they use: marks that say of which rule, of what and by which name.
-use Rattle.std.specs.Prelude.{ℕ, suc, Bool, true, false, ◌&&◌, ◌==◌, if◌then◌else◌, List, [], ◌∷◌, ◌++◌, map, codes, Option, Some, None}
+use Rattle.std.specs.Prelude.{ℕ, suc, Bool, ◌&&◌, ◌==◌, if◌then◌else◌, List, [], ◌∷◌, ◌++◌, map, codes, Option, Some, None}
 use Rattle.std.specs.List.{list_any}
+use denote.Enum.Bare.{sameb}
 use Rattle.bw_lang.specs.Names.{same}
 use Rattle.bw_schema.specs.Forms.{one}
 use Rattle.bw_schema.specs.Needs.{Needs, nothing, all_of, some_of, attr, one_value, content, order}
+use Rattle.bw_schema.specs.contracts.marks.Kind.{the_type}
 use Rattle.bw_schema.specs.declared.lines.Line.{Line}
 use Rattle.bw_schema.specs.declared.lines.Line.TheVariants.{Element, May, Must, Value, Has, Text, Need}
 use Rattle.bw_schema.specs.declared.marks.Kind.{Kind}
@@ -18,13 +20,9 @@ pub record Mark : Type 0 where
 abbrev pub mark : ℕ → Kind → List ℕ → Mark
 mark n k w = record { rule = n; kind = k; name = w }
 
+-- `==` on kinds
 abbrev pub same_kind : Kind → Kind → Bool
-same_kind kinds.Element kinds.Element = true
-same_kind kinds.Attribute kinds.Attribute = true
-same_kind kinds.Value kinds.Value = true
-same_kind kinds.Child kinds.Child = true
-same_kind kinds.Text kinds.Text = true
-same_kind a b = false
+same_kind = sameb the_type
 
 abbrev pub same_mark : Mark → Mark → Bool
 same_mark a b = a.rule == b.rule && (same_kind a.kind b.kind && same a.name b.name)

@@ -47,11 +47,18 @@ pub fn is_name(class: NameClass, word: &Text) -> bool
     }
 }
 
+/// Whether the words are names of the class.
+fn all_names(class: NameClass, words: &[Text]) -> bool
+    ensures { result ≡ list_all (spec.is_name class) words.now }
+{
+    words.iter().all(|word| is_name(class, word))
+}
+
 /// Whether the words are names of the class, and there is one at least.
 pub fn are_names(class: NameClass, words: &[Text]) -> bool
     ensures { result ≡ spec.are_names class words.now }
 {
-    !words.is_empty() && words.iter().all(|word| is_name(class, word))
+    !words.is_empty() && all_names(class, words)
 }
 
 fn all_digits(word: &[u8]) -> bool

@@ -49,6 +49,25 @@ all_hold true true true false t u h = absurd (false≢true h.fourth)
 all_hold true true true true false u h = absurd (false≢true h.fifth)
 all_hold true true true true true false h = absurd (false≢true h.last)
 
+-- the tests of an element, in their order
+abbrev first_test : Rule → List Attr → Bool
+first_test r attrs = v.each_fixed (λ x w. allows r x) attrs
+
+abbrev second_test : Rule → List Attr → Bool
+second_test r attrs = list_all (v.has_fixed attrs) r.must
+
+abbrev third_test : Rule → List Attr → Bool
+third_test r attrs = v.each_fixed (permits r.values) attrs
+
+abbrev fourth_test : Rule → Forest → Bool
+fourth_test r inner = v.each_child (is_among r.has) inner
+
+abbrev fifth_test : Rule → Forest → Bool
+fifth_test r inner = r.text || v.each_text is_blank inner
+
+abbrev last_test : Rule → List Attr → Forest → Bool
+last_test r attrs inner = v.holds true r.needs attrs inner
+
 placed_none : (n : ℕ) (o : Option ℕ) → b.placed n o ≡ None → o ≡ None
 placed_none n None h = refl
 placed_none n (Some k) h = absurd (some_none _ h)
@@ -60,13 +79,13 @@ then_none (Some x) y h = absurd (some_none x h)
 follows : (o : Option Rule) (attrs : List Attr) (inner : Forest) → b.broken_at o attrs inner ≡ None → IfSome o (λ r. v.Obeys r attrs inner)
 follows None attrs inner h = tt
 follows (Some r) attrs inner h =
-    let k = none_fails _ _ _ _ _ _ h in
+    let k = none_fails (first_test r attrs) (second_test r attrs) (third_test r attrs) (fourth_test r inner) (fifth_test r inner) (last_test r attrs inner) h in
     record { allowed = k.first; required = k.second; values = k.third; children = k.fourth; texts = k.fifth; needs = k.last }
 
 follows_back : (o : Option Rule) (attrs : List Attr) (inner : Forest) → IfSome o (λ r. v.Obeys r attrs inner) → b.broken_at o attrs inner ≡ None
 follows_back None attrs inner h = refl
 follows_back (Some r) attrs inner h =
-    all_hold _ _ _ _ _ _ (record { first = h.allowed; second = h.required; third = h.values; fourth = h.children; fifth = h.texts; last = h.needs })
+    all_hold (first_test r attrs) (second_test r attrs) (third_test r attrs) (fourth_test r inner) (fifth_test r inner) (last_test r attrs inner) (record { first = h.allowed; second = h.required; third = h.values; fourth = h.children; fifth = h.texts; last = h.needs })
 
 pub unbroken : (rules : List Rule) (n : ℕ) (t : Forest) → b.first_broken rules n t ≡ None → v.EveryElement (v.Follows rules) t
 unbroken rules n none h = tt
@@ -104,7 +123,8 @@ first_six p q r s t u e f g h k l = λ i. first_false (e i) (f i) (g i) (h i) (k
 closed_broken : (o : Option Rule) (a : List Attr) (i : Forest) → b.broken_at o (closed_attrs a) (close i) ≡ b.broken_at o a i
 closed_broken None a i = refl
 closed_broken (Some r) a i =
-    first_six _ _ _ _ _ _ (closed_each (λ x w. allows r x) a) (all_has a r.must) (closed_each (permits r.values) a) (closed_child (is_among r.has) i)
+    first_six (first_test r (closed_attrs a)) (second_test r (closed_attrs a)) (third_test r (closed_attrs a)) (fourth_test r (close i)) (fifth_test r (close i)) (last_test r (closed_attrs a) (close i))
+      (closed_each (λ x w. allows r x) a) (all_has a r.must) (closed_each (permits r.values) a) (closed_child (is_among r.has) i)
       (ap (λ c. r.text || c) (closed_text is_blank i)) (closed_holds true r.needs a i)
 
 closed_elements : (t : Forest) → elements (close t) ≡ elements t

@@ -2,6 +2,7 @@
 use Rattle.std.proofs.Common.{◌≡◌, ℕ, suc, ◌+◌, ◌<◌, ◌≤◌, Bool, true, false, not, ◌||◌, ◌&&◌, List, [], ◌∷◌, ◌++◌, length, Option, Some, None, take, drop, get_or, refl, ap, sym, ◌∙◌, arith}
 use Rattle.std.specs.List.{list_all}
 use Rattle.std.proofs.lemmas.Bool.{false≢true}
+use Rattle.std.proofs.lemmas.List.{drop_more}
 use Rattle.bw_lang.specs.declared.items.Attr.{Attr}
 use Rattle.bw_lang.specs.declared.items.Item.{Item}
 use Rattle.bw_lang.specs.declared.items.Item.TheVariants.{Text, Element, Gap}
@@ -113,6 +114,18 @@ order_goes_on p x y (Text s) f h = ap (λ q. ordered_behind q x y f) (as_before 
 order_goes_on p x y (Gap g) f h = ap (λ q. ordered_behind q x y f) (as_before p)
 order_goes_on p x y (Element e) f h = goes_on p (is_other x e.tag) (is_other y e.tag) (each_child (is_other x) f) (ordered x y f) h
 
+-- the same along a list of items
+pub order_done : (x y : List ℕ) (p : Bool) (xs : List Item) (i : ℕ) (item : Item) → item ≡ get_or xs i item → i < length xs
+  → (p && not (each_child (is_other x) (before item none))) ≡ true → ordered_behind p x y (forest (drop i xs)) ≡ false
+order_done x y p xs i item e h k =
+    ap (λ t. ordered_behind p x y (forest t)) (drop_more xs i item h ∙ ap (λ z. z ∷ drop (i + 1) xs) (sym e)) ∙ order_stops p x y item (forest (drop (i + 1) xs)) k
+
+pub order_more : (x y : List ℕ) (p : Bool) (xs : List Item) (i : ℕ) (item : Item) → item ≡ get_or xs i item → i < length xs
+  → (p && not (each_child (is_other x) (before item none))) ≡ false
+  → ordered_behind p x y (forest (drop i xs)) ≡ ordered_behind (p || not (each_child (is_other y) (before item none))) x y (forest (drop (i + 1) xs))
+order_more x y p xs i item e h k =
+    ap (λ t. ordered_behind p x y (forest t)) (drop_more xs i item h ∙ ap (λ z. z ∷ drop (i + 1) xs) (sym e)) ∙ order_goes_on p x y item (forest (drop (i + 1) xs)) k
+
 -- ---- formulas
 
 -- the first formula, and then the others
@@ -136,5 +149,18 @@ joined_goes_on true true rest h = refl
 joined_goes_on true false rest h = absurd (false≢true h)
 joined_goes_on false true rest h = absurd (false≢true (sym h))
 joined_goes_on false false rest h = refl
+
+-- one formula more
+pub holds_stops : (b : Bool) (fs : List Formula) (i : ℕ) (f : Formula) (one : Bool) (a : List Attr) (t : Forest) → f ≡ get_or fs i f → i < length fs → one ≡ holds_alone f a t → (one ≡ b → ⊥)
+  → holds b (needs (drop i fs)) a t ≡ one
+holds_stops b fs i f one a t e h k n =
+    ap (λ z. holds b (needs z) a t) (drop_more fs i f h ∙ ap (λ z. z ∷ drop (i + 1) fs) (sym e)) ∙ holds_before b f (needs (drop (i + 1) fs)) a t
+    ∙ ap (λ o. joined b o (holds b (needs (drop (i + 1) fs)) a t)) (sym k) ∙ joined_stops b one (holds b (needs (drop (i + 1) fs)) a t) n
+
+pub holds_goes_on : (b : Bool) (fs : List Formula) (i : ℕ) (f : Formula) (one : Bool) (a : List Attr) (t : Forest) → f ≡ get_or fs i f → i < length fs → one ≡ holds_alone f a t → one ≡ b
+  → holds b (needs (drop i fs)) a t ≡ holds b (needs (drop (i + 1) fs)) a t
+holds_goes_on b fs i f one a t e h k n =
+    ap (λ z. holds b (needs z) a t) (drop_more fs i f h ∙ ap (λ z. z ∷ drop (i + 1) fs) (sym e)) ∙ holds_before b f (needs (drop (i + 1) fs)) a t
+    ∙ ap (λ o. joined b o (holds b (needs (drop (i + 1) fs)) a t)) (sym k) ∙ joined_goes_on b one (holds b (needs (drop (i + 1) fs)) a t) n
 
 pub ruleset walk_steps = (forest_steps, or_then_none, first_broken-append, child-append, texts-append)

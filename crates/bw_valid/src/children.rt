@@ -1,5 +1,5 @@
 //! The children of an element. Open gaps count as absent.
-ghost use Rattle.std.specs.Prelude.{◌≡◌};
+ghost use Rattle.std.specs.Prelude.{◌≡◌, ◌&&◌, ◌||◌, not};
 ghost use Rattle.bw_lang.specs.Forest.{none};
 ghost use Rattle.bw_lang.specs.View.{before};
 ghost use Rattle.bw_schema.specs.Validity as validity;
@@ -81,16 +81,30 @@ pub fn lacks_child(tag: &str, items: &Items) -> bool
     lacking
 }
 
+/// Whether an item breaks the order: it is of the tag that comes first, and one that comes last was passed.
+fn stops(passed: bool, first: &str, item: &Item) -> bool
+    ensures { result ≡ (passed && not (validity.each_child (validity.is_other first.now) (before item.now none))) }
+{
+    passed && !is_other(first, item)
+}
+
+/// Whether one that comes last was passed, behind an item.
+fn passes(passed: bool, last: &str, item: &Item) -> bool
+    ensures { result ≡ (passed || not (validity.each_child (validity.is_other last.now) (before item.now none))) }
+{
+    passed || !is_other(last, item)
+}
+
 /// Whether no child element of the tag `last` stands before one of the tag `first`.
 pub fn is_ordered(first: &str, last: &str, items: &Items) -> bool
     ensures { result ≡ validity.ordered first.now last.now items.now }
 {
     let mut passed = false;
     for item in items.as_slice() {
-        if passed && !is_other(first, item) {
+        if stops(passed, first, item) {
             return false;
         }
-        passed = passed || !is_other(last, item);
+        passed = passes(passed, last, item);
     }
     true
 }
