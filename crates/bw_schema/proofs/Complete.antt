@@ -150,7 +150,7 @@ parts_complete d step c ns r stop h e =
       (needs_complete d step c ns (length words) (codes ")" ∷ r) stop k.1 e (omega (arith, longer ns (codes ")" ∷ r))))
     ∙ by_test (is_nothing ns) k.0
   where
-    by_test : (b : Bool) → not b ≡ true → (if b then None else Some (ns, r)) ≡ Some (ns, r)
+    by_test : (b : Bool) → not b ≡ true → (if b then None else with_rest ns r) ≡ with_rest ns r
     by_test true h = absurd (false≢true h)
     by_test false h = refl
 

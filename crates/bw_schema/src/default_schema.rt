@@ -1,5 +1,8 @@
 //! The schema by which pages are judged where no other is given.
 
+ghost use Rattle.std.specs.Prelude.{IfOk};
+ghost use Rattle.bw_schema.specs.Reads.{Reads};
+
 use crate::reading::read_schema;
 use crate::schema::Schema;
 use bw_lang::Memory;
@@ -134,6 +137,7 @@ pub const BUILT_IN: &str = "\
 
 /// The schema by which pages are judged where no other is given. docs/SCHEMA.md says in words what it allows.
 pub fn built_in(alloc: Global) -> Result<Schema, Memory>
+    ensures { IfOk result (λ s. Reads BUILT_IN.now s.root s.elements) }
 {
     match read_schema(alloc, BUILT_IN.as_bytes()) {
         Ok(schema) => Ok(schema),
