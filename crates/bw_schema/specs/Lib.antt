@@ -1,0 +1,16 @@
+pub mod BuiltIn
+pub mod Forms
+pub mod Judging
+pub mod Laws
+pub mod MarkView
+pub mod Marks
+pub mod Needs
+pub mod NeedsCode
+pub mod NeedsFalls
+pub mod NeedsView
+pub mod Reading
+pub mod Reads
+pub mod Rules
+pub mod RulesOf
+pub mod Validity
+pub mod Words
