@@ -1,2 +1,3 @@
 pub mod BreachLaws
+pub mod JoinedLaws
 pub mod Walks
