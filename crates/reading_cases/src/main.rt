@@ -1,7 +1,8 @@
-//! Worked examples of reading, kept as data: texts that become tokens, insides of templates that become items, pages
-//! that are read, and expressions that are grouped. `case_files` says how the files are written.
+//! Worked examples of reading, kept as data: texts that become tokens, insides of templates that become items, the
+//! controls in them, pages that are read, and expressions that are grouped. `case_files` says how the files are written.
 #![tactic(auto)]
 
+mod controls;
 mod pages;
 mod shapes;
 mod templates;
@@ -20,6 +21,8 @@ enum Reading {
     Tokens,
     /// Insides of templates that become items.
     Templates,
+    /// Controls in templates.
+    Controls,
     /// Bytes that are a page or none.
     Pages,
 }
@@ -30,6 +33,7 @@ impl Kind for Reading {
             Reading::Shapes => "shapes.cases",
             Reading::Tokens => "tokens.cases",
             Reading::Templates => "templates.cases",
+            Reading::Controls => "controls.cases",
             Reading::Pages => "pages.cases",
         }
     }
@@ -39,6 +43,7 @@ impl Kind for Reading {
             Reading::Shapes => shapes::try_case(alloc, case),
             Reading::Tokens => tokens::try_case(alloc, texts, case),
             Reading::Templates => templates::try_case(alloc, texts, case),
+            Reading::Controls => controls::try_case(alloc, texts, case),
             Reading::Pages => pages::try_case(alloc, texts, case),
         }
     }
@@ -51,6 +56,7 @@ fn main(rt: HostRuntime) -> ExitCode {
             Reading::Shapes,
             Reading::Tokens,
             Reading::Templates,
+            Reading::Controls,
             Reading::Pages,
         ],
     )
