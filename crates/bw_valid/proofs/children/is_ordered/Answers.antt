@@ -15,4 +15,4 @@ loop-item-preserved c =
     c.loop-item.invariant
     ∙ order_more c.args.first.now c.args.last.now c.loop-item.passed c.as_slice-item-items.result.now c.loop-item.item-index c.item-item.result c.item-item.is c.loop-item-test.true
       (sym c.stops.ensures ∙ c.if-stops.false)
-    ∙ ap (λ (p : Bool). ordered_behind p c.args.first.now c.args.last.now (forest (drop (c.loop-item.item-index + 1) c.as_slice-item-items.result.now))) (sym c.passes.ensures)
+    ∙ ap (λ (p : Bool). ordered_behind p c.args.first.now c.args.last.now (forest (drop (c.loop-item.item-index + 1) c.as_slice-item-items.result.now))) (sym c.passes-passed.ensures)
