@@ -6,10 +6,14 @@ use Rattle.std.proofs.lemmas.List.{drop_more}
 use Rattle.bw_lang.specs.declared.items.Attr.{Attr}
 use Rattle.bw_lang.specs.declared.items.Item.{Item}
 use Rattle.bw_lang.specs.declared.items.Item.TheVariants.{Text, Element, Gap}
-use Rattle.bw_lang.specs.Forest.{Forest, none, text, gap, element}
+use Rattle.bw_lang.specs.Forest.{Forest, none, text, gap, element, forest_size}
 use Rattle.bw_lang.specs.View.{forest, before}
 use Rattle.bw_lang.specs.Documents.{append, elements}
-use Rattle.bw_lang.proofs.Forests.{elements-append, forest_steps, forest-take, forest-split}
+use denote.Param.Weighed.{at_most}
+use Rattle.bw_lang.specs.declared.items.Items.TheDeep.{deep-Item}
+use Rattle.bw_lang.specs.Falls.{most_le-forest_size}
+use Rattle.bw_lang.proofs.Counts.{elements-append}
+use Rattle.bw_lang.proofs.Forests.{forest_steps, forest-take, forest-split}
 use Rattle.bw_schema.specs.declared.needs.Formula.{Formula}
 use Rattle.bw_schema.specs.declared.needs.Formula.TheVariants as formula
 use Rattle.bw_schema.specs.declared.rules.Rule.{Rule}
@@ -60,6 +64,10 @@ first_broken-append rules n (element tag a i r) b =
     ap (λ o. or_then x (or_then y o)) (first_broken-append rules (n + 1 + elements i) r b ∙ ap (λ k. or_then (first_broken rules (n + 1 + elements i) r) (first_broken rules k b)) e)
     ∙ ap (or_then x) (or_then_assoc y (first_broken rules (n + 1 + elements i) r) (first_broken rules (n + suc (elements i + elements r)) b))
     ∙ or_then_assoc x (or_then y (first_broken rules (n + 1 + elements i) r)) (first_broken rules (n + suc (elements i + elements r)) b)
+
+-- an item of a list is smaller than the list
+pub item_le-size : (xs : List Item) (i : ℕ) (x : Item) → x ≡ get_or xs i x → i < length xs → deep-Item x ≤ forest_size (forest xs)
+item_le-size xs i x e h = omega (arith, at_most (λ y. deep-Item y) xs i x h, ap (λ y. deep-Item y) e, most_le-forest_size xs)
 
 -- the elements up to an item and in it are among all
 pub elements_upto : (xs : List Item) (i : ℕ) (x : Item) → x ≡ get_or xs i x → i < length xs → elements (forest (take i xs)) + elements (before x none) ≤ elements (forest xs)
@@ -163,4 +171,4 @@ holds_goes_on b fs i f one a t e h k n =
     ap (λ z. holds b (needs z) a t) (drop_more fs i f h ∙ ap (λ z. z ∷ drop (i + 1) fs) (sym e)) ∙ holds_before b f (needs (drop (i + 1) fs)) a t
     ∙ ap (λ o. joined b o (holds b (needs (drop (i + 1) fs)) a t)) (sym k) ∙ joined_goes_on b one (holds b (needs (drop (i + 1) fs)) a t) n
 
-pub ruleset walk_steps = (forest_steps, or_then_none, first_broken-append, child-append, texts-append)
+pub ruleset walk_steps = (forest_steps, elements-append, or_then_none, first_broken-append, child-append, texts-append)
