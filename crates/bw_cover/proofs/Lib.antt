@@ -21,3 +21,4 @@ pub mod SolvedLaws
 pub mod Literals
 pub mod Trees
 pub mod EdgeLaws
+pub mod FlowWorlds

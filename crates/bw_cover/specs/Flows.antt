@@ -12,6 +12,7 @@ use Rattle.bw_meaning.specs.States.{Input, Answered}
 use Rattle.bw_meaning.specs.Values.{Values, first_values}
 use Rattle.bw_flow.specs.declared.point.Local.{Local}
 use Rattle.bw_flow.specs.declared.point.Received.{Received}
+use Rattle.bw_flow.specs.Layout.{plan_of}
 use Rattle.bw_flow.specs.Stands.{IsAt, Lowered}
 use Rattle.bw_flow.specs.Steps.{Act, sets, tests, goes_over, shows, exits, joins, Step}
 use Rattle.bw_cover.specs.Abstracts.{Html, Below, known, EachPair, IsNotLacked, IsPlug}
@@ -90,6 +91,11 @@ FlowGoingOnIsCovered =
     (service : Service) (f : Facts ℕ) (flow : List Step) (session : ℕ) (a : Answered) → AcceptsFlow service f flow session →
     CoversLocals service f (f.place a.at) a.locals → CoversShared service f a.input.shared → CoversInputs service f a.later →
     IsCovered service f (go_on service session a) × AreOpen (go_on_plugs service session a)
+
+-- the facts obey the whole flow of the service, and the literals of its shared variables
+pub record ObeysService (service : Service) (f : Facts ℕ) : Type 0 where
+  pub literals : AllByRecursion (λ (v : Shared). Below (literal_known service v.init) (f.shared v.name)) service.shared
+  pub points : ObeysFlow service f (plan_of service).steps
 
 -- ---- the least cells of a flow
 

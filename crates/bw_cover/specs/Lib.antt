@@ -12,3 +12,4 @@ pub mod Flows
 pub mod Examples
 pub mod Trees
 pub mod EdgeLaws
+pub mod FlowWorlds
