@@ -86,6 +86,12 @@ module _ {K : Type 0} (service : Service) (f : Facts K) (one : AllPairs (λ x y.
         × EachPair (IsPlug service) service (look service f p) e
     typed_at e kind h = typed_known service one there scope (look service f p) (λ w k i. name_of w k (beside w scope.locals) refl i) e kind h
 
+-- what is known of a document is a summary
+pub page_is : (a : Abstract) → IsOf kinds.Html a → a ≡ Html (summary_of a)
+page_is Nothing h = absurd h
+page_is (Strings S) h = absurd h
+page_is (Html G) h = refl
+
 module _ (service : Service) (f : Facts Spot) (one : AllPairs (λ x y. x.0 ≡ y.0 → x.1 ≡ y.1) (template_uses service.templates))
     (there : GapsAreThere service) (shared : SharedAreOf service f) where
   at : (n : ℕ) (scope : Scope) (sc : List (List ℕ)) (e : Term) (kind : Kind) → f.scope (statement n) ≡ sc → Agree scope sc
@@ -95,11 +101,6 @@ module _ (service : Service) (f : Facts Spot) (one : AllPairs (λ x y. x.0 ≡ y
 
   abbrev P : Spot → Term → Type 0
   P p e = EachPair (IsPlug service) service (look service f p) e
-
-  page_is : (a : Abstract) → IsOf kinds.Html a → a ≡ Html (summary_of a)
-  page_is Nothing h = absurd h
-  page_is (Strings S) h = absurd h
-  page_is (Html G) h = refl
 
   typed_code : (c : Code) (n : ℕ) (scope : Scope) (sc : List (List ℕ)) → ((w : List ℕ) → is_some (beside w scope.locals) ≡ is_among w sc)
       → IsTypedCode service scope c → Scoped f c n sc → CellsAreOf f c n scope → Shows service f c n

@@ -22,3 +22,4 @@ pub mod Literals
 pub mod Trees
 pub mod EdgeLaws
 pub mod FlowWorlds
+pub mod FlowKinds

@@ -13,3 +13,4 @@ pub mod Examples
 pub mod Trees
 pub mod EdgeLaws
 pub mod FlowWorlds
+pub mod FlowKinds

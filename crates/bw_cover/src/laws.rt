@@ -6,6 +6,7 @@ ghost use Rattle.bw_cover.specs.EdgeLaws.{EdgesAreLeads, EdgesAreNexts};
 ghost use Rattle.bw_cover.specs.Least.{LeastObeys};
 ghost use Rattle.bw_cover.specs.Kinds.{CheckedIsAccepted, PlacesFit, TypedLiterals};
 ghost use Rattle.bw_cover.specs.LeastKinds.{SolvedIsAccepted, SolvedWorldsAreCovered};
+ghost use Rattle.bw_cover.specs.FlowKinds.{SolvedPlacesAreAccepted};
 ghost use Rattle.bw_cover.specs.FlowWorlds.{FlowStepsKeepCovering, FlowWorldsAreCovered};
 ghost use Rattle.bw_cover.specs.Flows.{FlowFirstIsCovered, FlowTurnIsCovered, FlowGoingOnIsCovered, FlowLeastObeys};
 ghost use Rattle.bw_cover.specs.Examples.{PlugExamples, RowsAreAccepted};
@@ -58,7 +59,8 @@ pub fn checked_is_accepted()
 {}
 
 /// The same by the places of a flow that stands for the session, and by the places of the service's own flow for every
-/// world that requests reach. And the least cells of a flow obey where its points lead.
+/// world that requests reach: in a typed service it is enough that what is known of variables is of their kinds, that no
+/// plug's base may lack its gap, and that the facts obey where points lead. The least cells of a flow obey that.
 pub fn flows_are_covered()
     ensures first { FlowFirstIsCovered }
     ensures turn { FlowTurnIsCovered }
@@ -66,6 +68,7 @@ pub fn flows_are_covered()
     ensures least { FlowLeastObeys }
     ensures steps { FlowStepsKeepCovering }
     ensures worlds { FlowWorldsAreCovered }
+    ensures accepted { SolvedPlacesAreAccepted }
 {}
 
 /// Worked examples: which plugs are made, and facts that accept a service.
