@@ -16,10 +16,11 @@ use Rattle.bw_cover.specs.Flows.{names_of, ActLeads}
 use Rattle.bw_cover.specs.FlowWorlds.{AcceptsPlaces}
 use Rattle.bw_cover.specs.Kinds.{LocalsAreOf, SharedAreOf, summary_of}
 
--- no fault 11: none of the expression's plugs may lack its gap
+-- no gap fault: none of the expression's plugs may lack its gap
 abbrev pub HasGaps : Service → Facts ℕ → ℕ → Term → Type 0
 HasGaps service f p e = EachPair IsNotLacked service (look service f p) e
 
+-- so it is with the expression of a point that does this
 abbrev pub ActHasGaps : Service → Facts ℕ → ℕ → Act → Type 0
 ActHasGaps service f p (sets w e) = HasGaps service f p e
 ActHasGaps service f p (tests e) = HasGaps service f p e

@@ -36,6 +36,7 @@ pub record Fits (service : Service) (f : Facts ℕ) (p : ℕ) (e : Term) : Type 
   pub gaps : EachPair IsNotLacked service (look service f p) e
   pub plugs : EachPair (IsPlug service) service (look service f p) e
 
+-- a point that does this leads to each of these
 abbrev pub LeadsToAll : Service → Facts ℕ → ℕ → facts.What → List ℕ → Type 0
 LeadsToAll service f p what next = AllByRecursion (λ (q : ℕ). Leads service f p what q) next
 
@@ -68,6 +69,7 @@ pub record ObeysPoint (service : Service) (f : Facts ℕ) (p : ℕ) (x : Step) :
   pub leads : ActLeads service f p x.act x.next
   pub fits : ActFits service f p x.number x.act
 
+-- the facts obey each point of the flow
 abbrev pub ObeysFlow : Service → Facts ℕ → List Step → Type 0
 ObeysFlow service f flow = (p : ℕ) (x : Step) → IsAt flow p x → ObeysPoint service f p x
 
@@ -86,6 +88,7 @@ FlowTurnIsCovered =
     CoversShared service f first → CoversInputs service f inputs →
     IsCovered service f (turn service session first inputs) × AreOpen (turn_plugs service session first inputs)
 
+-- so does going on from a show with covered locals
 abbrev pub FlowGoingOnIsCovered : Type 0
 FlowGoingOnIsCovered =
     (service : Service) (f : Facts ℕ) (flow : List Step) (session : ℕ) (a : Answered) → AcceptsFlow service f flow session →
@@ -99,6 +102,7 @@ pub record ObeysService (service : Service) (f : Facts ℕ) : Type 0 where
 
 -- ---- the least cells of a flow
 
+-- the edges to each of these points
 abbrev pub edges_to : ℕ → facts.What → List ℕ → List (Edge ℕ)
 edges_to p what next = map (λ (q : ℕ). edge p what q) next
 

@@ -44,6 +44,7 @@ plugs_over service session (Loaded at locals rests shown turn) [] = []
 plugs_over service session (Loaded at locals rests shown turn) (i ∷ later) =
     go_on_plugs service session (record { at = at; locals = locals; rests = rests; input = i; later = later })
 
+-- those that it has made so far
 abbrev pub talk_plugs : Service → Talk → List Plug
 talk_plugs service talk = plugs_over service talk.session talk.origin talk.inputs
 
@@ -73,9 +74,11 @@ pub record CoversNext {K : Type 0} (service : Service) (f : Facts K) (w : World)
 
 -- ---- laws
 
+-- the empty world is covered
 abbrev pub EmptyIsCovered : Type 0
 EmptyIsCovered = (service : Service) (f : Facts Spot) → AcceptsAll service f → CoversWorld service f (empty service)
 
+-- a request keeps a covered world covered
 abbrev pub StepsKeepCovering : Type 0
 StepsKeepCovering =
     (service : Service) (f : Facts Spot) (w : World) (request : Request) (key : ℕ) → AcceptsAll service f → CoversWorld service f w →
