@@ -1,5 +1,5 @@
 -- The points of a typed flow are typed, so their plugs fill what they may fill.
-use Rattle.std.proofs.Common.{◌≡◌, ℕ, Bool, true, false, List, [], ◌∷◌, map, Some, refl, sym, ap, ◌∙◌}
+use Rattle.std.proofs.Common.{◌≡◌, ℕ, Bool, true, false, List, [], ◌∷◌, Some, refl, sym, ap, ◌∙◌}
 use Rattle.std.specs.Prelude.{◌||◌, if◌then◌else◌, is_some}
 use Rattle.bw_lang.specs.declared.service.Service.{Service}
 use Rattle.bw_lang.specs.declared.stmt.Kind.{Kind}
@@ -11,15 +11,13 @@ use Rattle.bw_types.specs.Scopes.{is_among}
 use Rattle.bw_types.specs.Typing.{IsTypedService}
 use Rattle.bw_types.proofs.WellTyped.{typed}
 use Rattle.bw_flow.specs.declared.point.Local.{Local}
-use Rattle.bw_flow.specs.Layout.{plan_of}
-use Rattle.bw_flow.specs.Stands.{IsAt}
-use Rattle.bw_flow.specs.Steps.{Act, sets, tests, goes_over, shows, exits, joins, Step}
-use Rattle.bw_flow.specs.TypedFlow.{names_at, HasKindAt, IsTypedAct, IsTypedFlow}
+use Rattle.bw_flow.specs.Steps.{Act, sets, tests, goes_over, shows, exits, joins}
+use Rattle.bw_flow.specs.TypedFlow.{names_at, HasKindAt, IsTypedAct}
 use Rattle.bw_flow.proofs.Given.{flows_are_typed}
-use Rattle.bw_cover.specs.Abstracts.{Abstract, Html, known, EachPair, IsPlug}
+use Rattle.bw_cover.specs.Abstracts.{Html, known, EachPair, IsPlug}
 use Rattle.bw_cover.specs.Facts.{Facts, look}
 use Rattle.bw_cover.specs.Flows.{names_of, Fits, ActFits}
-use Rattle.bw_cover.specs.FlowKinds.{HasGaps, ActHasGaps, ActShows, SolvesPoint, SolvesPlaces, SolvedPlacesAreAccepted}
+use Rattle.bw_cover.specs.FlowKinds.{HasGaps, ActHasGaps, ActShows, SolvedPlacesAreAccepted}
 use Rattle.bw_cover.specs.Kinds.{IsOf, SharedAreOf, LocalsAreOf, GapsAreThere, summary_of}
 use Rattle.bw_cover.proofs.Checked.{typed_at, page_is}
 use Rattle.bw_cover.proofs.Names.{beside-cons}

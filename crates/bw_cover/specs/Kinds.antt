@@ -1,5 +1,5 @@
 -- In a typed service whose cells have the kinds of their variables, plugs fill what they may fill, and pages are documents.
-use Rattle.std.specs.Prelude.{◌≡◌, ◌≢◌, ◌<◌, ℕ, ◌+◌, true, false, List, [], ◌∷◌, ◌++◌, length, is_some, Some}
+use Rattle.std.specs.Prelude.{◌≡◌, ◌≢◌, ◌<◌, ℕ, ◌+◌, true, false, List, [], length, is_some, Some}
 use Rattle.std.specs.List.{All, AllByRecursion, AllPairs}
 use Rattle.bw_lang.specs.declared.service.Service.{Service}
 use Rattle.bw_lang.specs.declared.service.Shared.{Shared}

@@ -1,10 +1,9 @@
 -- The least cells of a typed service have the kinds of their variables, where the empty cells have them.
-use Rattle.std.specs.Prelude.{◌≡◌, ℕ, ◌+◌, true, false, List, [], ◌∷◌, ◌++◌, Some, None}
+use Rattle.std.specs.Prelude.{◌≡◌, ℕ, ◌+◌, true, false, List, [], Some, None}
 use Rattle.std.specs.List.{AllByRecursion}
 use Rattle.bw_lang.specs.declared.service.Service.{Service}
 use Rattle.bw_lang.specs.declared.stmt.Kind.{Kind}
 use Rattle.bw_lang.specs.Code.{Code, done, declare, assign, if_then, if_else, while_loop, block, for_each, show, exit, numbered}
-use Rattle.bw_lang.specs.CodeNames.{local_names}
 use Rattle.bw_lang.specs.Names.{same, beside}
 use Rattle.bw_lang.specs.Reads.{IsReadable}
 use Rattle.bw_meaning.specs.GoOn.{body_of}

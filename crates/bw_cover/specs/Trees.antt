@@ -4,7 +4,6 @@ use Rattle.bw_lang.specs.declared.service.Service.{Service}
 use Rattle.bw_lang.specs.declared.service.Session.{Session}
 use Rattle.bw_lang.specs.declared.stmt.Kind.{Kind}
 use Rattle.bw_lang.specs.Code.{Code, done, declare, assign, if_then, if_else, while_loop, block, for_each, show, exit, numbered}
-use Rattle.bw_lang.specs.CodeNames.{local_names}
 use Rattle.bw_lang.specs.Reads.{IsReadable}
 use Rattle.bw_lang.specs.Term.{Term, nothing}
 use Rattle.bw_types.specs.Scopes.{Scope, no_locals, with_local, behind, behind_each}
