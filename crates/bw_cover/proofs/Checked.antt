@@ -16,7 +16,7 @@ use Rattle.bw_lang.specs.Term.{Term}
 use Rattle.bw_meaning.specs.GoOn.{body_of}
 use Rattle.bw_lang.specs.Numbers.{first_number}
 use Rattle.bw_types.specs.Gaps.{template_uses}
-use Rattle.bw_types.specs.Scopes.{Scope, no_locals, template_kind, shared_kinds, with_local, behind, is_among, template_names}
+use Rattle.bw_types.specs.Scopes.{Scope, no_locals, template_kind, shared_kinds, with_local, behind, is_among, template_names, behind_each}
 use Rattle.bw_types.specs.Typing.{HasKind, IsTypedCode, IsTypedSession, IsTypedService}
 use Rattle.bw_sum.specs.Graph.{Graph, constant}
 use Rattle.bw_sum.specs.Templates.{template_items}
@@ -86,6 +86,12 @@ module _ {K : Type 0} (service : Service) (f : Facts K) (one : AllPairs (λ x y.
         × EachPair (IsPlug service) service (look service f p) e
     typed_at e kind h = typed_known service one there scope (look service f p) (λ w k i. name_of w k (beside w scope.locals) refl i) e kind h
 
+-- what is known of a document is a summary
+pub page_is : (a : Abstract) → IsOf kinds.Html a → a ≡ Html (summary_of a)
+page_is Nothing h = absurd h
+page_is (Strings S) h = absurd h
+page_is (Html G) h = refl
+
 module _ (service : Service) (f : Facts Spot) (one : AllPairs (λ x y. x.0 ≡ y.0 → x.1 ≡ y.1) (template_uses service.templates))
     (there : GapsAreThere service) (shared : SharedAreOf service f) where
   at : (n : ℕ) (scope : Scope) (sc : List (List ℕ)) (e : Term) (kind : Kind) → f.scope (statement n) ≡ sc → Agree scope sc
@@ -95,11 +101,6 @@ module _ (service : Service) (f : Facts Spot) (one : AllPairs (λ x y. x.0 ≡ y
 
   abbrev P : Spot → Term → Type 0
   P p e = EachPair (IsPlug service) service (look service f p) e
-
-  page_is : (a : Abstract) → IsOf kinds.Html a → a ≡ Html (summary_of a)
-  page_is Nothing h = absurd h
-  page_is (Strings S) h = absurd h
-  page_is (Html G) h = refl
 
   typed_code : (c : Code) (n : ℕ) (scope : Scope) (sc : List (List ℕ)) → ((w : List ℕ) → is_some (beside w scope.locals) ≡ is_among w sc)
       → IsTypedCode service scope c → Scoped f c n sc → CellsAreOf f c n scope → Shows service f c n
@@ -131,7 +132,7 @@ module _ (service : Service) (f : Facts Spot) (one : AllPairs (λ x y. x.0 ≡ y
       ((p.0, r.0), (p.1, r.1))
   typed_code (for_each w e c rest) n scope sc a t s k sh =
       let p = typed_code c (n + 1) (with_local scope w kinds.Str) (sc ++ w ∷ []) (agree_next scope sc w kinds.Str a) t.2 s.1 k.1 sh.0 in
-      let r = typed_code rest (n + 1 + numbered c) (record { locals = scope.locals; taken = scope.taken ++ w ∷ local_names c }) sc a t.3 s.2 k.2 sh.1 in
+      let r = typed_code rest (n + 1 + numbered c) (behind_each scope w c) sc a t.3 s.2 k.2 sh.1 in
       (((at n scope sc e kinds.Strs s.0 a k.0 t.1).1, p.0, r.0), (p.1, r.1))
   typed_code (show e rs rest) n scope sc a t s k sh =
       let v = at n scope sc e kinds.Html s.0 a k.0 t.0 in

@@ -69,7 +69,8 @@ edges_are (if_else t y z rest) n q =
     let m = j + numbered z in
     let join = Some (leads.meeting n) in
     let behind = leads.from (leads.meeting n) (leads.starts rest m (point_of q)) ++ leads.leads rest m (point_of q) in
-    two (leads.statement n) (point_of (starts y (n + 1) (meeting n))) (leads.starts y (n + 1) join) (point_of (starts z j (meeting n))) (leads.starts z j join)
+    two (leads.statement n) (point_of (starts y (n + 1) (meeting n))) (leads.starts y (n + 1) join) (point_of (starts z j (meeting n)))
+    (leads.starts z j join)
     (ends (edges y (n + 1) (meeting n) ++ (edges z j (meeting n) ++ edge (meeting n) keeps (starts rest m q) ∷ edges rest m q)))
     (leads.leads y (n + 1) join ++ (leads.leads z j join ++ behind))
     (starts_are y (n + 1) (meeting n)) (starts_are z j (meeting n))

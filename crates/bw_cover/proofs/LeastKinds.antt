@@ -159,7 +159,8 @@ module _ {K : Type 0} (is_same : K → K → Bool) (agrees : (p q : K) → is_sa
     left_kinded p (sets v x) q w k a (kind, hk, but, sh) i e =
         or_own p w (known service (look service C p) x) a k (same w v)
         (λ s. subst (λ z. IsOf z (known service (look service C p) x)) (sym ((but w k i).0 s)) (known_of p x kind hk)) (λ s. (but w k i).1 s) e
-    left_kinded p (brings v) q w k a but i e = or_own p w any a k (same w v) (λ s. subst (λ z. IsOf z any) (sym ((but w k i).0 s)) tt) (λ s. (but w k i).1 s) e
+    left_kinded p (brings v) q w k a but i e =
+        or_own p w any a k (same w v) (λ s. subst (λ z. IsOf z any) (sym ((but w k i).0 s)) tt) (λ s. (but w k i).1 s) e
     left_kinded p (takes rs) q w k a (sub, t) i e = taken_of p rs w k (own C p w) a t (sub w k i) (λ x j. own_of p w x k (sub w k i) j) e
 
     added_if : (b : Bool) (x a : Abstract) (k : Kind) → (b ≡ true → IsOf k x) → (if b then Some x else None) ≡ Some a → IsOf k a

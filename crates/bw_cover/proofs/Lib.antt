@@ -21,3 +21,5 @@ pub mod SolvedLaws
 pub mod Literals
 pub mod Trees
 pub mod EdgeLaws
+pub mod FlowWorlds
+pub mod FlowKinds

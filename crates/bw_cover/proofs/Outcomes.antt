@@ -41,7 +41,8 @@ module _ {K : Type 0} (service : Service) (f : Facts K) where
 
   pub good_value : (p q : K) (sc sc2 : List (List ℕ)) (e : Term) (st : State) (go : Value → State → Outcome) (more : Value → State → List Plug)
       → IsPoint service f p sc e → IsAt service f p sc st
-      → ((v : Value) (st1 : State) → covers service (known service (look service f p) e) v → IsAt service f p sc st1 → Good service f q sc2 (go v st1) (more v st1))
+      → ((v : Value) (st1 : State) → covers service (known service (look service f p) e) v → IsAt service f p sc st1
+      → Good service f q sc2 (go v st1) (more v st1))
       → Good service f q sc2 (with_value service e st go) (value_plugs service e st more)
   good_value p q sc sc2 e st go more pt c h =
       let o = eval service st.locals st.shared e st.units in
@@ -53,7 +54,8 @@ module _ {K : Type 0} (service : Service) (f : Facts K) where
 
   pub good_begin : (p q : K) (sc sc2 : List (List ℕ)) (e : Term) (st : State) (go : Value → State → Outcome) (more : Value → State → List Plug)
       → IsPoint service f p sc e → IsAt service f p sc st
-      → ((v : Value) (st1 : State) → covers service (known service (look service f p) e) v → IsAt service f p sc st1 → Good service f q sc2 (go v st1) (more v st1))
+      → ((v : Value) (st1 : State) → covers service (known service (look service f p) e) v → IsAt service f p sc st1
+      → Good service f q sc2 (go v st1) (more v st1))
       → Good service f q sc2 (begin service e st go) (begin_plugs service e st more)
   good_begin p q sc sc2 e st go more pt c h =
       good_paid q sc2 st.units (λ u. with_value service e (record st { units = u }) go) (λ u. value_plugs service e (record st { units = u }) more)
@@ -66,7 +68,8 @@ module _ {K : Type 0} (service : Service) (f : Facts K) where
   good_next r q sc sc2 (Exited last shared units) go more c h = (c, tt)
   good_next r q sc sc2 (Failed x units) go more c h = (tt, tt)
 
-  pub good_then : (r q : K) (sc sc2 : List (List ℕ)) (o : Outcome) (ps : List Plug) (go : State → Outcome) (more : State → List Plug) → Good service f r sc o ps
+  pub good_then : (r q : K) (sc sc2 : List (List ℕ)) (o : Outcome) (ps : List Plug) (go : State → Outcome) (more : State → List Plug)
+      → Good service f r sc o ps
       → ((st : State) → IsAt service f r sc st → Good service f q sc2 (go st) (more st)) → Good service f q sc2 (then_do o go) (ps ++ on_end o more)
   good_then r q sc sc2 o ps go more c h = let n = good_next r q sc sc2 o go more c.0 h in (n.0, open_append ps (on_end o more) c.1 n.1)
 
@@ -77,12 +80,15 @@ module _ {K : Type 0} (service : Service) (f : Facts K) where
   went_same (Failed x units) more = refl
 
   -- a statement alone, and then what follows it
-  pub good_step : (r q : K) (sc sc2 : List (List ℕ)) (o : Outcome) (ps : List Plug) (go : State → Outcome) (more : State → List Plug) → Good service f r sc o ps
-      → ((st : State) → IsAt service f r sc st → Good service f q sc2 (go st) (more st)) → Good service f q sc2 (then_do o go) (ps ++ on_end (then_do o Went) more)
+  pub good_step : (r q : K) (sc sc2 : List (List ℕ)) (o : Outcome) (ps : List Plug) (go : State → Outcome) (more : State → List Plug)
+      → Good service f r sc o ps
+      → ((st : State) → IsAt service f r sc st → Good service f q sc2 (go st) (more st))
+      → Good service f q sc2 (then_do o go) (ps ++ on_end (then_do o Went) more)
   good_step r q sc sc2 o ps go more c h =
       subst (λ xs. Good service f q sc2 (then_do o go) (ps ++ xs)) (sym (went_same o more)) (good_then r q sc sc2 o ps go more c h)
 
-  pub good_if : (q : K) (sc : List (List ℕ)) (b : Bool) (o o' : Outcome) (ps ps' : List Plug) → (b ≡ true → Good service f q sc o ps) → (b ≡ false → Good service f q sc o' ps')
+  pub good_if : (q : K) (sc : List (List ℕ)) (b : Bool) (o o' : Outcome) (ps ps' : List Plug) → (b ≡ true → Good service f q sc o ps)
+      → (b ≡ false → Good service f q sc o' ps')
       → Good service f q sc (if b then o else o') (if b then ps else ps')
   good_if q sc true o o' ps ps' h k = h refl
   good_if q sc false o o' ps ps' h k = k refl
@@ -105,7 +111,8 @@ module _ {K : Type 0} (service : Service) (f : Facts K) where
   left_out names l w v true e = absurd (none_some None v refl e)
   left_out names l w v false e = e
 
-  pub fine_leave : (q : K) (sc sc2 names : List (List ℕ)) (o : Outcome) → Apart sc names → ((w : List ℕ) → is_among w sc2 ≡ (is_among w sc || is_among w names))
+  pub fine_leave : (q : K) (sc sc2 names : List (List ℕ)) (o : Outcome) → Apart sc names
+      → ((w : List ℕ) → is_among w sc2 ≡ (is_among w sc || is_among w names))
       → Fine service f q sc2 o → Fine service f q sc (leave names o)
   fine_leave q sc sc2 names (Went st) a h c = record {
     names = λ w. some-without names st.locals w sc (c.names w ∙ h w) a;
@@ -149,7 +156,8 @@ module _ {K : Type 0} (service : Service) (f : Facts K) where
   pub good_each : (vs : List (List ℕ)) (p r : K) (sc : List (List ℕ)) (w : List ℕ) (names : List (List ℕ)) (body : List (List ℕ) → State → Outcome)
       (inside : List (List ℕ) → State → List Plug) (st : State)
       → f.scope p ≡ sc → Leads service f p keeps r
-      → ((ws : List (List ℕ)) (v : List ℕ) (st1 : State) → IsAt service f p sc st1 → Good service f p sc (leave names (add_rest ws (body ws (add_local w (text v) st1))))
+      → ((ws : List (List ℕ)) (v : List ℕ) (st1 : State) → IsAt service f p sc st1
+      → Good service f p sc (leave names (add_rest ws (body ws (add_local w (text v) st1))))
       (inside ws (add_local w (text v) st1)))
       → IsAt service f p sc st → Good service f r sc (each vs w names body st) (each_plugs vs w names body inside st)
   good_each [] p r sc w names body inside st s h g c =
@@ -168,7 +176,8 @@ module _ {K : Type 0} (service : Service) (f : Facts K) where
 
   -- ---- pages
 
-  pub fine_unless : (q : K) (sc : List (List ℕ)) (x : Option TurnFault) (units : ℕ) (o : Outcome) → Fine service f q sc o → Fine service f q sc (unless_fault x units o)
+  pub fine_unless : (q : K) (sc : List (List ℕ)) (x : Option TurnFault) (units : ℕ) (o : Outcome) → Fine service f q sc o
+      → Fine service f q sc (unless_fault x units o)
   fine_unless q sc None units o c = c
   fine_unless q sc (Some x) units o c = tt
 

@@ -1,5 +1,5 @@
 -- The least cells of a typed service are accepted, and cover every world that requests reach.
-use Rattle.std.proofs.Common.{◌≡◌, ℕ, ◌+◌, true, List, ◌∷◌, ◌++◌, Some, None, refl, ap, subst, arith}
+use Rattle.std.proofs.Common.{◌≡◌, ℕ, ◌+◌, true, List, Some, None, refl, ap, subst, arith}
 use Rattle.std.specs.Prelude.{◌≢◌}
 use Rattle.std.specs.List.{All, AllPairs, Contains}
 use Rattle.std.proofs.lemmas.Bool.{false≢true, eqb-true}
@@ -14,7 +14,7 @@ use Rattle.bw_lang.specs.Reads.{IsReadable}
 use Rattle.bw_lang.proofs.Small.{readable_is_woven}
 use Rattle.bw_meaning.specs.GoOn.{body_of}
 use Rattle.bw_lang.specs.Numbers.{first_number}
-use Rattle.bw_types.specs.Scopes.{Scope, no_locals, declared_names, with_local, behind}
+use Rattle.bw_types.specs.Scopes.{Scope, no_locals, declared_names, with_local, behind, behind_each}
 use Rattle.bw_types.specs.Typing.{IsTypedCode}
 use Rattle.bw_types.specs.Faults.{IsWellTyped}
 use Rattle.bw_types.proofs.Differing.{none_differ}
@@ -65,7 +65,7 @@ module _ (sees : Spot → Scope) where
   cells_of f h (for_each w e b rest) n scope s = (
     subst (LocalsAreOf f (statement n)) s.0 (h (statement n)),
     cells_of f h b (n + 1) (with_local scope w kinds.Str) s.1,
-    cells_of f h rest (n + 1 + numbered b) (record { locals = scope.locals; taken = scope.taken ++ w ∷ local_names b }) s.2,
+    cells_of f h rest (n + 1 + numbered b) (behind_each scope w b) s.2,
   )
   cells_of f h (show p rs rest) n scope s = (subst (LocalsAreOf f (statement n)) s.0 (h (statement n)), cells_of f h rest (n + 1) scope s.1)
   cells_of f h (exit p rest) n scope s = (subst (LocalsAreOf f (statement n)) s.0 (h (statement n)), cells_of f h rest (n + 1) scope s.1)

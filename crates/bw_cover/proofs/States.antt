@@ -103,7 +103,8 @@ module _ {K : Type 0} (service : Service) (f : Facts K) where
       go (r ∷ rs) st c = go rs (store r.target (received_value (variable r.target st) (values_of r.field i.form)) st) c
 
   -- an input that is taken at a show
-  pub taken_good : (p q : K) (sc : List (List ℕ)) (rs : List Receive) (l : Values) (i : Input) (later : List Input) → f.scope p ≡ sc → CoversLocals service f p l
+  pub taken_good : (p q : K) (sc : List (List ℕ)) (rs : List Receive) (l : Values) (i : Input) (later : List Input) → f.scope p ≡ sc
+      → CoversLocals service f p l
       → Leads service f p (takes rs) q
       → CoversShared service f i.shared → CoversInputs service f later → IsAt q sc (taken rs l i later)
   taken_good p q sc rs l i later s c h cs ci =

@@ -11,14 +11,14 @@ use Rattle.bw_lang.specs.Names.{beside}
 use Rattle.bw_lang.specs.Term.{Term}
 use Rattle.bw_meaning.specs.GoOn.{body_of}
 use Rattle.bw_lang.specs.Numbers.{first_number}
-use Rattle.bw_types.specs.Scopes.{Scope, no_locals, with_local, behind, is_among}
+use Rattle.bw_types.specs.Scopes.{Scope, no_locals, with_local, behind, is_among, behind_each}
 use Rattle.bw_cover.specs.Abstracts.{known}
 use Rattle.bw_cover.specs.Facts.{Facts, look}
 use Rattle.bw_cover.specs.Kinds.{Shows, summary_of}
 use Rattle.bw_cover.specs.Least.{Cells}
 use Rattle.bw_cover.specs.LeastKinds.{Sees, IsSolved}
 use Rattle.bw_cover.specs.Spots.{Spot, statement, Scoped}
-use Rattle.bw_cover.specs.Trees.{Place, place, behind_each, place_in, place_of, tree_sees, in_order, tree_facts, AnsweredIsAccepted, AnsweredWorldsAreCovered}
+use Rattle.bw_cover.specs.Trees.{Place, place, place_in, place_of, tree_sees, in_order, tree_facts, AnsweredIsAccepted, AnsweredWorldsAreCovered}
 use Rattle.bw_cover.proofs.Checked.{agree_next}
 use Rattle.bw_cover.proofs.SolvedLaws.{solved_is_accepted}
 use Rattle.bw_cover.proofs.Worlds.{worlds_are_covered}

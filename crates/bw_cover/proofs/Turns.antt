@@ -20,7 +20,8 @@ use Rattle.bw_cover.specs.Plugs.{plugs_behind, turn_plugs, go_on_plugs}
 use Rattle.bw_cover.specs.Covered.{CoversLocals, CoversShared, CoversInputs, IsCovered, AreOpen}
 use Rattle.bw_cover.proofs.Locals.{none_some}
 use Rattle.bw_cover.proofs.States.{IsAt, Fine, Good, kept, added, stored, taken_good}
-use Rattle.bw_cover.proofs.Outcomes.{good_value, good_begin, good_then, good_step, good_if, fine_kept, good_leave, good_inner, good_turns, good_each, fine_unless, page_is, fine_wait, fresh_name}
+use Rattle.bw_cover.proofs.Outcomes.{good_value, good_begin, good_then, good_step, good_if, fine_kept, good_leave, good_inner, good_turns, good_each}
+use Rattle.bw_cover.proofs.Outcomes.{fine_unless, page_is, fine_wait, fresh_name}
 
 module _ {K : Type 0} (service : Service) (f : Facts K) where
   -- ---- statements
@@ -46,11 +47,13 @@ module _ {K : Type 0} (service : Service) (f : Facts K) where
       let go = λ (v : Value) (st1 : State). if truth_of v then leave (declared y) (exec service y (n + 1) around st1) else Went st1 in
       let ps = λ (v : Value) (st1 : State). if truth_of v then plugs service y (n + 1) around st1 else [] in
       let one = good_begin service f p j sc sc t st go ps pt c
-      (λ v st1 cv c1. good_if service f j sc (truth_of v) (leave (declared y) (exec service y (n + 1) around st1)) (Went st1) (plugs service y (n + 1) around st1) []
+      (λ v st1 cv c1. good_if service f j sc (truth_of v) (leave (declared y) (exec service y (n + 1) around st1)) (Went st1)
+      (plugs service y (n + 1) around st1) []
       (λ _. good_leave service f j sc y (exec service y (n + 1) around st1) (plugs service y (n + 1) around st1) ay
       (exec_good y (n + 1) around sc b j st1 hy (kept service f p b sc st1 pt.scope lb c1)))
       (λ _. (kept service f p j sc st1 pt.scope lj c1, tt))) in
-      good_step service f r q sc (after rest sc) (begin service t st go) (begin_plugs service t st ps) (exec service rest m around) (plugs service rest m around)
+      good_step service f r q sc (after rest sc) (begin service t st go) (begin_plugs service t st ps) (exec service rest m around)
+      (plugs service rest m around)
       (fine_kept service f j r sc (begin service t st go) sj lr one.0, one.1)
       (λ st1 c1. exec_good rest m around sc r q st1 h c1)
   exec_good (if_else t y z rest) n around sc p q st (b, d, j, r, pt, sj, ay, az, lb, ld, lr, hy, hz, h) c =
@@ -60,19 +63,22 @@ module _ {K : Type 0} (service : Service) (f : Facts K) where
       (exec service z k around st1) in
       let ps = λ (v : Value) (st1 : State). if truth_of v then plugs service y (n + 1) around st1 else plugs service z k around st1 in
       let one = good_begin service f p j sc sc t st go ps pt c
-      (λ v st1 cv c1. good_if service f j sc (truth_of v) (leave (declared y) (exec service y (n + 1) around st1)) (leave (declared z) (exec service z k around st1))
+      (λ v st1 cv c1. good_if service f j sc (truth_of v) (leave (declared y) (exec service y (n + 1) around st1))
+      (leave (declared z) (exec service z k around st1))
       (plugs service y (n + 1) around st1) (plugs service z k around st1)
       (λ _. good_leave service f j sc y (exec service y (n + 1) around st1) (plugs service y (n + 1) around st1) ay
       (exec_good y (n + 1) around sc b j st1 hy (kept service f p b sc st1 pt.scope lb c1)))
       (λ _. good_leave service f j sc z (exec service z k around st1) (plugs service z k around st1) az
       (exec_good z k around sc d j st1 hz (kept service f p d sc st1 pt.scope ld c1)))) in
-      good_step service f r q sc (after rest sc) (begin service t st go) (begin_plugs service t st ps) (exec service rest m around) (plugs service rest m around)
+      good_step service f r q sc (after rest sc) (begin service t st go) (begin_plugs service t st ps) (exec service rest m around)
+      (plugs service rest m around)
       (fine_kept service f j r sc (begin service t st go) sj lr one.0, one.1)
       (λ st1 c1. exec_good rest m around sc r q st1 h c1)
   exec_good (while_loop t b rest) n around sc p q st (y, r, pt, ab, ly, lr, hb, h) c =
       let m = n + 1 + numbered b in
       let body = λ (st1 : State). leave (declared b) (exec service b (n + 1) around st1) in
-      good_step service f r q sc (after rest sc) (turns (room st) service t body st) (turns_plugs (room st) service t body (plugs service b (n + 1) around) st)
+      good_step service f r q sc (after rest sc) (turns (room st) service t body st)
+      (turns_plugs (room st) service t body (plugs service b (n + 1) around) st)
       (exec service rest m around) (plugs service rest m around)
       (good_turns service f (room st) p r sc t body (plugs service b (n + 1) around) st pt lr
       (λ st1 c1. good_leave service f p sc b (exec service b (n + 1) around st1) (plugs service b (n + 1) around st1) ab
@@ -90,7 +96,8 @@ module _ {K : Type 0} (service : Service) (f : Facts K) where
       let inside = λ (vs : List (List ℕ)) (st2 : State). plugs service b (n + 1) (around + list_weight vs) st2 in
       let go = λ (v : Value) (st1 : State). each (list_of v) w (w ∷ declared b) body st1 in
       let ps = λ (v : Value) (st1 : State). each_plugs (list_of v) w (w ∷ declared b) body inside st1 in
-      good_step service f r q sc (after rest sc) (with_value service e st go) (value_plugs service e st ps) (exec service rest m around) (plugs service rest m around)
+      good_step service f r q sc (after rest sc) (with_value service e st go) (value_plugs service e st ps) (exec service rest m around)
+      (plugs service rest m around)
       (good_value service f p r sc sc e st go ps pt c
       (λ v st1 cv c1. good_each service f (list_of v) p r sc w (w ∷ declared b) body inside st1 pt.scope lr (λ vs x st2 c2.
       let st3 = add_local w (text x) st2 in
@@ -190,12 +197,14 @@ module _ {K : Type 0} (service : Service) (f : Facts K) where
       (ps ++ on_end one more) (if nat_lt a.at m then qs ++ on_end other more else plugs_behind service rest m around a)
       (λ _.
       let g = good_leave service f j sc y (behind service y (n + 1) around a) ps ay (behind_good y (n + 1) around sc b j a cl cs ci hy) in
-      good_then service f r q sc (after rest sc) one ps next more (fine_kept service f j r sc one sj lr g.0, g.1) (λ st1 c1. exec_good rest m around sc r q st1 h c1))
+      good_then service f r q sc (after rest sc) one ps next more (fine_kept service f j r sc one sj lr g.0, g.1)
+      (λ st1 c1. exec_good rest m around sc r q st1 h c1))
       (λ _. good_if service f q (after rest sc) (nat_lt a.at m) (then_do other next) (behind service rest m around a) (qs ++ on_end other more)
       (plugs_behind service rest m around a)
       (λ _.
       let g = good_leave service f j sc z (behind service z k around a) qs az (behind_good z k around sc d j a cl cs ci hz) in
-      good_then service f r q sc (after rest sc) other qs next more (fine_kept service f j r sc other sj lr g.0, g.1) (λ st1 c1. exec_good rest m around sc r q st1 h c1))
+      good_then service f r q sc (after rest sc) other qs next more (fine_kept service f j r sc other sj lr g.0, g.1)
+      (λ st1 c1. exec_good rest m around sc r q st1 h c1))
       (λ _. behind_good rest m around sc r q a cl cs ci h))
   behind_good (while_loop t b rest) n around sc p q a cl cs ci (y, r, pt, ab, ly, lr, hb, h) =
       let m = n + 1 + numbered b in
@@ -203,7 +212,8 @@ module _ {K : Type 0} (service : Service) (f : Facts K) where
       let more = plugs service (while_loop t b rest) n around in
       let o = leave (declared b) (behind service b (n + 1) around a) in
       let ps = plugs_behind service b (n + 1) around a in
-      good_if service f q (after rest sc) (nat_lt a.at m) (then_do o loop) (behind service rest m around a) (ps ++ on_end o more) (plugs_behind service rest m around a)
+      good_if service f q (after rest sc) (nat_lt a.at m) (then_do o loop) (behind service rest m around a) (ps ++ on_end o more)
+      (plugs_behind service rest m around a)
       (λ _. good_then service f p q sc (after rest sc) o ps loop more
       (good_leave service f p sc b (behind service b (n + 1) around a) ps ab (behind_good b (n + 1) around sc y p a cl cs ci hb))
       (λ st1 c1. exec_good (while_loop t b rest) n around sc p q st1 (y, r, pt, ab, ly, lr, hb, h) c1))
@@ -220,7 +230,8 @@ module _ {K : Type 0} (service : Service) (f : Facts K) where
       let ps = λ (vs : List (List ℕ)) (inner : Rests). made vs inner ++ on_end (turn vs inner) (each_plugs vs w names body inside) in
       good_if service f q (after rest sc) (nat_lt a.at m) (then_do (with_rest a.rests go) (exec service rest m around)) (behind service rest m around a)
       (rest_plugs a.rests ps ++ on_end (with_rest a.rests go) (plugs service rest m around)) (plugs_behind service rest m around a)
-      (λ _. good_then service f r q sc (after rest sc) (with_rest a.rests go) (rest_plugs a.rests ps) (exec service rest m around) (plugs service rest m around)
+      (λ _. good_then service f r q sc (after rest sc) (with_rest a.rests go) (rest_plugs a.rests ps) (exec service rest m around)
+      (plugs service rest m around)
       (good_rests r sc a.rests go ps (λ vs inner.
       good_then service f p r sc sc (turn vs inner) (made vs inner) (each vs w names body) (each_plugs vs w names body inside)
       (good_inner service f p sc w b vs (behind service b (n + 1) (around + list_weight vs) (record a { rests = inner })) (made vs inner) ab

@@ -15,7 +15,7 @@ use Rattle.bw_lang.specs.CodeNames.{local_names}
 use Rattle.bw_lang.specs.Names.{same, beside}
 use Rattle.bw_lang.specs.Order.{IsWoven}
 use Rattle.bw_meaning.specs.Statements.{declared}
-use Rattle.bw_types.specs.Scopes.{Scope, no_locals, shared_kinds, with_local, behind, is_among}
+use Rattle.bw_types.specs.Scopes.{Scope, no_locals, shared_kinds, with_local, behind, is_among, behind_each}
 use Rattle.bw_types.specs.Typing.{IsReceived, IsTypedCode, IsNew}
 use Rattle.bw_flow.proofs.Names.{matches_nothing, new_at}
 use Rattle.bw_cover.specs.Facts.{What, keeps, sets, brings, takes, Edge, edge}
@@ -136,7 +136,8 @@ module _ (service : Service) (woven : IsWoven service) (sees : Spot → Scope) w
   received scope [] h = tt
   received scope (r ∷ rs) h = (h 0 r (omega arith), received scope rs (λ i d lt. h (suc i) d (omega arith)))
 
-  pub typed_edges : (c : Code) (n : ℕ) (scope : Scope) (q : Spot) → Distinct (local_names c) → Fresh scope.locals (local_names c) → IsTypedCode service scope c
+  pub typed_edges : (c : Code) (n : ℕ) (scope : Scope) (q : Spot) → Distinct (local_names c) → Fresh scope.locals (local_names c)
+      → IsTypedCode service scope c
       → Sees sees c n scope → Behind q (locals_after c scope.locals)
       → EachTyped service sees (edges c n q)
   typed_edges done n scope q d f t s h = tt
@@ -223,7 +224,7 @@ module _ (service : Service) (woven : IsWoven service) (sees : Spot → Scope) w
   typed_edges (for_each w e b rest) n scope q d f t s h =
       let m = n + 1 + numbered b in
       let own = with_local scope w kinds.Str in
-      let after : Scope = record { locals = scope.locals; taken = scope.taken ++ w ∷ local_names b } in
+      let after : Scope = behind_each scope w b in
       let dd = distinct_append (local_names b) (local_names rest) d.1 in
       let fn = fresh_next scope.locals w kinds.Str (local_names b ++ local_names rest) d.0 f in
       let fb = (fresh_append ((w, kinds.Str) ∷ scope.locals) (local_names b) (local_names rest) fn).0 in

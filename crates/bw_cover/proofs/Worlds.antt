@@ -19,7 +19,7 @@ use Rattle.bw_model.proofs.Found.{IsOut, session as a_session, out, out_all}
 use Rattle.bw_model.proofs.Kept.{by_path, by_start}
 use Rattle.bw_cover.specs.Covered.{CoversShared, CoversInputs, IsCovered, AreOpen}
 use Rattle.bw_cover.specs.Facts.{Facts}
-use Rattle.bw_cover.specs.Sound.{AcceptsAll}
+use Rattle.bw_cover.specs.Sound.{AcceptsAll, CoversTurns}
 use Rattle.bw_cover.specs.Spots.{Spot}
 use Rattle.bw_cover.specs.Worlds.{Reached, none, one_more, CoversOrigin, WaitsAtShow, talk_plugs, CoversTalk, CoversWorld, ComesToCovered}
 use Rattle.bw_cover.specs.Worlds.{CoversNext}
@@ -40,36 +40,26 @@ all_of : {A : Type 0} (P Q : A → Type 0) → ((x : A) → P x → Q x) → (xs
 all_of P Q f [] h = tt
 all_of P Q f (x ∷ xs) h = (f x h.0, all_of P Q f xs h.1)
 
-module _ (service : Service) (f : Facts Spot) (a : AcceptsAll service f) where
+module _ {K : Type 0} (service : Service) (f : Facts K) (a : CoversTurns service f) where
   -- ---- what sessions come to
 
   begun : (session : ℕ) (shared : Values) (inputs : List Input) → CoversShared service f shared → CoversInputs service f inputs →
       ComesToCovered service f (record { session = session; origin = Started shared; inputs = inputs })
-  begun session shared inputs c i = record {
-    result = turn_is_covered service f session shared inputs (a.sessions session) c i;
-    plugs = turn_plugs_are_open service f session shared inputs (a.sessions session) c i;
-  }
+  begun session shared inputs c i = let r = a.turns session shared inputs c i in record { result = r.0; plugs = r.1 }
 
   one_input : (session : ℕ) (origin : Origin) (inputs : List Input) (i : Input) → CoversOrigin service f origin → CoversInputs service f inputs →
       CoversShared service f i.shared → ComesToCovered service f (record { session = session; origin = origin; inputs = inputs ++ i ∷ [] })
   one_input session (Started shared) inputs i o c s =
       begun session shared (inputs ++ i ∷ []) o (all_append (λ (j : Input). CoversShared service f j.shared) inputs (i ∷ []) c (s, tt))
   one_input session (Loaded at locals rests shown turn) [] i o c s =
-      record {
-        result = going_on_is_covered service f session (record { at = at; locals = locals; rests = rests; input = i; later = [] }) (a.sessions session)
-            (record { locals = o.0; shared = s; later = tt });
-        plugs = going_on_plugs_are_open service f session (record { at = at; locals = locals; rests = rests; input = i; later = [] }) (a.sessions session)
-            (record { locals = o.0; shared = s; later = tt });
-      }
+      let r = a.goes_on session (record { at = at; locals = locals; rests = rests; input = i; later = [] })
+      (record { locals = o.0; shared = s; later = tt }) in
+      record { result = r.0; plugs = r.1 }
   one_input session (Loaded at locals rests shown turn) (j ∷ inputs) i o c s =
-      let later = all_append (λ (x : Input). CoversShared service f x.shared) inputs (i ∷ []) c.1 (s, tt) in record {
-        result = going_on_is_covered service f session
-            (record { at = at; locals = locals; rests = rests; input = j; later = inputs ++ i ∷ [] }) (a.sessions session)
-            (record { locals = o.0; shared = c.0; later = later });
-        plugs = going_on_plugs_are_open service f session
-            (record { at = at; locals = locals; rests = rests; input = j; later = inputs ++ i ∷ [] }) (a.sessions session)
-            (record { locals = o.0; shared = c.0; later = later });
-      }
+      let more = all_append (λ (x : Input). CoversShared service f x.shared) inputs (i ∷ []) c.1 (s, tt) in
+      let r = a.goes_on session (record { at = at; locals = locals; rests = rests; input = j; later = inputs ++ i ∷ [] })
+      (record { locals = o.0; shared = c.0; later = more }) in
+      record { result = r.0; plugs = r.1 }
 
   next_of : (talk : Talk) (form : Form) (shared : Values) → CoversTalk service f talk → CoversShared service f shared →
       ComesToCovered service f (with_input talk form shared)
@@ -160,7 +150,7 @@ module _ (service : Service) (f : Facts Spot) (a : AcceptsAll service f) where
         fated_covered l others (answered service w.first l.talk (record { method = m; form = form; turn = turn; shared = w.shared })).fate c.0 c.1
         (answer_covered l.talk m form turn c.0)
 
-    stepped : (request : Request) (key : ℕ) → CoversWorld service f (step service w request key).world
+    pub stepped : (request : Request) (key : ℕ) → CoversWorld service f (step service w request key).world
     stepped request key =
         by_path (λ s. CoversWorld service f s.world) service w request.method request.form key request.path (λ reply. h)
         (λ o. by_start (λ s. CoversWorld service f s.world) service w key o (λ reply. h) (λ s.
@@ -169,30 +159,41 @@ module _ (service : Service) (f : Facts Spot) (a : AcceptsAll service f) where
         (turned_covered w.first (beginner w s) (now service (beginner w s)) refl h.shared tt r.result r.plugs)))
         (λ m turn number k. asked m request.form turn number k (taken_out number k w.live) (out number k w.live))
 
-    nexts : CoversNext service f w
+    pub nexts : CoversNext service f w
     nexts = record {
       begins = λ s. begun s w.shared [] h.shared tt;
       goes_on = λ form. all_of Covered (λ (l : Live). ComesToCovered service f (with_input l.talk form w.shared))
           (λ l c. next_of l.talk form w.shared c h.shared) w.live h.live;
     }
 
+  covers_reached : (w : World) → Reached service w → CoversWorld service f w
+  covers_reached w none = record { shared = a.begins; live = tt }
+  covers_reached w (one_more v request key r) = stepped v (covers_reached v r) request key
+
+  pub covers_all : (w : World) → Reached service w → CoversWorld service f w × CoversNext service f w
+  covers_all w r = let c = covers_reached w r in (c, nexts w c)
+
 -- ---- the laws
+
+accepted_turns : (service : Service) (f : Facts Spot) → AcceptsAll service f → CoversTurns service f
+accepted_turns service f a = record {
+  begins = first_covered service f a.literals;
+  turns = λ k first inputs c i.
+      (turn_is_covered service f k first inputs (a.sessions k) c i, turn_plugs_are_open service f k first inputs (a.sessions k) c i);
+  goes_on = λ k answer c. (going_on_is_covered service f k answer (a.sessions k) c, going_on_plugs_are_open service f k answer (a.sessions k) c);
+}
 
 pub empty_is_covered : EmptyIsCovered
 empty_is_covered service f a = record { shared = first_covered service f a.literals; live = tt }
 
 pub steps_keep_covering : StepsKeepCovering
-steps_keep_covering service f w request key a h = stepped service f a w h request key
+steps_keep_covering service f w request key a h = stepped service f (accepted_turns service f a) w h request key
 
 pub next_is_covered : NextIsCovered
-next_is_covered service f w a h = nexts service f a w h
-
-reached : (service : Service) (f : Facts Spot) (w : World) → AcceptsAll service f → Reached service w → CoversWorld service f w
-reached service f w a none = empty_is_covered service f a
-reached service f w a (one_more v request key r) = steps_keep_covering service f v request key a (reached service f v a r)
+next_is_covered service f w a h = nexts service f (accepted_turns service f a) w h
 
 pub worlds_are_covered : WorldsAreCovered
-worlds_are_covered service f w a r = let c = reached service f w a r in (c, next_is_covered service f w a c)
+worlds_are_covered service f w a r = covers_all service f (accepted_turns service f a) w r
 
 turn_reaches : (service : Service) (at to : At) (reply : Reply) (cost : ℕ) → Turn service at reply cost to → Reached service at.world
     → Reached service to.world

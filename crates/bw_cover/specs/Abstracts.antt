@@ -73,6 +73,7 @@ summed_by Nothing = Nothing
 summed_by (Strings S) = any
 summed_by (Html G) = Nothing
 
+-- of what an operator gives, by its left side
 abbrev pub combined_by : Op → Abstract → Abstract
 combined_by Or a = Nothing
 combined_by And a = Nothing
@@ -88,6 +89,7 @@ combined_by Mul a = Nothing
 combined_by Div a = Nothing
 combined_by Rem a = Nothing
 
+-- of what a function gives
 abbrev pub called_by : Fun → Abstract
 called_by funs.Text = any
 called_by funs.Number = Nothing
@@ -136,7 +138,7 @@ abbrev mutual
       P a (number service.gaps g) (known service look e) × EachPair P service look e
       × EachFilling P service look ps (plugged_by a (number service.gaps g) (known service look e))
 
--- no fault 11: the base doesn't lack the gap
+-- there is no gap fault: the base doesn't lack the gap
 abbrev pub IsNotLacked : Abstract → ℕ → Abstract → Type 0
 IsNotLacked Nothing g a = Unit {0}
 IsNotLacked (Strings S) g a = Unit {0}

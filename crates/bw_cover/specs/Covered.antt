@@ -21,6 +21,7 @@ pub record CoversShared {K : Type 0} (service : Service) (f : Facts K) (shared :
   pub names : (w : List ℕ) → is_some (beside w shared) ≡ is_shared service w
   pub each : (w : List ℕ) (v : Value) → beside w shared ≡ Some v → covers service (f.shared w) v
 
+-- each input comes with covered shared variables
 abbrev pub CoversInputs : {K : Type 0} → Service → Facts K → List Input → Type 0
 CoversInputs service f inputs = AllByRecursion (λ (i : Input). CoversShared service f i.shared) inputs
 

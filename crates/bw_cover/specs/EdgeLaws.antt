@@ -13,6 +13,7 @@ point_of (statement n) = Some (leads.statement n)
 point_of (meeting n) = Some (leads.meeting n)
 point_of out = None
 
+-- from a point to a point, where both are in the flow
 abbrev pub between : Option leads.Spot → Option leads.Spot → List (leads.Spot × leads.Spot)
 between None q = []
 between (Some p) q = leads.from p q
@@ -25,5 +26,6 @@ ends es = flat_map (λ (e : Edge Spot). between (point_of e.from) (point_of e.to
 abbrev pub EdgesAreLeads : Type 0
 EdgesAreLeads = (service : Service) → ends (service_edges service.sessions 1) ≡ leads.service_leads service.sessions 1
 
+-- so they are the next points of the flow itself
 abbrev pub EdgesAreNexts : Type 0
 EdgesAreNexts = (service : Service) → let flow = (plan_of service).steps in ends (service_edges service.sessions 1) ≡ leads.nexts flow flow

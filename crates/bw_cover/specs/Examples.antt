@@ -32,6 +32,7 @@ misses = exit (plug (name (codes "List")) (filling (codes "n") (string (codes "a
 abbrev pub fills_twice : Code
 fills_twice = exit (plug (name (codes "List")) (filling (codes "rows") (name (codes "Row")) (filling (codes "rows") (name (codes "Row")) no_more))) done
 
+-- the gaps that are filled, each with how often it was open
 pub record PlugExamples : Type 0 where
   -- nothing is plugged before the first answer
   pub none : filled (turn_plugs rows_service 0 shared []) ≡ []
@@ -54,29 +55,35 @@ rows_known = record {
   lack = λ g. is_gap rows_service g && not (opens g (template_items rows_service 0));
 }
 
+-- what is known of d, of x and of c, wherever they are in scope
 abbrev pub cell : List ℕ → Abstract
 cell w = if same w (codes "d") then Html rows_known else if same w (codes "x") then any else Nothing
 
+-- the locals in scope at the statement of each number
 abbrev pub scope_at : ℕ → List (List ℕ)
 scope_at n =
     if n == 1 then [] else if n == 2 then codes "c" ∷ [] else if n == 3 then codes "c" ∷ []
     else if n == 5 then codes "c" ∷ codes "d" ∷ codes "x" ∷ [] else codes "c" ∷ codes "d" ∷ []
 
+-- and at each point
 abbrev pub scope_of : Spot → List (List ℕ)
 scope_of (statement n) = scope_at n
 scope_of (meeting n) = []
 scope_of out = []
 
+-- the exit is the sixth statement
 abbrev pub is_last : Spot → Bool
 is_last (statement n) = n == 6
 is_last (meeting n) = false
 is_last out = false
 
+-- the list is shown at first, and the list with its rows at last
 abbrev pub shown_of : Spot → Graph
 shown_of (statement n) = if n == 6 then rows_known else constant (template_items rows_service) (is_gap rows_service) 0
 shown_of (meeting n) = rows_known
 shown_of out = rows_known
 
+-- all that is said of the service
 abbrev pub rows_facts : Facts Spot
 rows_facts = record { scope = scope_of; local = λ q w. cell w; shared = λ w. Nothing; shown = shown_of; is_exit = is_last; place = λ n. statement n }
 

@@ -98,6 +98,7 @@ pub record Edge (K : Type 0) : Type 0 where
   pub what : What
   pub to : K
 
+-- the edge from p to q, where p does this
 abbrev pub edge : {K : Type 0} → K → What → K → Edge K
 edge p what q = record { from = p; what = what; to = q }
 
@@ -108,53 +109,55 @@ EachLeads {K} service f es = AllByRecursion (λ (e : Edge K). Leads service f e.
 -- ---- statements laid out over points
 
 -- at this point these locals are in scope, and this expression is evaluated: none of its plugs may lack its gap
-pub record IsPoint {K : Type 0} (service : Service) (f : Facts K) (p : K) (sc : List (List ℕ)) (e : Term) : Type 0 where
-  pub scope : f.scope p ≡ sc
+pub record IsPoint {K : Type 0} (service : Service) (f : Facts K) (p : K) (names : List (List ℕ)) (e : Term) : Type 0 where
+  pub scope : f.scope p ≡ names
   pub gaps : EachPair IsNotLacked service (look service f p) e
   pub plugs : EachPair (IsPlug service) service (look service f p) e
 
 -- no name in scope is among these
 abbrev pub Apart : List (List ℕ) → List (List ℕ) → Type 0
-Apart sc names = (w : List ℕ) → is_among w sc ≡ true → is_among w names ≡ false
+Apart scope names = (w : List ℕ) → is_among w scope ≡ true → is_among w names ≡ false
 
 -- the locals in scope behind the statements
 abbrev pub after : Code → List (List ℕ) → List (List ℕ)
-after done sc = sc
-after (declare kind w e rest) sc = after rest (sc ++ w ∷ [])
-after (assign w e rest) sc = after rest sc
-after (if_then t y rest) sc = after rest sc
-after (if_else t y z rest) sc = after rest sc
-after (while_loop t b rest) sc = after rest sc
-after (block b rest) sc = after rest sc
-after (for_each w e b rest) sc = after rest sc
-after (show p rs rest) sc = after rest sc
-after (exit p rest) sc = after rest sc
+after done scope = scope
+after (declare kind w e rest) scope = after rest (scope ++ w ∷ [])
+after (assign w e rest) scope = after rest scope
+after (if_then t y rest) scope = after rest scope
+after (if_else t y z rest) scope = after rest scope
+after (while_loop t b rest) scope = after rest scope
+after (block b rest) scope = after rest scope
+after (for_each w e b rest) scope = after rest scope
+after (show p rs rest) scope = after rest scope
+after (exit p rest) scope = after rest scope
 
 -- The statements, the first of which has number n, with these locals in scope in front of it, begin at point p and end
 -- at point q, and the facts obey where each of their points leads.
 abbrev pub Laid : {K : Type 0} → Service → Facts K → Code → ℕ → List (List ℕ) → K → K → Type 0
-Laid service f done n sc p q = p ≡ q
-Laid {K} service f (declare kind w e rest) n sc p q =
-    (r : K) × IsPoint service f p sc e × (is_among w sc ≡ false) × Leads service f p (sets w e) r × Laid service f rest (n + 1) (sc ++ w ∷ []) r q
-Laid {K} service f (assign w e rest) n sc p q = (r : K) × IsPoint service f p sc e × Leads service f p (sets w e) r × Laid service f rest (n + 1) sc r q
-Laid {K} service f (if_then t y rest) n sc p q =
-    (b : K) × (j : K) × (r : K) × IsPoint service f p sc t × (f.scope j ≡ sc) × Apart sc (declared y)
+Laid service f done n scope p q = p ≡ q
+Laid {K} service f (declare kind w e rest) n scope p q =
+    (r : K) × IsPoint service f p scope e × (is_among w scope ≡ false) × Leads service f p (sets w e) r × Laid service f rest (n + 1) (scope ++ w ∷ []) r q
+Laid {K} service f (assign w e rest) n scope p q = (r : K) × IsPoint service f p scope e × Leads service f p (sets w e) r
+    × Laid service f rest (n + 1) scope r q
+Laid {K} service f (if_then t y rest) n scope p q =
+    (b : K) × (j : K) × (r : K) × IsPoint service f p scope t × (f.scope j ≡ scope) × Apart scope (declared y)
     × Leads service f p keeps b × Leads service f p keeps j × Leads service f j keeps r
-    × Laid service f y (n + 1) sc b j × Laid service f rest (n + 1 + numbered y) sc r q
-Laid {K} service f (if_else t y z rest) n sc p q =
-    (b : K) × (c : K) × (j : K) × (r : K) × IsPoint service f p sc t × (f.scope j ≡ sc) × Apart sc (declared y) × Apart sc (declared z)
+    × Laid service f y (n + 1) scope b j × Laid service f rest (n + 1 + numbered y) scope r q
+Laid {K} service f (if_else t y z rest) n scope p q =
+    (b : K) × (c : K) × (j : K) × (r : K) × IsPoint service f p scope t × (f.scope j ≡ scope) × Apart scope (declared y) × Apart scope (declared z)
     × Leads service f p keeps b × Leads service f p keeps c × Leads service f j keeps r
-    × Laid service f y (n + 1) sc b j × Laid service f z (n + 1 + numbered y) sc c j × Laid service f rest (n + 1 + numbered y + numbered z) sc r q
-Laid {K} service f (while_loop t b rest) n sc p q =
-    (y : K) × (r : K) × IsPoint service f p sc t × Apart sc (declared b) × Leads service f p keeps y × Leads service f p keeps r
-    × Laid service f b (n + 1) sc y p × Laid service f rest (n + 1 + numbered b) sc r q
-Laid {K} service f (block b rest) n sc p q =
-    (r : K) × Apart sc (declared b) × Laid service f b n sc p r × Laid service f rest (n + numbered b) sc r q
-Laid {K} service f (for_each w e b rest) n sc p q =
-    (y : K) × (r : K) × IsPoint service f p sc e × Apart sc (w ∷ declared b) × Leads service f p (brings w) y × Leads service f p keeps r
-    × Laid service f b (n + 1) (sc ++ w ∷ []) y p × Laid service f rest (n + 1 + numbered b) sc r q
-Laid {K} service f (show e rs rest) n sc p q =
-    (r : K) × IsPoint service f p sc e × (known service (look service f p) e ≡ Html (f.shown p)) × (f.place n ≡ p) × Leads service f p (takes rs) r
-    × Laid service f rest (n + 1) sc r q
-Laid {K} service f (exit e rest) n sc p q =
-    (r : K) × IsPoint service f p sc e × (known service (look service f p) e ≡ Html (f.shown p)) × (f.is_exit p ≡ true) × Laid service f rest (n + 1) sc r q
+    × Laid service f y (n + 1) scope b j × Laid service f z (n + 1 + numbered y) scope c j × Laid service f rest (n + 1 + numbered y + numbered z) scope r q
+Laid {K} service f (while_loop t b rest) n scope p q =
+    (y : K) × (r : K) × IsPoint service f p scope t × Apart scope (declared b) × Leads service f p keeps y × Leads service f p keeps r
+    × Laid service f b (n + 1) scope y p × Laid service f rest (n + 1 + numbered b) scope r q
+Laid {K} service f (block b rest) n scope p q =
+    (r : K) × Apart scope (declared b) × Laid service f b n scope p r × Laid service f rest (n + numbered b) scope r q
+Laid {K} service f (for_each w e b rest) n scope p q =
+    (y : K) × (r : K) × IsPoint service f p scope e × Apart scope (w ∷ declared b) × Leads service f p (brings w) y × Leads service f p keeps r
+    × Laid service f b (n + 1) (scope ++ w ∷ []) y p × Laid service f rest (n + 1 + numbered b) scope r q
+Laid {K} service f (show e rs rest) n scope p q =
+    (r : K) × IsPoint service f p scope e × (known service (look service f p) e ≡ Html (f.shown p)) × (f.place n ≡ p) × Leads service f p (takes rs) r
+    × Laid service f rest (n + 1) scope r q
+Laid {K} service f (exit e rest) n scope p q =
+    (r : K) × IsPoint service f p scope e × (known service (look service f p) e ≡ Html (f.shown p)) × (f.is_exit p ≡ true)
+    × Laid service f rest (n + 1) scope r q

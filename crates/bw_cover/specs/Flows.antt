@@ -12,6 +12,7 @@ use Rattle.bw_meaning.specs.States.{Input, Answered}
 use Rattle.bw_meaning.specs.Values.{Values, first_values}
 use Rattle.bw_flow.specs.declared.point.Local.{Local}
 use Rattle.bw_flow.specs.declared.point.Received.{Received}
+use Rattle.bw_flow.specs.Layout.{plan_of}
 use Rattle.bw_flow.specs.Stands.{IsAt, Lowered}
 use Rattle.bw_flow.specs.Steps.{Act, sets, tests, goes_over, shows, exits, joins, Step}
 use Rattle.bw_cover.specs.Abstracts.{Html, Below, known, EachPair, IsNotLacked, IsPlug}
@@ -35,6 +36,7 @@ pub record Fits (service : Service) (f : Facts ℕ) (p : ℕ) (e : Term) : Type 
   pub gaps : EachPair IsNotLacked service (look service f p) e
   pub plugs : EachPair (IsPlug service) service (look service f p) e
 
+-- a point that does this leads to each of these
 abbrev pub LeadsToAll : Service → Facts ℕ → ℕ → facts.What → List ℕ → Type 0
 LeadsToAll service f p what next = AllByRecursion (λ (q : ℕ). Leads service f p what q) next
 
@@ -67,6 +69,7 @@ pub record ObeysPoint (service : Service) (f : Facts ℕ) (p : ℕ) (x : Step) :
   pub leads : ActLeads service f p x.act x.next
   pub fits : ActFits service f p x.number x.act
 
+-- the facts obey each point of the flow
 abbrev pub ObeysFlow : Service → Facts ℕ → List Step → Type 0
 ObeysFlow service f flow = (p : ℕ) (x : Step) → IsAt flow p x → ObeysPoint service f p x
 
@@ -85,14 +88,21 @@ FlowTurnIsCovered =
     CoversShared service f first → CoversInputs service f inputs →
     IsCovered service f (turn service session first inputs) × AreOpen (turn_plugs service session first inputs)
 
+-- so does going on from a show with covered locals
 abbrev pub FlowGoingOnIsCovered : Type 0
 FlowGoingOnIsCovered =
     (service : Service) (f : Facts ℕ) (flow : List Step) (session : ℕ) (a : Answered) → AcceptsFlow service f flow session →
     CoversLocals service f (f.place a.at) a.locals → CoversShared service f a.input.shared → CoversInputs service f a.later →
     IsCovered service f (go_on service session a) × AreOpen (go_on_plugs service session a)
 
+-- the facts obey the whole flow of the service, and the literals of its shared variables
+pub record ObeysService (service : Service) (f : Facts ℕ) : Type 0 where
+  pub literals : AllByRecursion (λ (v : Shared). Below (literal_known service v.init) (f.shared v.name)) service.shared
+  pub points : ObeysFlow service f (plan_of service).steps
+
 -- ---- the least cells of a flow
 
+-- the edges to each of these points
 abbrev pub edges_to : ℕ → facts.What → List ℕ → List (Edge ℕ)
 edges_to p what next = map (λ (q : ℕ). edge p what q) next
 

@@ -1,5 +1,5 @@
 -- In a typed service whose cells have the kinds of their variables, plugs fill what they may fill, and pages are documents.
-use Rattle.std.specs.Prelude.{◌≡◌, ◌≢◌, ◌<◌, ℕ, ◌+◌, true, false, List, [], ◌∷◌, ◌++◌, length, is_some, Some}
+use Rattle.std.specs.Prelude.{◌≡◌, ◌≢◌, ◌<◌, ℕ, ◌+◌, true, false, List, [], length, is_some, Some}
 use Rattle.std.specs.List.{All, AllByRecursion, AllPairs}
 use Rattle.bw_lang.specs.declared.service.Service.{Service}
 use Rattle.bw_lang.specs.declared.service.Shared.{Shared}
@@ -13,7 +13,7 @@ use Rattle.bw_meaning.specs.GoOn.{body_of}
 use Rattle.bw_lang.specs.Numbers.{first_number}
 use Rattle.bw_types.specs.declared.fault.GapKind.{GapKind}
 use Rattle.bw_types.specs.Gaps.{kind_of_gap}
-use Rattle.bw_types.specs.Scopes.{Scope, no_locals, shared_kinds, with_local, behind, is_among}
+use Rattle.bw_types.specs.Scopes.{Scope, no_locals, shared_kinds, with_local, behind, is_among, behind_each}
 use Rattle.bw_types.specs.Typing.{HasKind, IsTypedService}
 use Rattle.bw_sum.specs.Graph.{Graph}
 use Rattle.bw_cover.specs.Abstracts.{Abstract, Nothing, Strings, Html, known, EachPair, IsPlug}
@@ -61,7 +61,7 @@ CellsAreOf f (while_loop t b rest) n scope = LocalsAreOf f (statement n) scope �
 CellsAreOf f (block b rest) n scope = CellsAreOf f b n scope × CellsAreOf f rest (n + numbered b) (behind scope b)
 CellsAreOf f (for_each w e b rest) n scope =
     LocalsAreOf f (statement n) scope × CellsAreOf f b (n + 1) (with_local scope w kinds.Str)
-    × CellsAreOf f rest (n + 1 + numbered b) (record { locals = scope.locals; taken = scope.taken ++ w ∷ local_names b })
+    × CellsAreOf f rest (n + 1 + numbered b) (behind_each scope w b)
 CellsAreOf f (show p rs rest) n scope = LocalsAreOf f (statement n) scope × CellsAreOf f rest (n + 1) scope
 CellsAreOf f (exit p rest) n scope = LocalsAreOf f (statement n) scope × CellsAreOf f rest (n + 1) scope
 
@@ -69,10 +69,14 @@ CellsAreOf f (exit p rest) n scope = LocalsAreOf f (statement n) scope × CellsA
 abbrev pub SharedAreOf : {K : Type 0} → Service → Facts K → Type 0
 SharedAreOf service f = (w : List ℕ) (kind : Kind) → beside w (shared_kinds service) ≡ Some kind → IsOf kind (f.shared w)
 
+-- of no document
+abbrev pub no_graph : Graph
+no_graph = record { root = λ n. false; edge = λ n g m. false; label = λ n g s. false; track = λ g n. false; lack = λ g. false }
+
 -- the summary of a document, or an empty one
 abbrev pub summary_of : Abstract → Graph
-summary_of Nothing = record { root = λ n. false; edge = λ n g m. false; label = λ n g s. false; track = λ g n. false; lack = λ g. false }
-summary_of (Strings S) = record { root = λ n. false; edge = λ n g m. false; label = λ n g s. false; track = λ g n. false; lack = λ g. false }
+summary_of Nothing = no_graph
+summary_of (Strings S) = no_graph
 summary_of (Html G) = G
 
 -- what is given for each show and exit is the summary of its document, and statements stand at their points
@@ -96,7 +100,7 @@ abbrev pub GapsAreThere : Service → Type 0
 GapsAreThere service = (w : List ℕ) (kind : GapKind) → kind_of_gap service w ≡ Some kind → number service.gaps w < length service.gaps
 
 -- What the check of a service knows of its least cells: the service is typed, with the law that locals differ, and was
--- read; the facts have the scopes of the tree, cells of the right kinds, and no fault 11.
+-- read; the facts have the scopes of the tree, cells of the right kinds, and no gap fault.
 pub record IsChecked (service : Service) (f : Facts Spot) (empty c : Cells Spot) : Type 0 where
   pub typed : IsTypedService service
   pub differ : All (λ s. AllPairs (λ v w. v ≢ w) (local_names s.body)) service.sessions
@@ -114,7 +118,7 @@ CheckedIsAccepted = (service : Service) (f : Facts Spot) (empty c : Cells Spot) 
 
 -- the names of locals are those of the scope
 abbrev pub Agree : Scope → List (List ℕ) → Type 0
-Agree scope sc = (w : List ℕ) → is_some (beside w scope.locals) ≡ is_among w sc
+Agree scope names = (w : List ℕ) → is_some (beside w scope.locals) ≡ is_among w names
 
 -- At a place of a flow that sees this scope: of a typed expression what is known has its kind, and its plugs fill what
 -- they may fill.
@@ -130,5 +134,6 @@ LiteralsAreOf service =
     AllByRecursion (λ (v : Shared). (kind : Kind) → beside v.name (shared_kinds service) ≡ Some kind
     → IsOf kind (literal_known service v.init)) service.shared
 
+-- so it is in a typed service
 abbrev pub TypedLiterals : Type 0
 TypedLiterals = (service : Service) → IsWoven service → IsTypedService service → LiteralsAreOf service

@@ -21,6 +21,7 @@ pub record Cells (K : Type 0) : Type 0 where
   pub local : K → List ℕ → Abstract
   pub shared : List ℕ → Abstract
 
+-- the same facts with these cells
 abbrev pub with_cells : {K : Type 0} → Facts K → Cells K → Facts K
 with_cells f c = record f { local = c.local; shared = c.shared }
 
@@ -34,11 +35,13 @@ join (Html G) Nothing = Nothing
 join (Html G) (Strings T) = Nothing
 join (Html G) (Html H) = Html (joined G H)
 
+-- the join of what there is, if this point is meant
 abbrev pub join_if : Bool → Option Abstract → Abstract → Abstract
 join_if false o b = b
 join_if true None b = b
 join_if true (Some a) b = join a b
 
+-- it is the same point
 abbrev pub same_spot : Spot → Spot → Bool
 same_spot (statement m) (statement n) = m == n
 same_spot (statement m) (meeting n) = false
@@ -69,6 +72,7 @@ abbrev pub joined_shared : {K : Type 0} → Service → Facts K → List (Edge K
 joined_shared service f [] w first = first
 joined_shared service f (e ∷ es) w first = join_if true (added service f e.from e.what w) (joined_shared service f es w first)
 
+-- the join of the literals of the shared variables of that name
 abbrev pub joined_literals : Service → List Shared → List ℕ → Abstract → Abstract
 joined_literals service [] w empty = empty
 joined_literals service (v ∷ vs) w empty = join_if (same w v.name) (Some (literal_known service v.init)) (joined_literals service vs w empty)
@@ -80,6 +84,7 @@ round is_same service f es empty c = record {
   shared = λ w. joined_shared service (with_cells f c) es w (joined_literals service service.shared w (empty.shared w));
 }
 
+-- so many rounds from the empty cells
 abbrev pub rounds : {K : Type 0} → (K → K → Bool) → Service → Facts K → List (Edge K) → Cells K → ℕ → Cells K
 rounds is_same service f es empty zero = empty
 rounds is_same service f es empty (suc n) = round is_same service f es empty (rounds is_same service f es empty n)

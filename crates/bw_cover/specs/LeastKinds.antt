@@ -1,15 +1,14 @@
 -- The least cells of a typed service have the kinds of their variables, where the empty cells have them.
-use Rattle.std.specs.Prelude.{◌≡◌, ℕ, ◌+◌, true, false, List, [], ◌∷◌, ◌++◌, Some, None}
+use Rattle.std.specs.Prelude.{◌≡◌, ℕ, ◌+◌, true, false, List, [], Some, None}
 use Rattle.std.specs.List.{AllByRecursion}
 use Rattle.bw_lang.specs.declared.service.Service.{Service}
 use Rattle.bw_lang.specs.declared.stmt.Kind.{Kind}
 use Rattle.bw_lang.specs.Code.{Code, done, declare, assign, if_then, if_else, while_loop, block, for_each, show, exit, numbered}
-use Rattle.bw_lang.specs.CodeNames.{local_names}
 use Rattle.bw_lang.specs.Names.{same, beside}
 use Rattle.bw_lang.specs.Reads.{IsReadable}
 use Rattle.bw_meaning.specs.GoOn.{body_of}
 use Rattle.bw_lang.specs.Numbers.{first_number}
-use Rattle.bw_types.specs.Scopes.{Scope, no_locals, shared_kinds, with_local, behind}
+use Rattle.bw_types.specs.Scopes.{Scope, no_locals, shared_kinds, with_local, behind, behind_each}
 use Rattle.bw_types.specs.Faults.{IsWellTyped}
 use Rattle.bw_types.specs.Typing.{HasKind, IsReceived}
 use Rattle.bw_cover.specs.Facts.{What, keeps, sets, brings, takes, Facts, Edge}
@@ -35,7 +34,7 @@ Sees sees (while_loop t b rest) n scope = (sees (statement n) ≡ scope) × Sees
 Sees sees (block b rest) n scope = Sees sees b n scope × Sees sees rest (n + numbered b) (behind scope b)
 Sees sees (for_each w e b rest) n scope =
     (sees (statement n) ≡ scope) × Sees sees b (n + 1) (with_local scope w kinds.Str)
-    × Sees sees rest (n + 1 + numbered b) (record { locals = scope.locals; taken = scope.taken ++ w ∷ local_names b })
+    × Sees sees rest (n + 1 + numbered b) (behind_each scope w b)
 Sees sees (show p rs rest) n scope = (sees (statement n) ≡ scope) × Sees sees rest (n + 1) scope
 Sees sees (exit p rest) n scope = (sees (statement n) ≡ scope) × Sees sees rest (n + 1) scope
 
@@ -62,10 +61,11 @@ TypedStep service p (sets v e) q =
 TypedStep service p (brings v) q = WithinBut v kinds.Str p q
 TypedStep service p (takes rs) q = Within p q × AllByRecursion (IsReceived service p) rs
 
+-- each edge is so, where `sees` tells what each point sees
 abbrev pub EachTyped : {K : Type 0} → Service → (K → Scope) → List (Edge K) → Type 0
 EachTyped {K} service sees es = AllByRecursion (λ (e : Edge K). TypedStep service (sees e.from) e.what (sees e.to)) es
 
--- A typed service that was read, its least cells from empty cells of the right kinds, and no fault 11.
+-- A typed service that was read, its least cells from empty cells of the right kinds, and no gap fault.
 pub record IsSolved (service : Service) (f : Facts Spot) (sees : Spot → Scope) (empty c : Cells Spot) : Type 0 where
   pub readable : ∥ IsReadable service ∥₁
   pub typed : IsWellTyped service
@@ -78,6 +78,7 @@ pub record IsSolved (service : Service) (f : Facts Spot) (sees : Spot → Scope)
   pub least : IsLeast same_spot service f (service_edges service.sessions 1) empty c
   pub gaps : (session : ℕ) → HasNoGapFault service (with_cells f c) session
 
+-- such a service is accepted
 abbrev pub SolvedIsAccepted : Type 0
 SolvedIsAccepted = (service : Service) (f : Facts Spot) (sees : Spot → Scope) (empty c : Cells Spot) → IsSolved service f sees empty c
     → AcceptsAll service (with_cells f c)

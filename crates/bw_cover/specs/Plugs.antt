@@ -23,10 +23,12 @@ abbrev pub on_unit : ℕ → (ℕ → List Plug) → List Plug
 on_unit zero go = []
 on_unit (suc units) go = go units
 
+-- goes on with a value
 abbrev pub on_value : Evaluated → (Value → ℕ → List Plug) → List Plug
 on_value (Gives v units) go = go v units
 on_value (Faults f units) go = []
 
+-- goes on where statements went to their end
 abbrev pub on_end : Outcome → (State → List Plug) → List Plug
 on_end (Went st) go = go st
 on_end (Shown at locals rests shown shared units) go = []
@@ -63,6 +65,7 @@ abbrev pub value_plugs : Service → Term → State → (Value → State → Lis
 value_plugs service e st go =
     plugs_in service st.locals st.shared e st.units ++ on_value (eval service st.locals st.shared e st.units) (λ v u. go v (record st { units = u }))
 
+-- the same where a unit is taken first
 abbrev pub begin_plugs : Service → Term → State → (Value → State → List Plug) → List Plug
 begin_plugs service e st go = on_unit st.units (λ u. value_plugs service e (record st { units = u }) go)
 
@@ -105,6 +108,7 @@ plugs service (show p rs rest) n around st =
     begin_plugs service p st (λ v st1. []) ++ on_end (exec service (show p rs done) n around st) (plugs service rest (n + 1) around)
 plugs service (exit p rest) n around st = begin_plugs service p st (λ v st1. [])
 
+-- goes on with the rest of the outermost foreach
 abbrev pub rest_plugs : Rests → (List (List ℕ) → Rests → List Plug) → List Plug
 rest_plugs [] go = []
 rest_plugs (vs ∷ inner) go = go vs inner
@@ -159,5 +163,6 @@ abbrev pub turn_plugs : Service → ℕ → Values → List Input → List Plug
 turn_plugs service session first inputs =
     plugs service (body_of service session) (first_number service session) 0 (record { locals = []; shared = first; units = budget; inputs = inputs })
 
+-- those of going on from an answered show
 abbrev pub go_on_plugs : Service → ℕ → Answered → List Plug
 go_on_plugs service session a = plugs_behind service (body_of service session) (first_number service session) 0 a

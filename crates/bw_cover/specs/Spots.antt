@@ -55,18 +55,19 @@ edges (exit e rest) n q = edges rest (n + 1) q
 
 -- the scopes at the points are those of the tree, where these locals are in scope in front of it
 abbrev pub Scoped : Facts Spot → Code → ℕ → List (List ℕ) → Type 0
-Scoped f done n sc = Unit {0}
-Scoped f (declare kind w e rest) n sc = (f.scope (statement n) ≡ sc) × Scoped f rest (n + 1) (sc ++ w ∷ [])
-Scoped f (assign w e rest) n sc = (f.scope (statement n) ≡ sc) × Scoped f rest (n + 1) sc
-Scoped f (if_then t y rest) n sc = (f.scope (statement n) ≡ sc) × (f.scope (meeting n) ≡ sc) × Scoped f y (n + 1) sc × Scoped f rest (n + 1 + numbered y) sc
-Scoped f (if_else t y z rest) n sc =
-    (f.scope (statement n) ≡ sc) × (f.scope (meeting n) ≡ sc) × Scoped f y (n + 1) sc × Scoped f z (n + 1 + numbered y) sc
-    × Scoped f rest (n + 1 + numbered y + numbered z) sc
-Scoped f (while_loop t b rest) n sc = (f.scope (statement n) ≡ sc) × Scoped f b (n + 1) sc × Scoped f rest (n + 1 + numbered b) sc
-Scoped f (block b rest) n sc = Scoped f b n sc × Scoped f rest (n + numbered b) sc
-Scoped f (for_each w e b rest) n sc = (f.scope (statement n) ≡ sc) × Scoped f b (n + 1) (sc ++ w ∷ []) × Scoped f rest (n + 1 + numbered b) sc
-Scoped f (show e rs rest) n sc = (f.scope (statement n) ≡ sc) × Scoped f rest (n + 1) sc
-Scoped f (exit e rest) n sc = (f.scope (statement n) ≡ sc) × Scoped f rest (n + 1) sc
+Scoped f done n scope = Unit {0}
+Scoped f (declare kind w e rest) n scope = (f.scope (statement n) ≡ scope) × Scoped f rest (n + 1) (scope ++ w ∷ [])
+Scoped f (assign w e rest) n scope = (f.scope (statement n) ≡ scope) × Scoped f rest (n + 1) scope
+Scoped f (if_then t y rest) n scope = (f.scope (statement n) ≡ scope) × (f.scope (meeting n) ≡ scope) × Scoped f y (n + 1) scope
+    × Scoped f rest (n + 1 + numbered y) scope
+Scoped f (if_else t y z rest) n scope =
+    (f.scope (statement n) ≡ scope) × (f.scope (meeting n) ≡ scope) × Scoped f y (n + 1) scope × Scoped f z (n + 1 + numbered y) scope
+    × Scoped f rest (n + 1 + numbered y + numbered z) scope
+Scoped f (while_loop t b rest) n scope = (f.scope (statement n) ≡ scope) × Scoped f b (n + 1) scope × Scoped f rest (n + 1 + numbered b) scope
+Scoped f (block b rest) n scope = Scoped f b n scope × Scoped f rest (n + numbered b) scope
+Scoped f (for_each w e b rest) n scope = (f.scope (statement n) ≡ scope) × Scoped f b (n + 1) (scope ++ w ∷ []) × Scoped f rest (n + 1 + numbered b) scope
+Scoped f (show e rs rest) n scope = (f.scope (statement n) ≡ scope) × Scoped f rest (n + 1) scope
+Scoped f (exit e rest) n scope = (f.scope (statement n) ≡ scope) × Scoped f rest (n + 1) scope
 
 -- what is known of the document of each show and exit is the summary that is given for it
 abbrev pub Pages : Service → Facts Spot → Code → ℕ → Type 0
@@ -104,7 +105,7 @@ pub record Solves (service : Service) (f : Facts Spot) (session : ℕ) : Type 0 
   pub pages : Pages service f (body_of service session) (first_number service session)
   pub leads : EachLeads service f (edges (body_of service session) (first_number service session) out)
 
--- no fault 11: at no point a plug's base may lack its gap
+-- no gap fault: at no point a plug's base may lack its gap
 abbrev pub HasNoGapFault : Service → Facts Spot → ℕ → Type 0
 HasNoGapFault service f session =
     EachPoint (λ p e. EachPair IsNotLacked service (look service f p) e) (body_of service session) (first_number service session)

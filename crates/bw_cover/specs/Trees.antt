@@ -4,10 +4,9 @@ use Rattle.bw_lang.specs.declared.service.Service.{Service}
 use Rattle.bw_lang.specs.declared.service.Session.{Session}
 use Rattle.bw_lang.specs.declared.stmt.Kind.{Kind}
 use Rattle.bw_lang.specs.Code.{Code, done, declare, assign, if_then, if_else, while_loop, block, for_each, show, exit, numbered}
-use Rattle.bw_lang.specs.CodeNames.{local_names}
 use Rattle.bw_lang.specs.Reads.{IsReadable}
 use Rattle.bw_lang.specs.Term.{Term, nothing}
-use Rattle.bw_types.specs.Scopes.{Scope, no_locals, with_local, behind}
+use Rattle.bw_types.specs.Scopes.{Scope, no_locals, with_local, behind, behind_each}
 use Rattle.bw_types.specs.Faults.{IsWellTyped}
 use Rattle.bw_cover.specs.Abstracts.{known}
 use Rattle.bw_cover.specs.Facts.{Facts, look}
@@ -26,14 +25,13 @@ pub record Place : Type 0 where
   pub term : Term
   pub exits : Bool
 
+-- the place of a statement with this scope, expression and end
 abbrev pub place : Scope → Term → Bool → Place
 place scope e exits = record { scope = scope; term = e; exits = exits }
 
+-- where no statement stands
 abbrev pub nowhere : Place
 nowhere = place no_locals nothing false
-
-abbrev pub behind_each : Scope → List ℕ → Code → Scope
-behind_each scope w b = record { locals = scope.locals; taken = scope.taken ++ w ∷ local_names b }
 
 -- the statement of number k among these, the first of which has number n and this scope in front of it
 abbrev pub place_in : Code → ℕ → Scope → ℕ → Place
@@ -64,6 +62,7 @@ abbrev pub place_of : List Session → ℕ → ℕ → Place
 place_of [] n k = nowhere
 place_of (s ∷ ss) n k = if nat_lt k (n + numbered s.body) then place_in s.body n no_locals k else place_of ss (n + numbered s.body) k
 
+-- the place of a point; an `if` and its join have one
 abbrev pub spot_place : Service → Spot → Place
 spot_place service (statement k) = place_of service.sessions 1 k
 spot_place service (meeting k) = place_of service.sessions 1 k
@@ -89,11 +88,12 @@ scope_facts service c = record {
   place = λ k. statement k;
 }
 
+-- scopes, exits and pages
 abbrev pub tree_facts : Service → Cells Spot → Facts Spot
 tree_facts service c =
     record (scope_facts service c) { shown = λ q. summary_of (known service (look service (scope_facts service c) q) (spot_place service q).term) }
 
--- A typed service that was read, with its least cells from empty cells of the right kinds, and no fault 11.
+-- A typed service that was read, with its least cells from empty cells of the right kinds, and no gap fault.
 pub record IsAnswered (service : Service) (empty c : Cells Spot) : Type 0 where
   pub readable : ∥ IsReadable service ∥₁
   pub typed : IsWellTyped service
@@ -105,6 +105,7 @@ pub record IsAnswered (service : Service) (empty c : Cells Spot) : Type 0 where
 abbrev pub AnsweredIsAccepted : Type 0
 AnsweredIsAccepted = (service : Service) (empty c : Cells Spot) → IsAnswered service empty c → AcceptsAll service (tree_facts service c)
 
+-- and every world that requests reach is covered, and so is what comes next
 abbrev pub AnsweredWorldsAreCovered : Type 0
 AnsweredWorldsAreCovered =
     (service : Service) (empty c : Cells Spot) (w : World) → IsAnswered service empty c → Reached service w →

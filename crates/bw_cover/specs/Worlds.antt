@@ -24,13 +24,13 @@ pub data Reached (service : Service) : World → Type 0 where
 -- ---- sessions
 
 -- what a session begins with is covered: the shared variables, or the locals and the document of the show at which it was loaded
-abbrev pub CoversOrigin : Service → Facts Spot → Origin → Type 0
+abbrev pub CoversOrigin : {K : Type 0} → Service → Facts K → Origin → Type 0
 CoversOrigin service f (Started shared) = CoversShared service f shared
 CoversOrigin service f (Loaded at locals rests shown turn) =
     CoversLocals service f (f.place at) locals × CoversTree service (f.shown (f.place at)) shown.tree
 
 -- a session waits at a show, where its locals and its document are covered
-abbrev pub WaitsAtShow : Service → Facts Spot → Outcome → Type 0
+abbrev pub WaitsAtShow : {K : Type 0} → Service → Facts K → Outcome → Type 0
 WaitsAtShow service f (Shown at locals rests shown shared units) =
     CoversLocals service f (f.place at) locals × CoversTree service (f.shown (f.place at)) shown.tree
 WaitsAtShow service f (Went st) = ⊥
@@ -44,11 +44,12 @@ plugs_over service session (Loaded at locals rests shown turn) [] = []
 plugs_over service session (Loaded at locals rests shown turn) (i ∷ later) =
     go_on_plugs service session (record { at = at; locals = locals; rests = rests; input = i; later = later })
 
+-- those that it has made so far
 abbrev pub talk_plugs : Service → Talk → List Plug
 talk_plugs service talk = plugs_over service talk.session talk.origin talk.inputs
 
 -- a live session: what it begins with, its inputs, where it waits, and the plugs that it makes up to there
-pub record CoversTalk (service : Service) (f : Facts Spot) (talk : Talk) : Type 0 where
+pub record CoversTalk {K : Type 0} (service : Service) (f : Facts K) (talk : Talk) : Type 0 where
   pub origin : CoversOrigin service f talk.origin
   pub inputs : CoversInputs service f talk.inputs
   pub waits : WaitsAtShow service f (now service talk)
@@ -57,25 +58,27 @@ pub record CoversTalk (service : Service) (f : Facts Spot) (talk : Talk) : Type 
 -- ---- worlds
 
 -- each shared variable, and each live session
-pub record CoversWorld (service : Service) (f : Facts Spot) (w : World) : Type 0 where
+pub record CoversWorld {K : Type 0} (service : Service) (f : Facts K) (w : World) : Type 0 where
   pub shared : CoversShared service f w.shared
   pub live : AllByRecursion (λ (l : Live). CoversTalk service f l.talk) w.live
 
 -- what a session comes to is covered, and each plug that it makes has an open gap
-pub record ComesToCovered (service : Service) (f : Facts Spot) (talk : Talk) : Type 0 where
+pub record ComesToCovered {K : Type 0} (service : Service) (f : Facts K) (talk : Talk) : Type 0 where
   pub result : IsCovered service f (now service talk)
   pub plugs : AreOpen (talk_plugs service talk)
 
 -- whatever is requested next: each session that begins, and each live session with one form more
-pub record CoversNext (service : Service) (f : Facts Spot) (w : World) : Type 0 where
+pub record CoversNext {K : Type 0} (service : Service) (f : Facts K) (w : World) : Type 0 where
   pub begins : (session : ℕ) → ComesToCovered service f (beginner w session)
   pub goes_on : (form : Form) → AllByRecursion (λ (l : Live). ComesToCovered service f (with_input l.talk form w.shared)) w.live
 
 -- ---- laws
 
+-- the empty world is covered
 abbrev pub EmptyIsCovered : Type 0
 EmptyIsCovered = (service : Service) (f : Facts Spot) → AcceptsAll service f → CoversWorld service f (empty service)
 
+-- a request keeps a covered world covered
 abbrev pub StepsKeepCovering : Type 0
 StepsKeepCovering =
     (service : Service) (f : Facts Spot) (w : World) (request : Request) (key : ℕ) → AcceptsAll service f → CoversWorld service f w →

@@ -6,6 +6,8 @@ ghost use Rattle.bw_cover.specs.EdgeLaws.{EdgesAreLeads, EdgesAreNexts};
 ghost use Rattle.bw_cover.specs.Least.{LeastObeys};
 ghost use Rattle.bw_cover.specs.Kinds.{CheckedIsAccepted, PlacesFit, TypedLiterals};
 ghost use Rattle.bw_cover.specs.LeastKinds.{SolvedIsAccepted, SolvedWorldsAreCovered};
+ghost use Rattle.bw_cover.specs.FlowKinds.{SolvedPlacesAreAccepted};
+ghost use Rattle.bw_cover.specs.FlowWorlds.{FlowStepsKeepCovering, FlowWorldsAreCovered};
 ghost use Rattle.bw_cover.specs.Flows.{FlowFirstIsCovered, FlowTurnIsCovered, FlowGoingOnIsCovered, FlowLeastObeys};
 ghost use Rattle.bw_cover.specs.Examples.{PlugExamples, RowsAreAccepted};
 ghost use Rattle.bw_cover.specs.Trees.{AnsweredIsAccepted, AnsweredWorldsAreCovered};
@@ -56,13 +58,17 @@ pub fn checked_is_accepted()
     ensures worlds { SolvedWorldsAreCovered }
 {}
 
-/// The same by the places of a flow that stands for the session. And the least cells of a flow obey where its points
-/// lead.
+/// The same by the places of a flow that stands for the session, and by the places of the service's own flow for every
+/// world that requests reach: in a typed service it is enough that what is known of variables is of their kinds, that no
+/// plug's base may lack its gap, and that the facts obey where points lead. The least cells of a flow obey that.
 pub fn flows_are_covered()
     ensures first { FlowFirstIsCovered }
     ensures turn { FlowTurnIsCovered }
     ensures going_on { FlowGoingOnIsCovered }
     ensures least { FlowLeastObeys }
+    ensures steps { FlowStepsKeepCovering }
+    ensures worlds { FlowWorldsAreCovered }
+    ensures accepted { SolvedPlacesAreAccepted }
 {}
 
 /// Worked examples: which plugs are made, and facts that accept a service.
