@@ -147,7 +147,7 @@ parts_complete d step c ns r stop h e =
     let k = both (not (is_nothing ns)) (are_formed ns) h in
     let words = spell_needs ns (codes ")" ∷ r) in
     ap ended_parts
-      (needs_complete d step c ns (length words) (codes ")" ∷ r) stop k.1 e (omega (arith, longer ns (codes ")" ∷ r))))
+    (needs_complete d step c ns (length words) (codes ")" ∷ r) stop k.1 e (omega (arith, longer ns (codes ")" ∷ r))))
     ∙ by_test (is_nothing ns) k.0
   where
     by_test : (b : Bool) → not b ≡ true → (if b then None else with_rest ns r) ≡ with_rest ns r
@@ -218,8 +218,8 @@ needs_fuel d (suc m) zero ws p q = stops (formula_at d ws) refl
 needs_fuel d (suc m) (suc n) ws p q = step (formula_at d ws) refl (needs_fuel d m n)
   where
     step : (o : Option (Formula × List (List ℕ))) → formula_at d ws ≡ o
-      → ((vs : List (List ℕ)) → length vs ≤ m → length vs ≤ n → needs_at (formula_at d) m vs ≡ needs_at (formula_at d) n vs)
-      → needs_next o ws (needs_at (formula_at d) m) ≡ needs_next o ws (needs_at (formula_at d) n)
+        → ((vs : List (List ℕ)) → length vs ≤ m → length vs ≤ n → needs_at (formula_at d) m vs ≡ needs_at (formula_at d) n vs)
+        → needs_next o ws (needs_at (formula_at d) m) ≡ needs_next o ws (needs_at (formula_at d) n)
     step None e ih = refl
     step (Some x) e ih =
         ap (λ (t : Needs × List (List ℕ)). (before_need x.0 t.0, t.1)) (ih x.1 (omega (arith, formula_less d ws x e, p)) (omega (arith, formula_less d ws x e, q)))

@@ -54,9 +54,9 @@ formula_is v ws f two h =
     let k = cond_some (length b.0.1 == 0) b.0.0 f b.2 in
     let s = (formula_sound 16).one_is ws b.0 b.1 in
     let made : IsWritten v (codes "need" ∷ ws) (Need b.0.0) = record {
-        spelled = ap (λ (t : List (List ℕ)). codes "need" ∷ t) (s.spelled ∙ ap (spell_needs (one b.0.0)) (no_words b.0.1 k.0));
-        formed = both_back (v == 2 && are_formed (one b.0.0)) (nat_le (depth (one b.0.0)) 16) (both_back (v == 2) (are_formed (one b.0.0)) two s.formed) (le-leb (depth (one b.0.0)) 16 s.deep);
-      } in
+      spelled = ap (λ (t : List (List ℕ)). codes "need" ∷ t) (s.spelled ∙ ap (spell_needs (one b.0.0)) (no_words b.0.1 k.0));
+      formed = both_back (v == 2 && are_formed (one b.0.0)) (nat_le (depth (one b.0.0)) 16) (both_back (v == 2) (are_formed (one b.0.0)) two s.formed) (le-leb (depth (one b.0.0)) 16 s.deep);
+    } in
     written_as v _ (Need b.0.0) (Need f) (ap Need k.1) made
 
 rare_is : (v : ℕ) (key : List ℕ) (ws : List (List ℕ)) (line : Line) → rare_line v key ws ≡ Some line → IsWritten v (key ∷ ws) line
@@ -72,7 +72,7 @@ rare_is v key ws line h = first (same key (codes "text") && (length ws == 0)) re
     second false e h = absurd cc
 
     first : (b : Bool) → (same key (codes "text") && (length ws == 0)) ≡ b
-      → (if b then Some Text else (if same key (codes "need") && (v == 2) then (formula_of ws >>= λ f. Some (Need f)) else None)) ≡ Some line → IsWritten v (key ∷ ws) line
+        → (if b then Some Text else (if same key (codes "need") && (v == 2) then (formula_of ws >>= λ f. Some (Need f)) else None)) ≡ Some line → IsWritten v (key ∷ ws) line
     first true e h =
         let k = both (same key (codes "text")) (length ws == 0) e in
         let n : Text ≡ line = cc in
@@ -84,8 +84,8 @@ unfolding names_line
 names_line_is v key ws line h = first (same key (codes "may")) refl h
   where
     made : (k : List ℕ) (c : NameClass) (l : List (List ℕ) → Line) → same key k ≡ true
-      → ((names : List (List ℕ)) → are_names c names ≡ true → IsWritten v (k ∷ names) (l names))
-      → (names_of c ws >>= λ names. Some (l names)) ≡ Some line → IsWritten v (key ∷ ws) line
+        → ((names : List (List ℕ)) → are_names c names ≡ true → IsWritten v (k ∷ names) (l names))
+        → (names_of c ws >>= λ names. Some (l names)) ≡ Some line → IsWritten v (key ∷ ws) line
     made k c l e w h =
         let b = bind_some (names_of c ws) (λ names. Some (l names)) line h in
         let n : l b.0 ≡ line = cc in
@@ -97,16 +97,16 @@ names_line_is v key ws line h = first (same key (codes "may")) refl h
     third false e h = absurd cc
 
     second : (b : Bool) → same key (codes "must") ≡ b
-      → (if b then (names_of class.Attr ws >>= λ names. Some (Must names)) else (if same key (codes "has") then (names_of class.Tag ws >>= λ tags. Some (Has tags)) else None)) ≡ Some line
-      → IsWritten v (key ∷ ws) line
+        → (if b then (names_of class.Attr ws >>= λ names. Some (Must names)) else (if same key (codes "has") then (names_of class.Tag ws >>= λ tags. Some (Has tags)) else None)) ≡ Some line
+        → IsWritten v (key ∷ ws) line
     second true e h = made (codes "must") class.Attr Must e (λ names a. record { spelled = refl; formed = a }) h
     second false e h = third (same key (codes "has")) refl h
 
     first : (b : Bool) → same key (codes "may") ≡ b
-      → (if b then (names_of class.Attr ws >>= λ names. Some (May names)) else
+        → (if b then (names_of class.Attr ws >>= λ names. Some (May names)) else
         (if same key (codes "must") then (names_of class.Attr ws >>= λ names. Some (Must names)) else
         (if same key (codes "has") then (names_of class.Tag ws >>= λ tags. Some (Has tags)) else None))) ≡ Some line
-      → IsWritten v (key ∷ ws) line
+        → IsWritten v (key ∷ ws) line
     first true e h = made (codes "may") class.Attr May e (λ names a. record { spelled = refl; formed = a }) h
     first false e h = second (same key (codes "must")) refl h
 
@@ -119,19 +119,19 @@ with_is v key ws line h = first (same key (codes "element")) refl h
     third false h = names_line_is v key ws line h
 
     second : (b : Bool) → same key (codes "value") ≡ b
-      → (if b then value_line ws else (if same key (codes "text") || same key (codes "need") then rare_line v key ws else names_line key ws)) ≡ Some line → IsWritten v (key ∷ ws) line
+        → (if b then value_line ws else (if same key (codes "text") || same key (codes "need") then rare_line v key ws else names_line key ws)) ≡ Some line → IsWritten v (key ∷ ws) line
     second true e h = with_key v key (codes "value") ws line e (value_is v ws line h)
     second false e h = third (same key (codes "text") || same key (codes "need")) h
 
     first : (b : Bool) → same key (codes "element") ≡ b
-      → (if b then (tag_of ws >>= λ tag. Some (Element tag)) else (if same key (codes "value") then value_line ws else
+        → (if b then (tag_of ws >>= λ tag. Some (Element tag)) else (if same key (codes "value") then value_line ws else
         (if same key (codes "text") || same key (codes "need") then rare_line v key ws else names_line key ws))) ≡ Some line → IsWritten v (key ∷ ws) line
     first true e h =
         let b = bind_some (tag_of ws) (λ tag. Some (Element tag)) line h in
         let n : Element b.0 ≡ line = cc in
         let t = tag_is ws b.0 b.1 in
         with_key v key (codes "element") ws line e
-          (written_as v _ (Element b.0) line n (record { spelled = ap (λ (t : List (List ℕ)). codes "element" ∷ t) t.0; formed = t.1 }))
+        (written_as v _ (Element b.0) line n (record { spelled = ap (λ (t : List (List ℕ)). codes "element" ∷ t) t.0; formed = t.1 }))
     first false e h = second (same key (codes "value")) refl h
 
 pub line_is : (v : ℕ) (ws : List (List ℕ)) (line : Line) → line_of v ws ≡ Some line → IsWritten v ws line
@@ -205,11 +205,11 @@ text_is v (ws ∷ said) t h =
     let r = root_is ws b.0 b.1 in
     let l = lines_are v said k.0 k.1 in
     let made : IsBehind v (ws ∷ said) b.0 k.0 = record {
-        spelled = λ i. r.0 i ∷ l.0 i;
-        root_tag = r.1;
-        formed = l.1;
-        headed = c.0;
-      } in
+      spelled = λ i. r.0 i ∷ l.0 i;
+      root_tag = r.1;
+      formed = l.1;
+      headed = c.0;
+    } in
     subst (λ (u : List ℕ × List Line). IsBehind v (ws ∷ said) u.0 u.1) c.1 made
 
 pub text_there : (v : ℕ) (said : List (List (List ℕ))) (root : List ℕ) (lines : List Line) → IsBehind v said root lines → text_of v said ≡ Some (root, lines)

@@ -102,7 +102,7 @@ said_each [] = refl
 said_each (l ∷ ls) = by_test (not (is_skipped l)) (said_each ls)
   where
     by_test : (b : Bool) → flat_map said_by ls ≡ map words_of (filter (λ line. not (is_skipped line)) ls)
-      → (if b then words_of l ∷ [] else []) ++ flat_map said_by ls ≡ map words_of (cond b (l ∷ filter (λ line. not (is_skipped line)) ls) (filter (λ line. not (is_skipped line)) ls))
+        → (if b then words_of l ∷ [] else []) ++ flat_map said_by ls ≡ map words_of (cond b (l ∷ filter (λ line. not (is_skipped line)) ls) (filter (λ line. not (is_skipped line)) ls))
     by_test true h = ap (λ r. words_of l ∷ r) h
     by_test false h = h
 

@@ -183,15 +183,18 @@ text_verdict bytes ws more v short u s good (Some t) e =
       formed = b.formed;
       headed = b.headed;
     })
-text_verdict bytes ws more v short u s good None e = (malformed_is, record {
-  short = short;
-  version = λ w h. ap is_read (agree bytes ws more v w s h).version ∙ good;
-  text = λ root lines t.
-    let a = agree bytes ws more v t.version s t.has_version in
-    let there : text_of v more ≡ Some (root, lines) =
+text_verdict bytes ws more v short u s good None e = (
+  malformed_is,
+  record {
+    short = short;
+    version = λ w h. ap is_read (agree bytes ws more v w s h).version ∙ good;
+    text = λ root lines t.
+        let a = agree bytes ws more v t.version s t.has_version in
+        let there : text_of v more ≡ Some (root, lines) =
         sym (λ i. text_of (a.version i) (a.rest i)) ∙ text_there t.version t.has_version.behind root lines (is_behind bytes root lines t) in
-    absurd (none_some (root, lines) (sym e ∙ there));
-})
+        absurd (none_some (root, lines) (sym e ∙ there));
+  },
+)
 
 no_version : (bytes : List ℕ) → IsShort bytes → ((v : ℕ) → HasVersion bytes v → ⊥) → Verdict bytes (Err fault.Malformed)
 no_version bytes short h = (malformed_is, record { short = short; version = λ v k. absurd (h v k); text = λ root lines t. absurd (h t.version t.has_version) })
@@ -199,20 +202,22 @@ no_version bytes short h = (malformed_is, record { short = short; version = λ v
 version_verdict : (bytes : List ℕ) (ws : List (List ℕ)) (more : List (List (List ℕ))) → IsShort bytes → IsUtf8 bytes → said bytes ≡ ws ∷ more
     → (o : Option ℕ) → version_of ws ≡ o → Verdict bytes (read_version o more)
 version_verdict bytes ws more short u says None e = no_version bytes short (λ v h.
-  let k : ws ∷ more ≡ (codes "schema" ∷ h.number ∷ []) ∷ h.behind = sym says ∙ h.says in
-  let first : ws ≡ codes "schema" ∷ h.number ∷ [] = cc in
-  none_some (digits_value 10 h.number) (sym e ∙ ap version_of first ∙ version_there h.number h.is_number))
+    let k : ws ∷ more ≡ (codes "schema" ∷ h.number ∷ []) ∷ h.behind = sym says ∙ h.says in
+    let first : ws ≡ codes "schema" ∷ h.number ∷ [] = cc in
+    none_some (digits_value 10 h.number) (sym e ∙ ap version_of first ∙ version_there h.number h.is_number))
 version_verdict bytes ws more short u says (Some v) e = by_test (is_read v) refl
   where
     by_test : (b : Bool) → is_read v ≡ b → Verdict bytes (if b then judged_text (text_of v more) else Err (fault.Version v))
     by_test true good = text_verdict bytes ws more v short u (record { says = says; version = e }) good (text_of v more) refl
     by_test false other =
-        let f = version_is ws v e in
-        (differs (fault.Version v) (other_is v), record {
-          short = short;
-          has_version = record { utf8 = u; number = f.number; is_number = f.is_number; value = f.value; behind = more; says = says ∙ ap (λ (x : List (List ℕ)). x ∷ more) f.says };
-          other = other;
-        })
+        let f = version_is ws v e in (
+          differs (fault.Version v) (other_is v),
+          record {
+            short = short;
+            has_version = record { utf8 = u; number = f.number; is_number = f.is_number; value = f.value; behind = more; says = says ∙ ap (λ (x : List (List ℕ)). x ∷ more) f.says };
+            other = other;
+          },
+        )
 
 said_verdict : (bytes : List ℕ) → IsShort bytes → IsUtf8 bytes → (all : List (List (List ℕ))) → said bytes ≡ all → Verdict bytes (read_said all)
 said_verdict bytes short u [] says = no_version bytes short (λ v h. absurd (cons_nil (sym h.says ∙ says)))
@@ -227,7 +232,7 @@ decide bytes = by_length (nat_lt 1048576 (length bytes)) refl
     by_utf8 false short e = no_version bytes short (λ v h. false≢true (sym e ∙ is_utf8-from_IsUtf8 bytes h.utf8))
 
     by_length : (b : Bool) → nat_lt 1048576 (length bytes) ≡ b
-      → Verdict bytes (if b then Err fault.TooLong else (if is_utf8 bytes then read_said (said bytes) else Err fault.Malformed))
+        → Verdict bytes (if b then Err fault.TooLong else (if is_utf8 bytes then read_said (said bytes) else Err fault.Malformed))
     by_length true e = (too_long_is, ltb-true 1048576 (length bytes) e)
     by_length false e = by_utf8 (is_utf8 bytes) (ltb-false 1048576 (length bytes) e) refl
 

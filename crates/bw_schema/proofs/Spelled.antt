@@ -100,8 +100,8 @@ order_sound d ws x h =
     let e = ended_is (formula.Order b.0.0 q.0.0) q.0.1 x q.2 in
     spelled_as (suc d) _ x.0 (formula.Order b.0.0 q.0.0) x.1 e.0 (record {
       spelled =
-        ap (λ (t : List (List ℕ)). codes "(" ∷ codes "order" ∷ t)
-        (n.0 ∙ ap (λ (t : List (List ℕ)). b.0.0 ∷ t) (m.0 ∙ ap (λ (t : List (List ℕ)). q.0.0 ∷ t) e.1));
+          ap (λ (t : List (List ℕ)). codes "(" ∷ codes "order" ∷ t)
+          (n.0 ∙ ap (λ (t : List (List ℕ)). b.0.0 ∷ t) (m.0 ∙ ap (λ (t : List (List ℕ)). q.0.0 ∷ t) e.1));
       formed = both_back (is_name class.Tag b.0.0 && is_name class.Tag q.0.0) true (both_back (is_name class.Tag b.0.0) (is_name class.Tag q.0.0) n.1 m.1) refl;
       deep = omega arith;
     })
@@ -112,7 +112,7 @@ no_parens [] = refl
 no_parens (w ∷ ws) = by_test (is_paren w) refl (no_parens ws)
   where
     by_test : (b : Bool) → is_paren w ≡ b → list_all (λ v. not (is_paren v)) (take (count_values ws) ws) ≡ true
-      → list_all (λ v. not (is_paren v)) (take (if b then 0 else suc (count_values ws)) (w ∷ ws)) ≡ true
+        → list_all (λ v. not (is_paren v)) (take (if b then 0 else suc (count_values ws)) (w ∷ ws)) ≡ true
     by_test true e h = refl
     by_test false e h = both_back (not (is_paren w)) _ (ap not e) h
 
@@ -133,7 +133,7 @@ value_sound : (d : ℕ) (ws : List (List ℕ)) (x : Formula × List (List ℕ)) 
 unfolding value_at
 value_sound d ws x h =
     let after : List ℕ × List (List ℕ) → Option (Formula × List (List ℕ)) =
-        λ n. if count_values n.1 == 0 then None else ended (formula.OneOf n.0 (take (count_values n.1) n.1)) (drop (count_values n.1) n.1) in
+    λ n. if count_values n.1 == 0 then None else ended (formula.OneOf n.0 (take (count_values n.1) n.1)) (drop (count_values n.1) n.1) in
     let b = bind_some (name_at class.Attr ws) after x h in
     let n = name_is class.Attr ws b.0 b.1 in
     let k = count_values b.0.1 in
@@ -142,13 +142,13 @@ value_sound d ws x h =
     let e = ended_is (formula.OneOf b.0.0 vs) (drop k b.0.1) x some.1 in
     spelled_as (suc d) _ x.0 (formula.OneOf b.0.0 vs) x.1 e.0 (record {
       spelled =
-        ap (λ (t : List (List ℕ)). codes "(" ∷ codes "value" ∷ t)
-        (n.0 ∙ ap (λ (t : List (List ℕ)). b.0.0 ∷ t) (sym (take-append-drop k b.0.1) ∙ ap (λ (t : List (List ℕ)). vs ++ t) e.1));
+          ap (λ (t : List (List ℕ)). codes "(" ∷ codes "value" ∷ t)
+          (n.0 ∙ ap (λ (t : List (List ℕ)). b.0.0 ∷ t) (sym (take-append-drop k b.0.1) ∙ ap (λ (t : List (List ℕ)). vs ++ t) e.1));
       formed =
-        both_back (is_name class.Attr b.0.0 && (has_some vs && list_all (λ v. not (is_paren v)) vs)) true
-        (both_back (is_name class.Attr b.0.0) (has_some vs && list_all (λ v. not (is_paren v)) vs) n.1
+          both_back (is_name class.Attr b.0.0 && (has_some vs && list_all (λ v. not (is_paren v)) vs)) true
+          (both_back (is_name class.Attr b.0.0) (has_some vs && list_all (λ v. not (is_paren v)) vs) n.1
           (both_back (has_some vs) (list_all (λ v. not (is_paren v)) vs) (some_values k b.0.1 some.0 (count_within b.0.1)) (no_parens b.0.1)))
-        refl;
+          refl;
       deep = omega arith;
     })
 
@@ -164,19 +164,19 @@ simple_sound d head ws x h = first (same head (codes "attr")) refl h
     fourth false e h = absurd cc
 
     third : (b : Bool) → same head (codes "content") ≡ b → (if b then content_at ws else (if same head (codes "order") then order_at ws else None)) ≡ Some x
-      → IsSpelled (suc d) (codes "(" ∷ head ∷ ws) x.0 x.1
+        → IsSpelled (suc d) (codes "(" ∷ head ∷ ws) x.0 x.1
     third true e h = as_head (codes "content") e (content_sound d ws x h)
     third false e h = fourth (same head (codes "order")) refl h
 
     second : (b : Bool) → same head (codes "value") ≡ b
-      → (if b then value_at ws else (if same head (codes "content") then content_at ws else (if same head (codes "order") then order_at ws else None))) ≡ Some x
-      → IsSpelled (suc d) (codes "(" ∷ head ∷ ws) x.0 x.1
+        → (if b then value_at ws else (if same head (codes "content") then content_at ws else (if same head (codes "order") then order_at ws else None))) ≡ Some x
+        → IsSpelled (suc d) (codes "(" ∷ head ∷ ws) x.0 x.1
     second true e h = as_head (codes "value") e (value_sound d ws x h)
     second false e h = third (same head (codes "content")) refl h
 
     first : (b : Bool) → same head (codes "attr") ≡ b
-      → (if b then attr_at ws else (if same head (codes "value") then value_at ws else (if same head (codes "content") then content_at ws else (if same head (codes "order") then order_at ws else None)))) ≡ Some x
-      → IsSpelled (suc d) (codes "(" ∷ head ∷ ws) x.0 x.1
+        → (if b then attr_at ws else (if same head (codes "value") then value_at ws else (if same head (codes "content") then content_at ws else (if same head (codes "order") then order_at ws else None)))) ≡ Some x
+        → IsSpelled (suc d) (codes "(" ∷ head ∷ ws) x.0 x.1
     first true e h = as_head (codes "attr") e (attr_sound d ws x h)
     first false e h = second (same head (codes "value")) refl h
 
@@ -226,7 +226,7 @@ needs_sound d step s zero ws = record { spelled = refl; formed = refl; deep = om
 needs_sound d step s (suc n) ws = next (step ws) refl (needs_sound d step s n)
   where
     next : (o : Option (Formula × List (List ℕ))) → step ws ≡ o → ((vs : List (List ℕ)) → AreSpelled d vs (needs_at step n vs).0 (needs_at step n vs).1)
-      → AreSpelled d ws (needs_next o ws (needs_at step n)).0 (needs_next o ws (needs_at step n)).1
+        → AreSpelled d ws (needs_next o ws (needs_at step n)).0 (needs_next o ws (needs_at step n)).1
     next None e ih = record { spelled = refl; formed = refl; deep = omega arith }
     next (Some x) e ih =
         let f = s.one_is ws x e in
@@ -255,10 +255,10 @@ parts_sound d step s ws p h =
     let e : (q.0, b.0) ≡ p = cc in
     let r = needs_sound d step s (length ws) ws in
     let made : ArePartsSpelled d ws q.0 b.0 = record {
-        spelled = r.spelled ∙ ap (spell_needs q.0) (closed_is q.1 b.0 b.1);
-        formed = both_back (not (is_nothing q.0)) (are_formed q.0) (ap not some.0) r.formed;
-        deep = r.deep;
-      } in
+      spelled = r.spelled ∙ ap (spell_needs q.0) (closed_is q.1 b.0 b.1);
+      formed = both_back (not (is_nothing q.0)) (are_formed q.0) (ap not some.0) r.formed;
+      deep = r.deep;
+    } in
     subst (λ (t : Needs × List (List ℕ)). ArePartsSpelled d ws t.0 t.1) e made
 
 inside_sound : (d : ℕ) (step : List (List ℕ) → Option (Formula × List (List ℕ))) → Sound d step → (head : List ℕ) (ws : List (List ℕ)) (x : Formula × List (List ℕ))
@@ -267,32 +267,32 @@ unfolding inside_at
 inside_sound d step s head ws x h = first (same head (codes "and")) refl h
   where
     made : (k : List ℕ) (c : Needs → Formula) → same head k ≡ true
-      → ((p : Needs) (rest : List (List ℕ)) → ArePartsSpelled d ws p rest → IsSpelled (suc d) (codes "(" ∷ k ∷ ws) (c p) rest)
-      → (parts_at step ws >>= λ p. Some (c p.0, p.1)) ≡ Some x → IsSpelled (suc d) (codes "(" ∷ head ∷ ws) x.0 x.1
+        → ((p : Needs) (rest : List (List ℕ)) → ArePartsSpelled d ws p rest → IsSpelled (suc d) (codes "(" ∷ k ∷ ws) (c p) rest)
+        → (parts_at step ws >>= λ p. Some (c p.0, p.1)) ≡ Some x → IsSpelled (suc d) (codes "(" ∷ head ∷ ws) x.0 x.1
     made k c e one_of h =
         let b = bind_some (parts_at step ws) (λ p. Some (c p.0, p.1)) x h in
         let f : (c b.0.0, b.0.1) ≡ x = cc in
         let p = one_of b.0.0 b.0.1 (parts_sound d step s ws b.0 b.1) in
         subst (λ (t : Formula × List (List ℕ)). IsSpelled (suc d) (codes "(" ∷ head ∷ ws) t.0 t.1) f
-          (subst (λ w. IsSpelled (suc d) (codes "(" ∷ w ∷ ws) (c b.0.0) b.0.1) (sym (same_is head k e)) p)
+        (subst (λ w. IsSpelled (suc d) (codes "(" ∷ w ∷ ws) (c b.0.0) b.0.1) (sym (same_is head k e)) p)
 
     second : (b : Bool) → same head (codes "or") ≡ b → (if b then (parts_at step ws >>= λ p. Some (formula.Or p.0, p.1)) else simple_at head ws) ≡ Some x
-      → IsSpelled (suc d) (codes "(" ∷ head ∷ ws) x.0 x.1
+        → IsSpelled (suc d) (codes "(" ∷ head ∷ ws) x.0 x.1
     second true e h = made (codes "or") formula.Or e (λ p rest q. record {
-        spelled = ap (λ (t : List (List ℕ)). codes "(" ∷ codes "or" ∷ t) q.spelled;
-        formed = both_back (not (is_nothing p) && are_formed p) true q.formed refl;
-        deep = omega (arith, q.deep);
-      }) h
+      spelled = ap (λ (t : List (List ℕ)). codes "(" ∷ codes "or" ∷ t) q.spelled;
+      formed = both_back (not (is_nothing p) && are_formed p) true q.formed refl;
+      deep = omega (arith, q.deep);
+    }) h
     second false e h = simple_sound d head ws x h
 
     first : (b : Bool) → same head (codes "and") ≡ b
-      → (if b then (parts_at step ws >>= λ p. Some (formula.And p.0, p.1)) else (if same head (codes "or") then (parts_at step ws >>= λ p. Some (formula.Or p.0, p.1)) else simple_at head ws)) ≡ Some x
-      → IsSpelled (suc d) (codes "(" ∷ head ∷ ws) x.0 x.1
+        → (if b then (parts_at step ws >>= λ p. Some (formula.And p.0, p.1)) else (if same head (codes "or") then (parts_at step ws >>= λ p. Some (formula.Or p.0, p.1)) else simple_at head ws)) ≡ Some x
+        → IsSpelled (suc d) (codes "(" ∷ head ∷ ws) x.0 x.1
     first true e h = made (codes "and") formula.And e (λ p rest q. record {
-        spelled = ap (λ (t : List (List ℕ)). codes "(" ∷ codes "and" ∷ t) q.spelled;
-        formed = both_back (not (is_nothing p) && are_formed p) true q.formed refl;
-        deep = omega (arith, q.deep);
-      }) h
+      spelled = ap (λ (t : List (List ℕ)). codes "(" ∷ codes "and" ∷ t) q.spelled;
+      formed = both_back (not (is_nothing p) && are_formed p) true q.formed refl;
+      deep = omega (arith, q.deep);
+    }) h
     first false e h = second (same head (codes "or")) refl h
 
 pub formula_sound : (d : ℕ) → Sound d (formula_at d)

@@ -119,7 +119,11 @@ fn order_at(alloc: Global, words: &[Text]) -> Result<(Formula, &[Text]), SchemaF
 
 /// A formula without parts, behind its parenthesis and its first word.
 #[tactic(auto, unfolding(crate::specs::Reading::simple_at))]
-fn simple_at<'a>(alloc: Global, head: &str, words: &'a [Text]) -> Result<(Formula, &'a [Text]), SchemaFault>
+fn simple_at<'a>(
+    alloc: Global,
+    head: &str,
+    words: &'a [Text],
+) -> Result<(Formula, &'a [Text]), SchemaFault>
     ensures { spec.Gives (λ x. (x.0, x.1.now)) result (spec.simple_at head.now words.now) }
 {
     if head == "attr" {
@@ -175,7 +179,12 @@ fn parts_at(alloc: Global, depth: usize, words: &[Text]) -> Result<(Formulas, &[
 /// The formula behind its parenthesis and its first word.
 #[tactic(auto, unfolding(crate::specs::Reading::inside_at))]
 #[cycle(formulas)]
-fn inside_at<'a>(alloc: Global, depth: usize, head: &Text, words: &'a [Text]) -> Result<(Formula, &'a [Text]), SchemaFault>
+fn inside_at<'a>(
+    alloc: Global,
+    depth: usize,
+    head: &Text,
+    words: &'a [Text],
+) -> Result<(Formula, &'a [Text]), SchemaFault>
     ensures { spec.Gives (λ x. (x.0, x.1.now)) result (spec.inside_at (spec.formula_at depth) head.now words.now) }
 {
     let head = head.as_str();
@@ -204,7 +213,11 @@ fn opened_at(alloc: Global, depth: usize, words: &[Text]) -> Result<(Formula, &[
 /// The formula at the front, at most `depth` formulas inside one another, and the words behind it.
 #[tactic(auto, using(crate::proofs::Complete::formula_again))]
 #[cycle(formulas)]
-fn formula_at(alloc: Global, depth: usize, words: &[Text]) -> Result<(Formula, &[Text]), SchemaFault>
+fn formula_at(
+    alloc: Global,
+    depth: usize,
+    words: &[Text],
+) -> Result<(Formula, &[Text]), SchemaFault>
     ensures { spec.Gives (λ x. (x.0, x.1.now)) result (spec.formula_at depth words.now) }
 {
     if depth == 0 {

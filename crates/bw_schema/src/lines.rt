@@ -159,7 +159,11 @@ fn root_of(alloc: Global, words: &[Text]) -> Result<Name, SchemaFault>
 }
 
 /// The root and the lines behind the first line, in a schema of this version.
-pub fn text_of(alloc: Global, version: u64, said: &[Words]) -> Result<(Name, Vec<Line>), SchemaFault>
+pub fn text_of(
+    alloc: Global,
+    version: u64,
+    said: &[Words],
+) -> Result<(Name, Vec<Line>), SchemaFault>
     ensures { spec.Gives (λ x. (x.0, x.1.items)) result (spec.text_of version said.now) }
 {
     let [words, rest @ ..] = said else {

@@ -6,8 +6,8 @@ ghost use Rattle.std.specs.Str.Parse.{digits_value};
 ghost use Rattle.bw_lang.specs.MarkupNames.{first_of, later_of};
 ghost use Rattle.bw_schema.specs.Forms as spec;
 
-use bw_lang::pieces::NameClass;
 use bw_lang::Text;
+use bw_lang::pieces::NameClass;
 
 /// Whether a name of the class may begin with the byte.
 fn is_first(class: NameClass, byte: u8) -> bool

@@ -26,7 +26,11 @@ fn judged(alloc: Global, root: &Name, lines: &[Line]) -> Result<Vec<Rule>, Schem
 }
 
 /// The root and the rules of the text behind the first line, in a schema of this version.
-fn behind_version(alloc: Global, version: u64, said: &[Words]) -> Result<(Name, Vec<Rule>), SchemaFault>
+fn behind_version(
+    alloc: Global,
+    version: u64,
+    said: &[Words],
+) -> Result<(Name, Vec<Rule>), SchemaFault>
     ensures { spec.Answers (λ x. (x.0, x.1.items)) result (spec.judged_text (spec.text_of version said.now)) }
 {
     let (root, lines) = text_of(alloc, version, said)?;

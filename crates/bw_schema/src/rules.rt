@@ -66,9 +66,7 @@ impl ValueLists {
     pub fn permits(&self, name: &str, value: &str) -> bool
         ensures { result ≡ permits self.now name.now value.now }
     {
-        self.list
-            .iter()
-            .all(|list| list.name.as_str() != name || is_among(&list.words, value))
+        self.list.iter().all(|list| list.name.as_str() != name || is_among(&list.words, value))
     }
 }
 

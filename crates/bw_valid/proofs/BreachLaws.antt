@@ -124,8 +124,8 @@ closed_broken : (o : Option Rule) (a : List Attr) (i : Forest) → b.broken_at o
 closed_broken None a i = refl
 closed_broken (Some r) a i =
     first_six (first_test r (closed_attrs a)) (second_test r (closed_attrs a)) (third_test r (closed_attrs a)) (fourth_test r (close i)) (fifth_test r (close i)) (last_test r (closed_attrs a) (close i))
-      (closed_each (λ x w. allows r x) a) (all_has a r.must) (closed_each (permits r.values) a) (closed_child (is_among r.has) i)
-      (ap (λ c. r.text || c) (closed_text is_blank i)) (closed_holds true r.needs a i)
+    (closed_each (λ x w. allows r x) a) (all_has a r.must) (closed_each (permits r.values) a) (closed_child (is_among r.has) i)
+    (ap (λ c. r.text || c) (closed_text is_blank i)) (closed_holds true r.needs a i)
 
 closed_elements : (t : Forest) → elements (close t) ≡ elements t
 closed_elements none = refl
@@ -141,7 +141,7 @@ closed_first rules n (element tag a i r) =
     ap (λ o. b.or_then (b.placed (n + 1) o) (b.or_then (b.first_broken rules (n + 1) (close i)) (b.first_broken rules (n + 1 + elements (close i)) (close r)))) (closed_broken (rule_of rules tag) a i)
     ∙ ap (λ o. b.or_then (b.placed (n + 1) (b.broken_at (rule_of rules tag) a i)) (b.or_then o (b.first_broken rules (n + 1 + elements (close i)) (close r)))) (closed_first rules (n + 1) i)
     ∙ ap (λ o. b.or_then (b.placed (n + 1) (b.broken_at (rule_of rules tag) a i)) (b.or_then (b.first_broken rules (n + 1) i) o))
-      (ap (λ k. b.first_broken rules (n + 1 + k) (close r)) (closed_elements i) ∙ closed_first rules (n + 1 + elements i) r)
+    (ap (λ k. b.first_broken rules (n + 1 + k) (close r)) (closed_elements i) ∙ closed_first rules (n + 1 + elements i) r)
 
 pub breach_closed : BreachClosed
 breach_closed s t =

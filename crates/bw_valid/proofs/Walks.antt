@@ -76,12 +76,12 @@ elements_upto xs i x e h =
 
 -- what is first broken in an item, where nothing before it is, is first broken in all
 pub broken_there : (rules : List Rule) (n : ℕ) (xs : List Item) (i : ℕ) (x : Item) (b : Breach) → x ≡ get_or xs i x → i < length xs
-  → first_broken rules n (forest (take i xs)) ≡ None → first_broken rules (n + elements (forest (take i xs))) (before x none) ≡ Some b → first_broken rules n (forest xs) ≡ Some b
+    → first_broken rules n (forest (take i xs)) ≡ None → first_broken rules (n + elements (forest (take i xs))) (before x none) ≡ Some b → first_broken rules n (forest xs) ≡ Some b
 broken_there rules n xs i x b e h clean it =
     let behind = forest (drop (i + 1) xs) in
     let upto : first_broken rules n (forest (take (i + 1) xs)) ≡ Some b =
-        ap (first_broken rules n) (forest-take xs i x e h) ∙ first_broken-append rules n (forest (take i xs)) (before x none)
-        ∙ ap (λ o. or_then o (first_broken rules (n + elements (forest (take i xs))) (before x none))) clean ∙ it in
+    ap (first_broken rules n) (forest-take xs i x e h) ∙ first_broken-append rules n (forest (take i xs)) (before x none)
+    ∙ ap (λ o. or_then o (first_broken rules (n + elements (forest (take i xs))) (before x none))) clean ∙ it in
     ap (first_broken rules n) (sym (forest-split xs (i + 1))) ∙ first_broken-append rules n (forest (take (i + 1) xs)) behind
     ∙ ap (λ o. or_then o (first_broken rules (n + elements (forest (take (i + 1) xs))) behind)) upto
 
@@ -110,27 +110,27 @@ never false h = false≢true h
 
 -- a child x behind a child y breaks the order
 pub order_stops : (p : Bool) (x y : List ℕ) (item : Item) (f : Forest) → (p && not (each_child (is_other x) (before item none))) ≡ true
-  → ordered_behind p x y (before item f) ≡ false
+    → ordered_behind p x y (before item f) ≡ false
 order_stops p x y (Text s) f h = absurd (never p h)
 order_stops p x y (Gap g) f h = absurd (never p h)
 order_stops p x y (Element e) f h = stops p (is_other x e.tag) (is_other y e.tag) (each_child (is_other x) f) (ordered x y f) h
 
 -- and else it is that of what follows
 pub order_goes_on : (p : Bool) (x y : List ℕ) (item : Item) (f : Forest) → (p && not (each_child (is_other x) (before item none))) ≡ false
-  → ordered_behind p x y (before item f) ≡ ordered_behind (p || not (each_child (is_other y) (before item none))) x y f
+    → ordered_behind p x y (before item f) ≡ ordered_behind (p || not (each_child (is_other y) (before item none))) x y f
 order_goes_on p x y (Text s) f h = ap (λ q. ordered_behind q x y f) (as_before p)
 order_goes_on p x y (Gap g) f h = ap (λ q. ordered_behind q x y f) (as_before p)
 order_goes_on p x y (Element e) f h = goes_on p (is_other x e.tag) (is_other y e.tag) (each_child (is_other x) f) (ordered x y f) h
 
 -- the same along a list of items
 pub order_done : (x y : List ℕ) (p : Bool) (xs : List Item) (i : ℕ) (item : Item) → item ≡ get_or xs i item → i < length xs
-  → (p && not (each_child (is_other x) (before item none))) ≡ true → ordered_behind p x y (forest (drop i xs)) ≡ false
+    → (p && not (each_child (is_other x) (before item none))) ≡ true → ordered_behind p x y (forest (drop i xs)) ≡ false
 order_done x y p xs i item e h k =
     ap (λ t. ordered_behind p x y (forest t)) (drop_more xs i item h ∙ ap (λ z. z ∷ drop (i + 1) xs) (sym e)) ∙ order_stops p x y item (forest (drop (i + 1) xs)) k
 
 pub order_more : (x y : List ℕ) (p : Bool) (xs : List Item) (i : ℕ) (item : Item) → item ≡ get_or xs i item → i < length xs
-  → (p && not (each_child (is_other x) (before item none))) ≡ false
-  → ordered_behind p x y (forest (drop i xs)) ≡ ordered_behind (p || not (each_child (is_other y) (before item none))) x y (forest (drop (i + 1) xs))
+    → (p && not (each_child (is_other x) (before item none))) ≡ false
+    → ordered_behind p x y (forest (drop i xs)) ≡ ordered_behind (p || not (each_child (is_other y) (before item none))) x y (forest (drop (i + 1) xs))
 order_more x y p xs i item e h k =
     ap (λ t. ordered_behind p x y (forest t)) (drop_more xs i item h ∙ ap (λ z. z ∷ drop (i + 1) xs) (sym e)) ∙ order_goes_on p x y item (forest (drop (i + 1) xs)) k
 
@@ -160,13 +160,13 @@ joined_goes_on false false rest h = refl
 
 -- one formula more
 pub holds_stops : (b : Bool) (fs : List Formula) (i : ℕ) (f : Formula) (one : Bool) (a : List Attr) (t : Forest) → f ≡ get_or fs i f → i < length fs → one ≡ holds_alone f a t → (one ≡ b → ⊥)
-  → holds b (needs (drop i fs)) a t ≡ one
+    → holds b (needs (drop i fs)) a t ≡ one
 holds_stops b fs i f one a t e h k n =
     ap (λ z. holds b (needs z) a t) (drop_more fs i f h ∙ ap (λ z. z ∷ drop (i + 1) fs) (sym e)) ∙ holds_before b f (needs (drop (i + 1) fs)) a t
     ∙ ap (λ o. joined b o (holds b (needs (drop (i + 1) fs)) a t)) (sym k) ∙ joined_stops b one (holds b (needs (drop (i + 1) fs)) a t) n
 
 pub holds_goes_on : (b : Bool) (fs : List Formula) (i : ℕ) (f : Formula) (one : Bool) (a : List Attr) (t : Forest) → f ≡ get_or fs i f → i < length fs → one ≡ holds_alone f a t → one ≡ b
-  → holds b (needs (drop i fs)) a t ≡ holds b (needs (drop (i + 1) fs)) a t
+    → holds b (needs (drop i fs)) a t ≡ holds b (needs (drop (i + 1) fs)) a t
 holds_goes_on b fs i f one a t e h k n =
     ap (λ z. holds b (needs z) a t) (drop_more fs i f h ∙ ap (λ z. z ∷ drop (i + 1) fs) (sym e)) ∙ holds_before b f (needs (drop (i + 1) fs)) a t
     ∙ ap (λ o. joined b o (holds b (needs (drop (i + 1) fs)) a t)) (sym k) ∙ joined_goes_on b one (holds b (needs (drop (i + 1) fs)) a t) n

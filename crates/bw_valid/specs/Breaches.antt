@@ -45,7 +45,7 @@ first_broken rules n (text s rest) = first_broken rules n rest
 first_broken rules n (gap g rest) = first_broken rules n rest
 first_broken rules n (element tag attrs inner rest) =
     or_then (placed (n + 1) (broken_at (rule_of rules tag) attrs inner))
-      (or_then (first_broken rules (n + 1) inner) (first_broken rules (n + 1 + elements inner) rest))
+    (or_then (first_broken rules (n + 1) inner) (first_broken rules (n + 1 + elements inner) rest))
 
 -- what a page breaks first: rule 6 at place 1, where it isn't one element of the root tag, or else its first element does
 abbrev pub breach : Schema → Forest → Option Breach

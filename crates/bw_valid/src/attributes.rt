@@ -40,10 +40,7 @@ pub fn has_fixed(attrs: &Attrs, name: &str) -> bool
 pub fn has_value(attrs: &Attrs, name: &str, values: &Words) -> bool
     ensures { result ≡ validity.has_value attrs.now name.now values.now }
 {
-    attrs
-        .as_slice()
-        .iter()
-        .any(|attr| attr.name.as_str() == name && is_one_of(values, &attr.value))
+    attrs.as_slice().iter().any(|attr| attr.name.as_str() == name && is_one_of(values, &attr.value))
 }
 
 fn is_allowed(rule: &Rule, attr: &Attr) -> bool

@@ -9,6 +9,6 @@ returns c =
     let part = c.args.part.now in
     c.loop-word.invariant
     ∙ ap (λ (t : List (List ℕ)). c.args.words.now ++ t)
-      (flat_end kept (λ (x : Bor (List ℕ)). x.now) items c.loop-word.word-index (slice_split is_tab part) c.loop-word-test.false
-        (ap (map (λ (x : Bor (List ℕ)). x.now)) c.as_slice-word-items.ensures.value ∙ c.in_ok-parts.ensures)
-      ∙ kept_all (slice_split is_tab part))
+    (flat_end kept (λ (x : Bor (List ℕ)). x.now) items c.loop-word.word-index (slice_split is_tab part) c.loop-word-test.false
+    (ap (map (λ (x : Bor (List ℕ)). x.now)) c.as_slice-word-items.ensures.value ∙ c.in_ok-parts.ensures)
+    ∙ kept_all (slice_split is_tab part))

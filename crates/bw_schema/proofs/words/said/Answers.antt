@@ -9,5 +9,5 @@ returns c =
     let text = c.args.text.now in
     c.loop-line.invariant
     ∙ flat_end said_by (λ (x : Bor (List ℕ)). x.now) items c.loop-line.line-index (lines text) c.loop-line-test.false
-      (ap (map (λ (x : Bor (List ℕ)). x.now)) c.as_slice-line-items.ensures.value ∙ c.in_ok-lines_of.ensures)
+    (ap (map (λ (x : Bor (List ℕ)). x.now)) c.as_slice-line-items.ensures.value ∙ c.in_ok-lines_of.ensures)
     ∙ said_all text

@@ -9,5 +9,5 @@ returns c =
     let line = c.args.line.now in
     c.loop-part.invariant
     ∙ flat_end tab_words (λ (x : Bor (List ℕ)). x.now) items c.loop-part.part-index (slice_split is_space line) c.loop-part-test.false
-      (ap (map (λ (x : Bor (List ℕ)). x.now)) c.as_slice-part-items.ensures.value ∙ c.in_ok-parts.ensures)
+    (ap (map (λ (x : Bor (List ℕ)). x.now)) c.as_slice-part-items.ensures.value ∙ c.in_ok-parts.ensures)
     ∙ words_by_tabs line
