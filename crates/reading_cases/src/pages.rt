@@ -60,16 +60,29 @@ impl PageCase {
     /// What comes.
     fn got(&self, alloc: Global) -> Result<String, Fault> {
         match read_page(alloc, &self.text) {
-            Ok(page) => {
-                let items = shown_items(alloc, &page.items)?;
-                let sheet = Sheet::of(alloc, &page)?;
-                let prints = escaped(alloc, sheet.as_bytes())?;
-                let again = shown_page(alloc, read_page(alloc, sheet.as_bytes()))?;
-                Ok(format!(in alloc; "{items}; prints {prints}; again {again}")?)
-            }
+            Ok(page) => shown_twice(alloc, &page),
             Err(fault) => shown_page(alloc, Err(fault)),
         }
     }
+}
+
+/// A page, what it prints to, and what this is read as.
+fn shown_twice(alloc: Global, page: &Tree) -> Result<String, Fault> {
+    let items = shown_items(alloc, &page.items)?;
+    let again = shown_print(alloc, page)?;
+    Ok(format!(in alloc; "{items}; {again}")?)
+}
+
+fn shown_print(alloc: Global, page: &Tree) -> Result<String, Fault> {
+    let sheet = Sheet::of(alloc, page)?;
+    shown_bytes(alloc, sheet.as_bytes())
+}
+
+/// The bytes of a page, and what they are read as.
+fn shown_bytes(alloc: Global, bytes: &[u8]) -> Result<String, Fault> {
+    let prints = escaped(alloc, bytes)?;
+    let again = shown_page(alloc, read_page(alloc, bytes))?;
+    Ok(format!(in alloc; "prints {prints}; again {again}")?)
 }
 
 fn shown_page(alloc: Global, page: Result<Tree, PageFault>) -> Result<String, Fault> {
