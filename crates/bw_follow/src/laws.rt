@@ -1,0 +1,16 @@
+//! Laws of runs. A law is the contract of an empty function.
+ghost use Rattle.bw_follow.specs.Laws.{TurnsAgree, GoingOnAgrees, ShownIsFit, ShownAgainIsFit};
+
+/// From a session's first point the flow gives the session's turn, and from behind a show what the session goes on with,
+/// the units left included.
+pub fn agrees()
+    ensures turns { TurnsAgree }
+    ensures going_on { GoingOnAgrees }
+{}
+
+/// Where a session waits, its frame is fit: it is at a show of the session, with the locals in scope there and a rest
+/// for each foreach around it.
+pub fn frames_fit()
+    ensures turn { ShownIsFit }
+    ensures again { ShownAgainIsFit }
+{}
