@@ -283,7 +283,7 @@ module _ (service : Service) (flow : List Step) (num : HasNumbers flow) (pk : �
       (λ past. ⊎_elim
       (λ inside.
       let h = back b (n + 1) sc1 (d + 1) low.0 p (around + list_weight vs) rs1 inner sc names r k2 low.3 s.1 e1 (ap (λ u. u + 1) ed ∙ sym lm) (weight_more rs vs around ea)
-              (sim_again service flow v e b rest n sc d p q around rs scq ys r k low s eq ed ea m vs) past inside c (omega arith) in
+      (sim_again service flow v e b rest n sc d p q around rs scq ys r k low s eq ed ea m vs) past inside c (omega arith) in
       let he = ends_to flow (d + 1) (names_in sc1 ++ declared b) (names_in sc ++ names) o e1 h.ends in
       back_to (rs ++ vs ∷ inner) d ns rs kq o1 (if nat_lt x.number n2 then o1 else o2) (sym (if_below x.number n2 o1 o2 inside))
       (record {

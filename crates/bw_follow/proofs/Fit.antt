@@ -2,7 +2,7 @@
 use Rattle.std.proofs.Common.{◌≡◌, ℕ, ◌+◌, ◌<◌, ◌≤◌, List, [], length, Some, refl, sym, ap, ◌∙◌, subst, arith}
 use Rattle.std.specs.Prelude.{slice_get}
 use Rattle.bw_lang.specs.Code.{numbered}
-use Rattle.bw_flow.specs.Layout.{plan_of}
+use Rattle.bw_flow.specs.Layout.{points, plan_of}
 use Rattle.bw_flow.proofs.Stands.{stands_for_all}
 use Rattle.bw_flow.proofs.Numbered.{all_have_numbers}
 use Rattle.bw_meaning.specs.GoOn.{behind, body_of, turn}
@@ -45,7 +45,7 @@ shown_again_is_fit service session p0 x0 e0 rs0 a i at locals rests shown sh uni
     let a1 : Answered = record a { at = x0.number } in
     let r = budget + refills a.later in
     let h = back service flow (all_have_numbers service) p0 x0 e0 rs0 at0 is a.locals a.input a.later fit.names body n [] 0 f.first (length flow) 0 [] a.rests [] (declared body) r (λ st1. Went st1) f.lowered f.scoped refl refl refl
-            (means_end service flow (length flow) r (at_end flow)) of.from of.below (omega arith) (none_more (length a.rests) ∙ fit.rests) in
+    (means_end service flow (length flow) r (at_end flow)) of.from of.below (omega arith) (none_more (length a.rests) ∙ fit.rests) in
     let e1 : behind service body n 0 a1 ≡ Shown at locals rests shown sh units = ap (λ k. behind service body n 0 (record a { at = k })) (sym fit.number) ∙ e in
     let w : Waits flow 0 at locals rests = subst (Ends flow 0 (declared body)) e1 h.ends in
     let g = subst (Good n (n + numbered body) r) e1 (behind_good service body n 0 a1) in

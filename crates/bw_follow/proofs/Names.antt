@@ -14,8 +14,10 @@ use Rattle.bw_lang.specs.declared.stmt.Receive.{Receive}
 use Rattle.bw_lang.specs.Code.{Code, done, declare, assign, if_then, if_else, while_loop, block, for_each, show, exit}
 use Rattle.bw_lang.specs.Names.{same, beside}
 use Rattle.bw_flow.specs.declared.point.Local.{Local}
-use Rattle.bw_flow.specs.Scopes.{kind_in, shared_kind, with_local}
-use Rattle.bw_meaning.specs.Forms.{all_values, received_value}
+use Rattle.bw_flow.specs.Scopes.{kind_in, with_local}
+use Rattle.bw_types.specs.Scopes.{shared_kind}
+use Rattle.bw_lang.specs.Submissions.{values_of}
+use Rattle.bw_meaning.specs.Forms.{received_value}
 use Rattle.bw_meaning.specs.States.{Form, Input, State, budget}
 use Rattle.bw_meaning.specs.Statements.{declared, add_local, store, variable, received, taken}
 use Rattle.bw_meaning.specs.Values.{Value, Values, replaced, without}
@@ -153,7 +155,7 @@ apart_front [] ms xs a = tt
 apart_front (n ∷ ns) ms xs a = (a.0, apart_front ns ms xs a.1)
 
 pub unknown_apart : (service : Service) (sc : List Local) (w : List ℕ) (xs : List (List ℕ)) → is_known service sc w ≡ false → Apart (names_in sc) xs → Apart (names_in sc) (w ∷ xs)
-unknown_apart service sc w xs e a = apart_one sc w xs (is_some_or (kind_in sc w) (shared_kind service.shared w) e) a
+unknown_apart service sc w xs e a = apart_one sc w xs (is_some_or (kind_in sc w) (shared_kind service w) e) a
 
 pub apart_with : (sc : List Local) (w : List ℕ) (k : Kind) (xs : List (List ℕ)) → Apart (names_in (with_local sc w k)) xs → Apart (names_in sc) xs
 apart_with sc w k xs a = apart_front (names_in sc) (w ∷ []) xs (subst (λ ns. Apart ns xs) (names_with sc w k) a)

@@ -255,9 +255,9 @@ module _ (service : Service) (flow : List Step) where
 
   -- a loop, from what its body does before anything that follows
   module _ (e : Term) (b rest : Code) (n : ℕ) (sc : List Local) (d p around y z : ℕ) (rs : Rests) (r : ℕ) (kq : State → Outcome)
-    (at : IsAt flow p (step n sc d (acts.tests e) (y ∷ z ∷ []))) (low : Lowered service flow b (n + 1) sc d y p) (s : IsScoped service b sc)
-    (mz : Means service flow z sc rs r (λ st. on rs kq (exec service rest (n + 1 + numbered b) around st)))
-    (bodies : (r1 : ℕ) (k1 : State → Outcome) → Means service flow p sc rs r1 k1 → Means service flow y sc rs r1 (λ st. on rs (λ st1. k1 (cut (length sc) st1)) (exec service b (n + 1) around st))) where
+      (at : IsAt flow p (step n sc d (acts.tests e) (y ∷ z ∷ []))) (low : Lowered service flow b (n + 1) sc d y p) (s : IsScoped service b sc)
+      (mz : Means service flow z sc rs r (λ st. on rs kq (exec service rest (n + 1 + numbered b) around st)))
+      (bodies : (r1 : ℕ) (k1 : State → Outcome) → Means service flow p sc rs r1 k1 → Means service flow y sc rs r1 (λ st. on rs (λ st1. k1 (cut (length sc) st1)) (exec service b (n + 1) around st))) where
     loop_from : (m : ℕ) (st : State) (zs : List (List ℕ)) → names_of st.locals ≡ names_in sc ++ zs → room st < m → room st ≤ r →
         Settles (λ g. run service flow g p rs st) (on rs kq (exec service (while_loop e b rest) n around (cut (length sc) st)))
     loop_from zero st zs en lt le = absurd (omega arith)
@@ -277,10 +277,10 @@ module _ (service : Service) (flow : List Step) where
 
   -- a foreach over strings, from what its body does before anything that follows
   module _ (w : List ℕ) (e : Term) (b : Code) (n : ℕ) (sc : List Local) (d p around y z : ℕ) (rs : Rests) (r : ℕ) (k : State → Outcome)
-    (at : IsAt flow p (step n sc d (acts.goes_over w e) (y ∷ z ∷ []))) (low : Lowered service flow b (n + 1) (with_local sc w kinds.Str) (d + 1) y p) (s : IsScoped service b (with_local sc w kinds.Str))
-    (apart : Apart (names_in sc) (w ∷ declared b)) (ed : d ≡ length rs) (mz : Means service flow z sc rs r k)
-    (bodies : (vs : List (List ℕ)) (k1 : State → Outcome) → Means service flow p sc (rs ++ vs ∷ []) r k1 →
-        Means service flow y (with_local sc w kinds.Str) (rs ++ vs ∷ []) r (λ st. on (rs ++ vs ∷ []) (λ st1. k1 (cut (length sc) st1)) (exec service b (n + 1) (around + list_weight vs) st))) where
+      (at : IsAt flow p (step n sc d (acts.goes_over w e) (y ∷ z ∷ []))) (low : Lowered service flow b (n + 1) (with_local sc w kinds.Str) (d + 1) y p) (s : IsScoped service b (with_local sc w kinds.Str))
+      (apart : Apart (names_in sc) (w ∷ declared b)) (ed : d ≡ length rs) (mz : Means service flow z sc rs r k)
+      (bodies : (vs : List (List ℕ)) (k1 : State → Outcome) → Means service flow p sc (rs ++ vs ∷ []) r k1 →
+      Means service flow y (with_local sc w kinds.Str) (rs ++ vs ∷ []) r (λ st. on (rs ++ vs ∷ []) (λ st1. k1 (cut (length sc) st1)) (exec service b (n + 1) (around + list_weight vs) st))) where
     -- with a rest of its own it goes on
     goes_on : (vs : List (List ℕ)) (next : Next) (st : State) → does service (acts.goes_over w e) (step n sc d (acts.goes_over w e) (y ∷ z ∷ [])) next (rs ++ vs ∷ []) st ≡ go_over w vs (y ∷ z ∷ []) next rs st
     goes_on vs next st =

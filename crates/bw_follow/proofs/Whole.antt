@@ -208,7 +208,7 @@ going_on_agrees service session p x e rs a ready at is fit of =
     let r = budget + refills a.later in
     let o = behind service body n 0 a1 in
     let h = back service flow (all_have_numbers service) p x e rs at is a.locals a.input a.later fit.names body n [] 0 f.first (length flow) 0 [] a.rests [] (declared body) r (λ st1. Went st1) f.lowered f.scoped refl refl refl
-            (means_end service flow (length flow) r (at_end flow)) of.from of.below (omega arith) (none_more (length a.rests) ∙ fit.rests) in
+    (means_end service flow (length flow) r (at_end flow)) of.from of.below (omega arith) (none_more (length a.rests) ∙ fit.rests) in
     let same : o ≡ go_on service session a = ap (λ k. behind service body n 0 (record a { at = k })) (sym fit.number) in
     settles_to (λ g. run service flow g (first_of x.next) a.rests (taken (map plain rs) a.locals a.input a.later)) (on [] (λ st1. Went (cut 0 st1)) o) (go_on service session a)
     (on_same o (λ st1. Went (cut 0 st1)) (never_back service 0 body n false a1 f.closed) ∙ same) h.runs
