@@ -3,6 +3,7 @@ use Rattle.std.specs.Prelude.{◌≡◌, ◌≤◌, ◌<◌, ℕ, ◌+◌, List,
 use Rattle.bw_lang.specs.declared.service.Service.{Service}
 use Rattle.bw_lang.specs.Code.{numbered}
 use Rattle.bw_lang.specs.Term.{Term}
+use Rattle.bw_types.specs.declared.typed.Typed.{Typed}
 use Rattle.bw_flow.specs.declared.point.Received.{Received}
 use Rattle.bw_flow.specs.Layout.{plan_of}
 use Rattle.bw_flow.specs.Steps.{Step}
@@ -60,3 +61,7 @@ ShownAgainIsFit =
     let plan = plan_of service in
     IsReady service → slice_get plan.steps p0 ≡ Some x0 → x0.act ≡ acts.shows e0 rs0 → IsFit x0 a → IsOf service session x0.number → go_on service session a ≡ Shown at locals rests shown sh units →
     (p : ℕ) × (x : Step) × (e : Term) × (rs : List Received) × (slice_get plan.steps p ≡ Some x) × (x.act ≡ acts.shows e rs) × IsFit x (answered at locals rests i) × IsOf service session at
+
+-- each service that is well typed is ready
+abbrev pub TypedIsReady : Type 0
+TypedIsReady = (typed : Typed) → IsReady typed.service

@@ -1,5 +1,6 @@
 //! Laws of runs. A law is the contract of an empty function.
-ghost use Rattle.bw_follow.specs.Laws.{TurnsAgree, GoingOnAgrees, ShownIsFit, ShownAgainIsFit};
+ghost use Rattle.bw_follow.specs.Kinds.{ValuesHaveKinds, TurnsKeepKinds, GoingOnKeepsKinds};
+ghost use Rattle.bw_follow.specs.Laws.{TurnsAgree, GoingOnAgrees, ShownIsFit, ShownAgainIsFit, TypedIsReady};
 
 /// From a session's first point the flow gives the session's turn, and from behind a show what the session goes on with,
 /// the units left included.
@@ -13,4 +14,17 @@ pub fn agrees()
 pub fn frames_fit()
     ensures turn { ShownIsFit }
     ensures again { ShownAgainIsFit }
+{}
+
+/// Each service that is well typed is ready to run.
+pub fn typed_is_ready()
+    ensures { TypedIsReady }
+{}
+
+/// The value of an expression is of the expression's kind. So in a service that is well typed each value that a turn stores
+/// is of the kind of its variable.
+pub fn kinds_are_kept()
+    ensures values { ValuesHaveKinds }
+    ensures turns { TurnsKeepKinds }
+    ensures going_on { GoingOnKeepsKinds }
 {}
