@@ -47,7 +47,7 @@ resumed typed sv flow session p q x page fields rs l l0 shared sh0 rests form re
     let law = going_on_agrees (tables typed) service session p x page fields a i.ready at1 sh (record { number = ek; names = en; rests = er }) (subst (IsOf service session) ek of) in
     let law1 = subst (λ (f : Plan). Settles (λ g. run service f.steps g (first_of x.next) rests st) (go_on service session a)) (sym i.flow) law in
     let same : state s0 ≡ st = est ∙ ap (λ fs. received (map plain fs) form (record { locals = l0; shared = sh0; units = budget; inputs = [] })) (sym ef)
-        ∙ (λ j. received (map plain fields) form (record { locals = el j; shared = es j; units = budget; inputs = [] })) in
+    ∙ (λ j. received (map plain fields) form (record { locals = el j; shared = es j; units = budget; inputs = [] })) in
     let run1 = subst (λ v. Settles (λ g. run v flow.steps g q s0.rests (state s0)) (stopped flow.steps stop s1)) esv run0 in
     let run2 = subst (λ z. Settles (λ g. run service flow.steps g z s0.rests (state s0)) (stopped flow.steps stop s1)) eq run1 in
     let run3 = subst (λ z. Settles (λ g. run service flow.steps g (first_of x.next) z (state s0)) (stopped flow.steps stop s1)) ers run2 in
