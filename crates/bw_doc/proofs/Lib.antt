@@ -1,0 +1,12 @@
+pub mod DocLaws
+pub mod Nodes
+pub mod NoteLaws
+pub mod OfLaws
+pub mod OutsideLaws
+pub mod PageLaws
+pub mod SeenLaws
+pub mod ShortLaws
+pub mod SpotLaws
+pub mod TableLaws
+pub mod TemplateLaws
+pub mod WalkLaws

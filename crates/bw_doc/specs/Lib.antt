@@ -1,0 +1,15 @@
+pub mod Filling
+pub mod Keeping
+pub mod Laws
+pub mod Made
+pub mod MadeCode
+pub mod MadeFalls
+pub mod MadeView
+pub mod Notes
+pub mod Operations
+pub mod OutsideView
+pub mod Parts
+pub mod Refusals
+pub mod Sheets
+pub mod Spots
+pub mod Walks
