@@ -1,6 +1,10 @@
+pub mod Fits
 pub mod Measures
+pub mod Missed
+pub mod More
 pub mod Receivings
 pub mod Resumed
 pub mod Started
 pub mod Stores
 pub mod Tidy
+pub mod Walkable

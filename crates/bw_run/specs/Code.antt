@@ -1,15 +1,16 @@
 -- What the code's values stand for.
-use Rattle.std.specs.Prelude.{ℕ, ◌≤◌, List, [], Option, Some, None, Result, Ok, Err}
+use Rattle.std.specs.Prelude.{◌≡◌, ℕ, true, List, [], Option, Some, None, Result, Ok, Err}
 use Rattle.std.specs.List.{All}
 use Rattle.bw_lang.specs.declared.service.Template.{Template}
 use Rattle.bw_lang.specs.declared.turn.TurnFault.{TurnFault}
 use Rattle.bw_typed.specs.ShortStrings.{HasShort}
 use Rattle.bw_flow.specs.Steps.{Act, Step}
 use Rattle.bw_flow.specs.Steps as acts
-use Rattle.bw_follow.specs.Runs.{first_of, second_of, Next}
+use Rattle.bw_follow.specs.Runs.{first_of, second_of, is_show, Next}
 use Rattle.bw_meaning.specs.States.{State, Outcome, Shown, Exited, Failed}
 use Rattle.bw_meaning.specs.Values as meaning
 use Rattle.bw_doc.specs.Made.{Made}
+use Rattle.bw_doc.specs.Operations.{IsOf}
 use Rattle.bw_eval.specs.declared.value.Value.{Value}
 use Rattle.bw_eval.specs.Sound.{IsShort, AreSound}
 use Rattle.bw_eval.specs.View.{document, value, values}
@@ -74,3 +75,10 @@ ActIsShort (acts.goes_over w e) = HasShort e
 ActIsShort (acts.shows e rs) = HasShort e
 ActIsShort (acts.exits e) = HasShort e
 ActIsShort acts.joins = Unit {0}
+
+-- the document with which a turn stops at a point is of the service, and where it waits the point is a show
+abbrev pub StopsWell : List Template → Act → Stepped → Type 0
+StopsWell templates a First = Unit {0}
+StopsWell templates a Second = Unit {0}
+StopsWell templates a (Waits d) = (is_show a ≡ true) × IsOf templates d
+StopsWell templates a (Ends d) = IsOf templates d

@@ -4,8 +4,11 @@ use Rattle.bw_lang.specs.declared.turn.TurnFault.{TurnFault}
 use Rattle.bw_flow.specs.Steps.{Step}
 use Rattle.bw_flow.specs.declared.point.Received.{Received}
 use Rattle.bw_follow.specs.Runs.{fields_of}
+use Rattle.bw_lang.specs.declared.service.Service.{Service}
+use Rattle.bw_meaning.specs.GoOn.{turn}
 use Rattle.bw_meaning.specs.Laws.{answered}
-use Rattle.bw_meaning.specs.States.{Form, Answered, Outcome, Shown, Exited, Failed, units_left, cost}
+use Rattle.bw_meaning.specs.Values as meaning
+use Rattle.bw_meaning.specs.States.{Form, Input, Answered, Outcome, Shown, Exited, Failed, units_left, cost}
 use Rattle.bw_eval.specs.declared.value.Value.{Value}
 use Rattle.bw_eval.specs.View.{document, values}
 use Rattle.bw_run.specs.declared.turn.Frame.{Frame}
@@ -36,3 +39,10 @@ receives_of flow frame = received_at (slice_get flow frame.point)
 abbrev pub answered_frame : List Step → Frame → Form → List (List ℕ × Value) → Answered
 answered_frame flow frame form shared =
     answered (number_at flow frame.point) (values frame.locals) frame.rests (record { form = form; shared = values shared })
+
+-- The frame stands for these inputs of a session that began with those shared variables: over them the session waits at the
+-- frame's show, with its locals and its rests.
+abbrev pub StandsFor : Service → List Step → Frame → ℕ → meaning.Values → List Input → Type 0
+StandsFor service flow frame session first inputs =
+    (d : meaning.Document) × (shared : meaning.Values) × (units : ℕ) ×
+    (turn service session first inputs ≡ Shown (number_at flow frame.point) (values frame.locals) frame.rests d shared units)

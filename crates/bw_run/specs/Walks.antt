@@ -13,7 +13,9 @@ use Rattle.bw_run.specs.declared.walk.Stop.{Stop}
 use Rattle.bw_run.specs.declared.walk.Stop.TheVariants as stops
 use Rattle.bw_eval.specs.View.{document, values}
 use Rattle.bw_run.specs.Code.{state, ActIsShort}
-use Rattle.bw_follow.specs.Runs.{first_of, second_of, run}
+use Rattle.bw_lang.specs.declared.service.Template.{Template}
+use Rattle.bw_doc.specs.Operations.{IsOf}
+use Rattle.bw_follow.specs.Runs.{first_of, second_of, is_show, run}
 
 -- the number of the statement at a place
 abbrev pub number_of : Option Step → ℕ
@@ -63,3 +65,17 @@ pub record IsWalkable (flow : List Step) : Type 0 where
   pub second : (p : ℕ) (x : Step) → IsAt flow p x → second_of x.next < length flow
   pub joins : (p : ℕ) (x : Step) → IsAt flow p x → is_join x.act ≡ true → rank flow (first_of x.next) < rank flow p
   pub short : (p : ℕ) (x : Step) → IsAt flow p x → ActIsShort x.act
+
+-- a show stands at that place
+abbrev pub AtShow : List Step → ℕ → Type 0
+AtShow flow p = (x : Step) × IsAt flow p x × (is_show x.act ≡ true)
+
+-- the document with which a turn stops is of the service, and where it waits a show stands there
+abbrev pub AdvancesWell : List Template → List Step → ℕ → Advance → Type 0
+AdvancesWell templates flow at (advances.To q) = Unit {0}
+AdvancesWell templates flow at (advances.Waits d) = AtShow flow at × IsOf templates d
+AdvancesWell templates flow at (advances.Ends d) = IsOf templates d
+
+abbrev pub IsSoundStop : List Template → List Step → Stop → Type 0
+IsSoundStop templates flow (stops.Waits p d) = AtShow flow p × IsOf templates d
+IsSoundStop templates flow (stops.Ends d) = IsOf templates d

@@ -5,7 +5,8 @@ ghost use Rattle.bw_eval.specs.Sound.{IsSound};
 ghost use Rattle.bw_eval.specs.View.{document, value, values};
 ghost use Rattle.bw_lang.specs.declared.stmt.Kind.{Kind};
 ghost use Rattle.bw_meaning.specs.Values as meaning;
-ghost use Rattle.bw_run.specs.Fit.{AreShared, kind_of};
+ghost use Rattle.bw_follow.specs.Kinds.{kind_of};
+ghost use Rattle.bw_run.specs.Fit.{AreShared};
 ghost use Rattle.bw_typed.specs.Named.{NamesTemplate, IsLiteral};
 ghost use Rattle.bw_typed.specs.ShortStrings.{IsShortLiteral};
 
@@ -35,7 +36,7 @@ fn literal_value(typed: &Typed, literal: &Literal) -> Result<Value, Memory>
     requires literal { (kind : Kind) × IsLiteral typed.now.service literal.now kind }
     requires short { IsShortLiteral literal.now }
     ensures value { IfOk result (λ v. value v ≡ meaning.literal_value typed.now.service literal.now) }
-    ensures kind { (kind : Kind) → IsLiteral typed.now.service literal.now kind → IfOk result (λ v. kind_of v ≡ kind) }
+    ensures kind { (kind : Kind) → IsLiteral typed.now.service literal.now kind → IfOk result (λ v. kind_of (value v) ≡ kind) }
     ensures sound { IfOk result (IsSound typed.now.service.templates) }
 {
     match literal {

@@ -1,19 +1,18 @@
 //! What a point does.
 ghost use Rattle.std.specs.Prelude.{◌≡◌, ◌+◌, ◌<◌, ◌≤◌, IfOk, OnOk, List};
-ghost use Rattle.bw_doc.specs.Operations.{IsOf};
 ghost use Rattle.bw_eval.specs.Evaluations.{HasMemory};
 ghost use Rattle.bw_eval.specs.Sound.{IsSound as IsKept};
 ghost use Rattle.bw_eval.specs.View.{value};
 ghost use Rattle.bw_flow.specs.declared.point.Received.{Received};
 ghost use Rattle.bw_flow.specs.Scoped as names;
 ghost use Rattle.bw_flow.specs.Steps as acts;
-ghost use Rattle.bw_flow.specs.Steps.{Step};
+ghost use Rattle.bw_flow.specs.Steps.{Act, Step};
 ghost use Rattle.bw_flow.specs.View.{seen, act};
 ghost use Rattle.bw_follow.specs.Runs as spec;
 ghost use Rattle.bw_follow.specs.Runs.{Next};
 ghost use Rattle.bw_lang.specs.declared.service.Template.{Template};
 ghost use Rattle.bw_lang.specs.TermView.{term};
-ghost use Rattle.bw_run.specs.Code.{state, stepped, pays, ActIsShort, AreShort, IsSound};
+ghost use Rattle.bw_run.specs.Code.{state, stepped, pays, ActIsShort, AreShort, IsSound, StopsWell};
 ghost use Rattle.bw_typed.specs.ShortStrings.{HasShort};
 
 use crate::ending::{exit_test, show_test};
@@ -86,6 +85,7 @@ fn assign<L: Ledger>(
     ensures step { (next : Next) → HasMemory result → spec.does typed.now.service (acts.sets name.now (term expr.now)) (seen point.now) next standing.old.rests (state standing.old) ≡ stepped result (seen point.now) next standing.new }
     ensures steps { steps.new + standing.new.units ≡ steps.old + standing.old.units }
     ensures paid { IfOk result (λ _. standing.new.units < standing.old.units) }
+    ensures stops { IfOk result (StopsWell typed.now.service.templates (acts.sets name.now (term expr.now))) }
     ensures sound { OnOk result (IsSound typed.now.service.templates standing.new) }
 {
     let new = begins(alloc, typed, expr, standing, steps)?;
@@ -108,6 +108,7 @@ fn test<L: Ledger>(
     ensures step { (next : Next) → HasMemory result → spec.does typed.now.service (acts.tests (term expr.now)) (seen point.now) next standing.old.rests (state standing.old) ≡ stepped result (seen point.now) next standing.new }
     ensures steps { steps.new + standing.new.units ≡ steps.old + standing.old.units }
     ensures paid { IfOk result (λ _. standing.new.units < standing.old.units) }
+    ensures stops { IfOk result (StopsWell typed.now.service.templates (acts.tests (term expr.now))) }
     ensures sound { OnOk result (IsSound typed.now.service.templates standing.new) }
 {
     if begins(alloc, typed, expr, standing, steps)?.truth() {
@@ -132,6 +133,7 @@ fn show<L: Ledger>(
     ensures step { (next : Next) (rs : List Received) → HasMemory result → spec.does typed.now.service (acts.shows (term page.now) rs) (seen point.now) next standing.old.rests (state standing.old) ≡ stepped result (seen point.now) next standing.new }
     ensures steps { steps.new + standing.new.units ≡ steps.old + standing.old.units }
     ensures paid { IfOk result (λ _. standing.new.units < standing.old.units) }
+    ensures stops { (rs : List Received) → IfOk result (StopsWell typed.now.service.templates (acts.shows (term page.now) rs)) }
     ensures sound { OnOk result (IsSound typed.now.service.templates standing.new) }
 {
     let doc = begins_document(alloc, typed, page, standing, steps)?;
@@ -154,6 +156,7 @@ fn exit<L: Ledger>(
     ensures step { (next : Next) → HasMemory result → spec.does typed.now.service (acts.exits (term page.now)) (seen point.now) next standing.old.rests (state standing.old) ≡ stepped result (seen point.now) next standing.new }
     ensures steps { steps.new + standing.new.units ≡ steps.old + standing.old.units }
     ensures paid { IfOk result (λ _. standing.new.units < standing.old.units) }
+    ensures stops { IfOk result (StopsWell typed.now.service.templates (acts.exits (term page.now))) }
     ensures sound { OnOk result (IsSound typed.now.service.templates standing.new) }
 {
     let doc = begins_document(alloc, typed, page, standing, steps)?;
@@ -172,6 +175,7 @@ fn go_over<L: Ledger>(
     ensures step { (x : Step) (next : Next) → HasMemory result → spec.go_over name.now strings x.next next standing.old.rests (state standing.old) ≡ stepped result x next standing.new }
     ensures steps { steps.new + standing.new.units ≡ steps.old + standing.old.units }
     ensures paid { IfOk result (λ _. standing.new.units < standing.old.units) }
+    ensures stops { (templates : List Template) (a : Act) → IfOk result (StopsWell templates a) }
     ensures sound { (templates : List Template) → AreShort strings → IsSound templates standing.old → OnOk result (IsSound templates standing.new) }
 {
     take_unit(&mut standing.units, steps)?;
@@ -201,6 +205,7 @@ fn each<L: Ledger>(
     ensures step { (next : Next) → HasMemory result → spec.does typed.now.service (acts.goes_over name.now (term expr.now)) (seen point.now) next standing.old.rests (state standing.old) ≡ stepped result (seen point.now) next standing.new }
     ensures steps { steps.new + standing.new.units ≡ steps.old + standing.old.units }
     ensures paid { IfOk result (λ _. standing.new.units < standing.old.units) }
+    ensures stops { IfOk result (StopsWell typed.now.service.templates (acts.goes_over name.now (term expr.now))) }
     ensures sound { OnOk result (IsSound typed.now.service.templates standing.new) }
 {
     if standing.rests.len() == point.inside as usize {
@@ -238,6 +243,7 @@ pub fn step<L: Ledger>(
     ensures step { (next : Next) → HasMemory result → spec.does typed.now.service (act point.now.what) (seen point.now) next standing.old.rests (state standing.old) ≡ stepped result (seen point.now) next standing.new }
     ensures steps { steps.new + standing.new.units ≡ steps.old + standing.old.units }
     ensures paid { IfOk result (λ s. standing.new.units + pays (act point.now.what) s ≤ standing.old.units) }
+    ensures stops { IfOk result (StopsWell typed.now.service.templates (act point.now.what)) }
     ensures sound { OnOk result (IsSound typed.now.service.templates standing.new) }
 {
     match &point.what {

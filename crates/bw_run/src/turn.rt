@@ -7,11 +7,15 @@ ghost use Rattle.bw_flow.specs.Steps.{Step};
 ghost use Rattle.bw_flow.specs.View.{act};
 ghost use Rattle.bw_follow.specs.Laws.{IsOf};
 ghost use Rattle.bw_follow.specs.Runs.{is_show, fields_of};
+ghost use Rattle.bw_lang.specs.declared.service.Template.{Template};
 ghost use Rattle.bw_meaning.specs.GoOn as meaning;
-ghost use Rattle.bw_run.specs.Fit.{IsFrame, AreShared, IsFitTurn};
+ghost use Rattle.bw_run.specs.Fit.{IsFrame, AreShared, IsFitTurn, IsSoundTurn};
+ghost use Rattle.bw_meaning.specs.States.{Input};
+ghost use Rattle.bw_meaning.specs.Values.{Values as Map};
+ghost use Rattle.bw_run.specs.Code.{IsSound};
 ghost use Rattle.bw_run.specs.Missing.{first_missing};
-ghost use Rattle.bw_run.specs.Turns.{turned, IsTurn, receives_of, answered_frame};
-ghost use Rattle.bw_run.specs.Walks.{number_at, stopped};
+ghost use Rattle.bw_run.specs.Turns.{turned, IsTurn, StandsFor, receives_of, answered_frame};
+ghost use Rattle.bw_run.specs.Walks.{number_at, stopped, IsSoundStop};
 
 use crate::receiving::receive_all;
 use crate::rests::Rests;
@@ -48,7 +52,8 @@ pub enum Turn {
 
 /// The turn that stopped like this.
 fn finished(stop: Stop, standing: Standing) -> Turn
-    ensures { (flow : List Step) → turned flow (Ok result) standing.units ≡ stopped flow (Ok stop) standing }
+    ensures turn { (flow : List Step) → turned flow (Ok result) standing.units ≡ stopped flow (Ok stop) standing }
+    ensures sound { (templates : List Template) (flow : List Step) → IsSoundStop templates flow stop → IsSound templates standing → IsSoundTurn templates flow result }
 {
     let Standing {
         locals,
@@ -86,6 +91,7 @@ pub fn start<L: Ledger>(
     requires shared { AreShared typed.now.service shared.now }
     ensures turn { HasMemory result → IsTurn flow.now.steps result steps.old steps.new (meaning.turn typed.now.service session (values shared.now) []) }
     ensures cost { steps.new ≤ steps.old + 100000 }
+    ensures fit { IfOk result (IsFitTurn typed.now.service flow.now.steps) }
 {
     let Some(first) = flow.first(session) else {
         unreachable!()
@@ -130,7 +136,9 @@ pub fn resume<L: Ledger>(
     requires missing { first_missing (receives_of flow.now.steps frame.now) form.now ≡ None }
     requires shared { AreShared typed.now.service shared.now }
     ensures turn { HasMemory result → (session : ℕ) → IsOf typed.now.service session (number_at flow.now.steps frame.now.point) → IsTurn flow.now.steps result steps.old steps.new (meaning.go_on typed.now.service session (answered_frame flow.now.steps frame.now form.now shared.now)) }
+    ensures inputs { HasMemory result → (session : ℕ) (first : Map) (inputs : List Input) → StandsFor typed.now.service flow.now.steps frame.now session first inputs → IsTurn flow.now.steps result steps.old steps.new (meaning.turn typed.now.service session first (inputs ++ record { form = form.now; shared = values shared.now } ∷ [])) }
     ensures cost { steps.new ≤ steps.old + 100000 }
+    ensures fit { IfOk result (IsFitTurn typed.now.service flow.now.steps) }
 {
     let Some(point) = flow.point(frame.point) else {
         unreachable!()

@@ -4,7 +4,7 @@ ghost use Rattle.bw_eval.specs.Evaluations.{HasMemory};
 ghost use Rattle.bw_run.specs.Code.{state, IsSound};
 ghost use Rattle.bw_follow.specs.Laws.{Settles};
 ghost use Rattle.bw_follow.specs.Runs as spec;
-ghost use Rattle.bw_run.specs.Walks.{advanced, stopped, IsInside, IsLess, IsWalkable};
+ghost use Rattle.bw_run.specs.Walks.{advanced, stopped, IsInside, IsLess, IsWalkable, AdvancesWell, IsSoundStop};
 
 use crate::standing::Standing;
 use crate::step::{Stepped, step};
@@ -65,6 +65,7 @@ fn pass<L: Ledger>(
     requires walkable { IsWalkable flow.now.steps }
     requires sound { IsSound typed.now.service.templates standing.old }
     ensures run { (g : ℕ) → HasMemory result → spec.run typed.now.service flow.now.steps (suc g) at standing.old.rests (state standing.old) ≡ advanced typed.now.service flow.now.steps at g result standing.new }
+    ensures stops { IfOk result (AdvancesWell typed.now.service.templates flow.now.steps at) }
     ensures inside { IfOk result (λ a. IsInside flow.now.steps a) }
     ensures less { IfOk result (λ a. IsLess flow.now.steps at standing.old.units standing.new.units a) }
     ensures steps { steps.new + standing.new.units ≡ steps.old + standing.old.units }
@@ -95,6 +96,7 @@ pub fn walk<L: Ledger>(
     requires walkable { IsWalkable flow.now.steps }
     requires sound { IsSound typed.now.service.templates standing.old }
     ensures run { HasMemory result → Settles (λ g. spec.run typed.now.service flow.now.steps g start standing.old.rests (state standing.old)) (stopped flow.now.steps result standing.new) }
+    ensures stops { IfOk result (IsSoundStop typed.now.service.templates flow.now.steps) }
     ensures steps { steps.new + standing.new.units ≡ steps.old + standing.old.units }
     ensures sound { OnOk result (IsSound typed.now.service.templates standing.new) }
 {
