@@ -1,7 +1,9 @@
+pub mod Firsts
 pub mod Fits
 pub mod Measures
 pub mod Missed
 pub mod More
+pub mod Own
 pub mod Receivings
 pub mod Resumed
 pub mod Started

@@ -11,8 +11,8 @@ use Rattle.bw_lang.specs.Names.{same}
 use Rattle.bw_lang.specs.Submissions.{values_of}
 use Rattle.bw_flow.specs.declared.point.Received.{Received}
 use Rattle.bw_eval.specs.Sound.{IsShort}
-use Rattle.bw_run.specs.declared.missing.FieldFault.{FieldFault}
-use Rattle.bw_run.specs.declared.missing.FieldFault.TheVariants.{Lacking, Repeated, TooLong}
+use Rattle.bw_run.specs.declared.fields.FieldFault.{FieldFault}
+use Rattle.bw_run.specs.declared.fields.FieldFault.TheVariants.{Lacking, Repeated, TooLong}
 use Rattle.bw_run.specs.Code.{AreShort}
 use Rattle.bw_run.proofs.Receivings.{drop_at}
 use Rattle.bw_run.specs.Missing.{is_long, too_long, string_fault, field_fault, first_missing}

@@ -51,7 +51,7 @@ resumed typed flow session q x page fields rs frame l0 shared sh0 form result st
     let law = going_on_agrees service session frame.point x page fields a (typed_is_ready typed) at1 sh (record { number = ek; names = en; rests = er }) (subst (IsOf service session) ek of) in
     let law1 = subst (λ (f : Plan). Settles (λ g. run service f.steps g (first_of x.next) rests st) (go_on service session a)) (sym ew) law in
     let same : state s0 ≡ st = est ∙ ap (λ fs. received (map plain fs) form (record { locals = values l0; shared = values sh0; units = budget; inputs = [] })) (sym ef)
-        ∙ (λ j. received (map plain fields) form (record { locals = values (el j); shared = values (es j); units = budget; inputs = [] })) in
+    ∙ (λ j. received (map plain fields) form (record { locals = values (el j); shared = values (es j); units = budget; inputs = [] })) in
     let run2 = subst (λ z. Settles (λ g. run service flow.steps g z s0.rests (state s0)) (stopped flow.steps stop s1)) eq run1 in
     let run3 = subst (λ z. Settles (λ g. run service flow.steps g (first_of x.next) z (state s0)) (stopped flow.steps stop s1)) ers run2 in
     let run4 = subst (λ z. Settles (λ g. run service flow.steps g (first_of x.next) rests z) (stopped flow.steps stop s1)) same run3 in

@@ -48,9 +48,11 @@ module _ (service : Service) where
       let join = p + 1 + count y in
       (h.0, parts_short (steps service y (n + 1) sc d (p + 1) join) _ (steps_short y (n + 1) sc d (p + 1) join h.1) (tt, steps_short rest (n + 1 + numbered y) sc d (join + 1) q h.2))
   steps_short (if_else e y o rest) n sc d p q h =
-      let other = p + 1 + count y in let join = other + count o in
-      (h.0, parts_short (steps service y (n + 1) sc d (p + 1) join) _ (steps_short y (n + 1) sc d (p + 1) join h.1)
-      (parts_short (steps service o (n + 1 + numbered y) sc d other join) _ (steps_short o (n + 1 + numbered y) sc d other join h.2) (tt, steps_short rest (n + 1 + numbered y + numbered o) sc d (join + 1) q h.3)))
+      let other = p + 1 + count y in let join = other + count o in (
+        h.0,
+        parts_short (steps service y (n + 1) sc d (p + 1) join) _ (steps_short y (n + 1) sc d (p + 1) join h.1)
+            (parts_short (steps service o (n + 1 + numbered y) sc d other join) _ (steps_short o (n + 1 + numbered y) sc d other join h.2) (tt, steps_short rest (n + 1 + numbered y + numbered o) sc d (join + 1) q h.3)),
+      )
   steps_short (while_loop e b rest) n sc d p q h =
       (h.0, parts_short (steps service b (n + 1) sc d (p + 1) p) _ (steps_short b (n + 1) sc d (p + 1) p h.1) (steps_short rest (n + 1 + numbered b) sc d (p + 1 + count b) q h.2))
   steps_short (for_each w e b rest) n sc d p q h =

@@ -6,8 +6,8 @@ use Rattle.bw_lang.specs.declared.stmt.Kind.{Kind}
 use Rattle.bw_lang.specs.declared.stmt.Kind.TheVariants as kinds
 use Rattle.bw_lang.specs.Submissions.{values_of}
 use Rattle.bw_flow.specs.declared.point.Received.{Received}
-use Rattle.bw_run.specs.declared.missing.FieldFault.{FieldFault}
-use Rattle.bw_run.specs.declared.missing.FieldFault.TheVariants.{Lacking, Repeated, TooLong}
+use Rattle.bw_run.specs.declared.fields.FieldFault.{FieldFault}
+use Rattle.bw_run.specs.declared.fields.FieldFault.TheVariants.{Lacking, Repeated, TooLong}
 
 -- some value has more than 16,384 bytes
 abbrev pub is_long : List (List ℕ) → Bool

@@ -5,8 +5,8 @@
 #![tactic(auto)]
 
 mod ending;
+mod fields;
 mod firsts;
-mod missing;
 mod receiving;
 pub mod rests;
 pub mod standing;
@@ -14,7 +14,7 @@ pub mod step;
 pub mod turn;
 pub mod walk;
 
+pub use fields::{FieldFault, missing};
 pub use firsts::first_values;
-pub use missing::{FieldFault, missing};
 pub use rests::Rests;
 pub use turn::{Frame, SharedValues, Turn, resume, start};

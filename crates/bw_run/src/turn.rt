@@ -1,5 +1,5 @@
 //! Turns of sessions.
-ghost use Rattle.std.specs.Prelude.{◌≡◌, ◌+◌, ◌<◌, ◌≤◌, ◌++◌, ◌∷◌, [], ℕ, List, MatchOption, IfOk, None, Ok, true, false, length};
+ghost use Rattle.std.specs.Prelude.{◌≡◌, ◌+◌, ◌<◌, ◌≤◌, ◌++◌, ◌∷◌, [], ℕ, List, MatchOption, IfOk, IsSome, None, Some, Ok, slice_get, true, false, length};
 ghost use Rattle.bw_eval.specs.Evaluations.{HasMemory};
 ghost use Rattle.bw_eval.specs.View.{values};
 ghost use Rattle.bw_flow.specs.Layout.{plan_of};
@@ -75,6 +75,17 @@ fn finished(stop: Stop, standing: Standing) -> Turn
     }
 }
 
+/// The place of the session's first point.
+fn first_point(flow: &Flow, session: SessionId) -> PointId
+    requires { IsSome (slice_get flow.now.firsts session) }
+    ensures { slice_get flow.now.firsts session ≡ Some result }
+{
+    let Some(first) = flow.first(session) else {
+        unreachable!()
+    };
+    first
+}
+
 /// A session's first turn, from these shared variables: exactly the turn that the meaning gives without inputs, or
 /// `Memory` for want of it. The counter rises by the turn's cost, after `Memory` by at most 100,000. The frame and the
 /// shared variables that it gives are fit.
@@ -93,9 +104,7 @@ pub fn start<L: Ledger>(
     ensures cost { steps.new ≤ steps.old + 100000 }
     ensures fit { IfOk result (IsFitTurn typed.now.service flow.now.steps) }
 {
-    let Some(first) = flow.first(session) else {
-        unreachable!()
-    };
+    let first = first_point(flow, session);
     let mut standing = Standing {
         locals: Values::new(alloc),
         shared: shared.copy()?,

@@ -1,0 +1,42 @@
+-- What shared variables begin with, one after another.
+use Rattle.std.proofs.Common.{◌≡◌, ℕ, zero, suc, ◌+◌, ◌<◌, List, [], ◌∷◌, ◌++◌, length, map, take, get_or, refl, sym, ap, ◌∙◌, subst, arith}
+use Rattle.std.specs.List.{All}
+use Rattle.std.proofs.lemmas.List.{map-append}
+use Rattle.std.proofs.lemmas.List.Elements.{All-append, All-cons, All-nil}
+use Rattle.bw_lang.specs.declared.service.Service.{Service}
+use Rattle.bw_lang.specs.declared.service.Shared.{Shared}
+use Rattle.bw_lang.specs.declared.service.Template.{Template}
+use Rattle.bw_lang.specs.declared.stmt.Kind.{Kind}
+use Rattle.bw_meaning.specs.Values as meaning
+use Rattle.bw_meaning.specs.Values.{literal_value}
+use Rattle.bw_eval.specs.declared.value.Value.{Value}
+use Rattle.bw_eval.specs.Sound.{IsSound, AreSound}
+use Rattle.bw_eval.specs.View.{value, values, named}
+use Rattle.bw_follow.specs.Kinds.{kind_of, kinds_of}
+
+take_at : {A : Type 0} (xs : List A) (i : ℕ) (x : A) → x ≡ get_or xs i x → i < length xs → take (i + 1) xs ≡ take i xs ++ x ∷ []
+take_at [] i x e h = absurd (omega arith)
+take_at (y ∷ xs) zero x e h = ap (λ z. z ∷ []) (sym e)
+take_at (y ∷ xs) (suc i) x e h = let k : suc i + 1 ≡ suc (i + 1) = omega arith in ap (λ n. take n (y ∷ xs)) k ∙ ap (λ l. y ∷ l) (take_at xs i x e (omega arith))
+
+abbrev pub first_of : Service → Shared → List ℕ × meaning.Value
+first_of service v = (v.name, literal_value service v.init)
+
+abbrev pub kind_pair : Shared → List ℕ × Kind
+kind_pair v = (v.name, v.kind)
+
+pub first_next : (service : Service) (xs : List Shared) (i : ℕ) (x : Shared) (f g : List (List ℕ × Value)) (w : List ℕ) (v : Value) → x ≡ get_or xs i x → i < length xs → w ≡ x.name → value v ≡ literal_value service x.init → g ≡ f ++ (w, v) ∷ [] →
+    values f ≡ map (first_of service) (take i xs) → values g ≡ map (first_of service) (take (i + 1) xs)
+first_next service xs i x f g w v e h ew ev eg is =
+    ap values eg ∙ map-append named f ((w, v) ∷ []) ∙ (λ j. is j ++ (ew j, ev j) ∷ []) ∙ sym (map-append (first_of service) (take i xs) (x ∷ [])) ∙ ap (map (first_of service)) (sym (take_at xs i x e h))
+
+pub kind_next : (xs : List Shared) (i : ℕ) (x : Shared) (f g : List (List ℕ × Value)) (w : List ℕ) (v : Value) → x ≡ get_or xs i x → i < length xs → w ≡ x.name → kind_of (value v) ≡ x.kind → g ≡ f ++ (w, v) ∷ [] →
+    kinds_of (values f) ≡ map kind_pair (take i xs) → kinds_of (values g) ≡ map kind_pair (take (i + 1) xs)
+kind_next xs i x f g w v e h ew ev eg is =
+    ap (λ l. kinds_of (values l)) eg ∙ ap kinds_of (map-append named f ((w, v) ∷ [])) ∙ map-append (λ (p : List ℕ × meaning.Value). (p.0, kind_of p.1)) (values f) ((w, value v) ∷ [])
+    ∙ (λ j. is j ++ (ew j, ev j) ∷ []) ∙ sym (map-append kind_pair (take i xs) (x ∷ [])) ∙ ap (map kind_pair) (sym (take_at xs i x e h))
+
+pub sound_next : (ts : List Template) (f g : List (List ℕ × Value)) (w : List ℕ) (v : Value) → AreSound ts f → IsSound ts v → g ≡ f ++ (w, v) ∷ [] → AreSound ts g
+sound_next ts f g w v a b e =
+    let P : List ℕ × Value → Type 0 = λ x. IsSound ts x.1 in
+    subst (AreSound ts) (sym e) (All-append P f ((w, v) ∷ []) a (All-cons P (w, v) [] b (All-nil P)))
