@@ -53,9 +53,11 @@ module _ (service : Service) (flow : List Step) where
       let meet = step n sc d acts.joins (enter rest (join + 1) q ∷ []) in
       let more = meet ∷ steps service rest (n + 1 + numbered y) sc d (join + 1) q in
       let a = holds_parts flow (p + 1) ys more h.1 in
-      let b = holds_at flow (p + 1 + length ys) join more (ap (λ l. p + 1 + l) (length_steps service y (n + 1) sc d (p + 1) join)) a.1 in
-      (tt, parts_go_past flow ys more (past y (n + 1) sc d (p + 1) join a.0 (ends_after flow join y sc (ends_at flow join meet b.0)))
-      (tt, past rest (n + 1 + numbered y) sc d (join + 1) q b.1 e))
+      let b = holds_at flow (p + 1 + length ys) join more (ap (λ l. p + 1 + l) (length_steps service y (n + 1) sc d (p + 1) join)) a.1 in (
+        tt,
+        parts_go_past flow ys more (past y (n + 1) sc d (p + 1) join a.0 (ends_after flow join y sc (ends_at flow join meet b.0)))
+            (tt, past rest (n + 1 + numbered y) sc d (join + 1) q b.1 e),
+      )
   past (if_else v y o rest) n sc d p q h e =
       let other = p + 1 + count y in let join = other + count o in
       let ys = steps service y (n + 1) sc d (p + 1) join in
@@ -66,18 +68,22 @@ module _ (service : Service) (flow : List Step) where
       let b = holds_parts flow other os more (holds_at flow (p + 1 + length ys) other (os ++ more)
       (ap (λ l. p + 1 + l) (length_steps service y (n + 1) sc d (p + 1) join)) a.1) in
       let c = holds_at flow (other + length os) join more (ap (λ l. other + l) (length_steps service o (n + 1 + numbered y) sc d other join)) b.1 in
-      let at_join = ends_at flow join meet c.0 in
-      (tt, parts_go_past flow ys (os ++ more) (past y (n + 1) sc d (p + 1) join a.0 (ends_after flow join y sc at_join))
-      (parts_go_past flow os more (past o (n + 1 + numbered y) sc d other join b.0 (ends_after flow join o sc at_join))
-      (tt, past rest (n + 1 + numbered y + numbered o) sc d (join + 1) q c.1 e)))
+      let at_join = ends_at flow join meet c.0 in (
+        tt,
+        parts_go_past flow ys (os ++ more) (past y (n + 1) sc d (p + 1) join a.0 (ends_after flow join y sc at_join))
+            (parts_go_past flow os more (past o (n + 1 + numbered y) sc d other join b.0 (ends_after flow join o sc at_join))
+            (tt, past rest (n + 1 + numbered y + numbered o) sc d (join + 1) q c.1 e)),
+      )
   past (while_loop v y rest) n sc d p q h e =
       let after_body = p + 1 + count y in
       let ys = steps service y (n + 1) sc d (p + 1) p in
       let more = steps service rest (n + 1 + numbered y) sc d after_body q in
       let a = holds_parts flow (p + 1) ys more h.1 in
-      let b = holds_at flow (p + 1 + length ys) after_body more (ap (λ l. p + 1 + l) (length_steps service y (n + 1) sc d (p + 1) p)) a.1 in
-      (tt, parts_go_past flow ys more (past y (n + 1) sc d (p + 1) p a.0 (ends_after flow p y sc (ends_at flow p _ h.0)))
-      (past rest (n + 1 + numbered y) sc d after_body q b e))
+      let b = holds_at flow (p + 1 + length ys) after_body more (ap (λ l. p + 1 + l) (length_steps service y (n + 1) sc d (p + 1) p)) a.1 in (
+        tt,
+        parts_go_past flow ys more (past y (n + 1) sc d (p + 1) p a.0 (ends_after flow p y sc (ends_at flow p _ h.0)))
+            (past rest (n + 1 + numbered y) sc d after_body q b e),
+      )
   past (for_each w v y rest) n sc d p q h e =
       let after_body = p + 1 + count y in
       let l : Local = record { name = w; kind = kinds.Str } in
@@ -86,9 +92,10 @@ module _ (service : Service) (flow : List Step) where
       let more = steps service rest (n + 1 + numbered y) sc d after_body q in
       let a = holds_parts flow (p + 1) ys more h.1 in
       let b = holds_at flow (p + 1 + length ys) after_body more (ap (λ i. p + 1 + i) (length_steps service y (n + 1) inner (d + 1) (p + 1) p)) a.1 in
-      let inside = ends_after flow p y inner (ends_more flow p sc (l ∷ []) (ends_at flow p _ h.0)) in
-      (entry service flow rest (n + 1 + numbered y) sc d after_body q b e,
-      parts_go_past flow ys more (past y (n + 1) inner (d + 1) (p + 1) p a.0 inside) (past rest (n + 1 + numbered y) sc d after_body q b e))
+      let inside = ends_after flow p y inner (ends_more flow p sc (l ∷ []) (ends_at flow p _ h.0)) in (
+        entry service flow rest (n + 1 + numbered y) sc d after_body q b e,
+        parts_go_past flow ys more (past y (n + 1) inner (d + 1) (p + 1) p a.0 inside) (past rest (n + 1 + numbered y) sc d after_body q b e),
+      )
   past (block y rest) n sc d p q h e =
       let after_body = p + count y in let r = enter rest after_body q in
       let ys = steps service y n sc d p r in
