@@ -1,5 +1,0 @@
-pub mod Code
-pub mod Fit
-pub mod Missing
-pub mod Turns
-pub mod Walks
