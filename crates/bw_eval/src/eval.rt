@@ -44,7 +44,8 @@ impl Scene<'_> {
     fn named(&self, name: &Name) -> Result<Value, TurnFault>
         requires locals { AreSound self.now.typed.now.service.templates self.now.locals.now }
         requires shared { AreSound self.now.typed.now.service.templates self.now.shared.now }
-        ensures value { HasMemory result → resulted result ≡ Ok (spec.named self.now.typed.now.service (values self.now.locals.now) (values self.now.shared.now) name.now) }
+        ensures value { HasMemory result → resulted result ≡ Ok (
+            spec.named self.now.typed.now.service (values self.now.locals.now) (values self.now.shared.now) name.now) }
         ensures sound { IfOk result (IsSound self.now.typed.now.service.templates) }
     {
         if let Some(v) = self.locals.get(name) {
@@ -69,7 +70,8 @@ impl Scene<'_> {
         requires short { HasShort (term expr.now) }
         requires locals { AreSound self.now.typed.now.service.templates self.now.locals.now }
         requires shared { AreSound self.now.typed.now.service.templates self.now.shared.now }
-        ensures value { HasMemory result → evaluated result units.new ≡ spec.eval self.now.typed.now.service (values self.now.locals.now) (values self.now.shared.now) (term expr.now) units.old }
+        ensures value { HasMemory result → evaluated result units.new ≡
+            spec.eval self.now.typed.now.service (values self.now.locals.now) (values self.now.shared.now) (term expr.now) units.old }
         ensures steps { steps.new + units.new ≡ steps.old + units.old }
         ensures left { units.new ≤ units.old }
         ensures sound { IfOk result (IsSound self.now.typed.now.service.templates) }
@@ -123,7 +125,8 @@ impl Scene<'_> {
         requires base { IsSound self.now.typed.now.service.templates base }
         requires locals { AreSound self.now.typed.now.service.templates self.now.locals.now }
         requires shared { AreSound self.now.typed.now.service.templates self.now.shared.now }
-        ensures value { HasMemory result → evaluated result units.new ≡ spec.fill self.now.typed.now.service (values self.now.locals.now) (values self.now.shared.now) pairs.now (value base) units.old }
+        ensures value { HasMemory result → evaluated result units.new ≡
+            spec.fill self.now.typed.now.service (values self.now.locals.now) (values self.now.shared.now) pairs.now (value base) units.old }
         ensures steps { steps.new + units.new ≡ steps.old + units.old }
         ensures left { units.new ≤ units.old }
         ensures sound { IfOk result (IsSound self.now.typed.now.service.templates) }

@@ -24,7 +24,8 @@ use Rattle.bw_follow.proofs.Whole.{found, length_firsts, turns_agree, going_on_a
 pub typed_is_ready : TypedIsReady
 typed_is_ready t = record {
   scoped = names_are_scoped t;
-  closed = All-weaker (IsTypedSession t.service) (λ s. ends_in_exit s.body ≡ true) (λ s h. h.1) t.service.sessions (sessions_are_typed t.service t.readable t.well_typed);
+  closed = All-weaker (IsTypedSession t.service) (λ s. ends_in_exit s.body ≡ true) (λ s h. h.1) t.service.sessions
+      (sessions_are_typed t.service t.readable t.well_typed);
 }
 
 pub turns_keep_kinds : TurnsKeepKinds
@@ -35,9 +36,11 @@ turns_keep_kinds t session first shared inputs e es ei =
     let law = turns_agree service session first shared inputs ready e in
     let fs = (plan_of service).firsts in
     let len = length_firsts service.sessions 0 (points service.sessions) in
-    let f = found service flow service.sessions fs 1 (length flow) session (stands_for_all service) ready.scoped ready.closed (omega (arith, slice_get_within fs session first e, len)) in
+    let f = found service flow service.sessions fs 1 (length flow) session (stands_for_all service) ready.scoped ready.closed
+    (omega (arith, slice_get_within fs session first e, len)) in
     let body = body_of service session in
-    let begin : Ends flow f.first [] = begins_with service flow body (first_number service session) [] 0 f.first _ f.lowered (ends_out flow (after body [])) in
+    let begin : Ends flow f.first [] = begins_with service flow body (first_number service session) [] 0 f.first _ f.lowered
+    (ends_out flow (after body [])) in
     let same = same_Some f.first first (sym f.is ∙ e) in
     subst (HasKinds service flow) (law.1 0)
     (run_kinds service flow (points_are_typed t) (all_have_nexts service) (goes_past service) (law.0 + 0) first [] _

@@ -1,5 +1,6 @@
 -- The names of locals: those in scope, in order of declaration.
-use Rattle.std.proofs.Common.{◌≡◌, ℕ, zero, suc, ◌+◌, Bool, true, false, cond, List, [], ◌∷◌, ◌++◌, map, length, take, Option, Some, None, refl, sym, ap, ◌∙◌, subst, append_assoc}
+use Rattle.std.proofs.Common.{◌≡◌, ℕ, zero, suc, ◌+◌, Bool, true, false, cond, List, [], ◌∷◌, ◌++◌, map, length, take, Option, Some, None, refl, sym, ap}
+use Rattle.std.proofs.Common.{◌∙◌, subst, append_assoc}
 use Rattle.std.specs.Prelude.{if◌then◌else◌, filter, find, not, is_some, ◌||◌}
 use Rattle.std.specs.List.{list_any}
 use Rattle.std.specs.Option.{option_map, option_or}
@@ -29,7 +30,8 @@ use Rattle.bw_meaning.specs.States.{Input}
 
 -- ---- what storing leaves
 
-names_if : (b : Bool) (w : List ℕ) (v u : Value) (ps qs : Values) → names_of qs ≡ names_of ps → names_of (if b then (w, v) ∷ ps else (w, u) ∷ qs) ≡ w ∷ names_of ps
+names_if : (b : Bool) (w : List ℕ) (v u : Value) (ps qs : Values) → names_of qs ≡ names_of ps →
+    names_of (if b then (w, v) ∷ ps else (w, u) ∷ qs) ≡ w ∷ names_of ps
 names_if true w v u ps qs e = refl
 names_if false w v u ps qs e = ap (λ l. w ∷ l) e
 
@@ -132,7 +134,8 @@ is_some_or : {A : Type 0} (a b : Option A) → is_some (option_or a b) ≡ false
 is_some_or None b e = refl
 is_some_or (Some x) b e = cc
 
-not_found : (b : Bool) (l : Local) (r : Option Local) → is_some (option_map (λ (l : Local). l.kind) (cond b (Some l) r)) ≡ false → (b ≡ false) × (is_some (option_map (λ (l : Local). l.kind) r) ≡ false)
+not_found : (b : Bool) (l : Local) (r : Option Local) → is_some (option_map (λ (l : Local). l.kind) (cond b (Some l) r)) ≡ false →
+    (b ≡ false) × (is_some (option_map (λ (l : Local). l.kind) r) ≡ false)
 not_found true l r e = cc
 not_found false l r e = (refl, e)
 
@@ -154,7 +157,8 @@ apart_front : (ns ms xs : List (List ℕ)) → Apart (ns ++ ms) xs → Apart ns 
 apart_front [] ms xs a = tt
 apart_front (n ∷ ns) ms xs a = (a.0, apart_front ns ms xs a.1)
 
-pub unknown_apart : (service : Service) (sc : List Local) (w : List ℕ) (xs : List (List ℕ)) → is_known service sc w ≡ false → Apart (names_in sc) xs → Apart (names_in sc) (w ∷ xs)
+pub unknown_apart : (service : Service) (sc : List Local) (w : List ℕ) (xs : List (List ℕ)) → is_known service sc w ≡ false →
+    Apart (names_in sc) xs → Apart (names_in sc) (w ∷ xs)
 unknown_apart service sc w xs e a = apart_one sc w xs (is_some_or (kind_in sc w) (shared_kind service w) e) a
 
 pub apart_with : (sc : List Local) (w : List ℕ) (k : Kind) (xs : List (List ℕ)) → Apart (names_in (with_local sc w k)) xs → Apart (names_in sc) xs
@@ -162,7 +166,8 @@ apart_with sc w k xs a = apart_front (names_in sc) (w ∷ []) xs (subst (λ ns. 
 
 pub scoped_apart : (service : Service) (c : Code) (sc : List Local) → IsScoped service c sc → Apart (names_in sc) (declared c)
 scoped_apart service done sc s = apart_none (names_in sc)
-scoped_apart service (declare k w e rest) sc s = unknown_apart service sc w (declared rest) s.0 (apart_with sc w k (declared rest) (scoped_apart service rest (with_local sc w k) s.1))
+scoped_apart service (declare k w e rest) sc s = unknown_apart service sc w (declared rest) s.0
+    (apart_with sc w k (declared rest) (scoped_apart service rest (with_local sc w k) s.1))
 scoped_apart service (assign w e rest) sc s = scoped_apart service rest sc s.1
 scoped_apart service (if_then t y rest) sc s = scoped_apart service rest sc s.1
 scoped_apart service (if_else t y z rest) sc s = scoped_apart service rest sc s.2

@@ -41,7 +41,8 @@ goes_past_at flow (y ∷ ys) zero x h e = subst (λ z. GoesPast flow z.act z.sco
 goes_past_at flow (y ∷ ys) (suc p) x h e = goes_past_at flow ys p x h.1 e
 
 module _ (service : Service) (flow : List Step) where
-  past : (c : Code) (n : ℕ) (sc : List Local) (d p q : ℕ) → Holds flow p (steps service c n sc d p q) → Ends flow q (after c sc) → AllGoPast flow (steps service c n sc d p q)
+  past : (c : Code) (n : ℕ) (sc : List Local) (d p q : ℕ) → Holds flow p (steps service c n sc d p q) → Ends flow q (after c sc) →
+      AllGoPast flow (steps service c n sc d p q)
   past done n sc d p q h e = tt
   past (declare k w v rest) n sc d p q h e = (tt, past rest (n + 1) (with_local sc w k) d (p + 1) q h.1 e)
   past (assign w v rest) n sc d p q h e = (tt, past rest (n + 1) sc d (p + 1) q h.1 e)
@@ -105,14 +106,16 @@ module _ (service : Service) (flow : List Step) where
       parts_go_past flow ys more (past y n sc d p r a.0 (ends_after flow r y sc (entry service flow rest (n + numbered y) sc d after_body q b e)))
       (past rest (n + numbered y) sc d after_body q b e)
 
-  sessions_past : (ss : List Session) (n p out : ℕ) → Ends flow out [] → Holds flow p (session_steps service ss n p out) → AllGoPast flow (session_steps service ss n p out)
+  sessions_past : (ss : List Session) (n p out : ℕ) → Ends flow out [] → Holds flow p (session_steps service ss n p out) →
+      AllGoPast flow (session_steps service ss n p out)
   sessions_past [] n p out e h = tt
   sessions_past (s ∷ ss) n p out e h =
       let body = steps service s.body n [] 0 p out in
       let more = session_steps service ss (n + numbered s.body) (p + count s.body) out in
       let a = holds_parts flow p body more h in
       let b = holds_at flow (p + length body) (p + count s.body) more (ap (λ l. p + l) (length_steps service s.body n [] 0 p out)) a.1 in
-      parts_go_past flow body more (past s.body n [] 0 p out a.0 (ends_after flow out s.body [] e)) (sessions_past ss (n + numbered s.body) (p + count s.body) out e b)
+      parts_go_past flow body more (past s.body n [] 0 p out a.0 (ends_after flow out s.body [] e))
+      (sessions_past ss (n + numbered s.body) (p + count s.body) out e b)
 
   -- where statements begin that are laid out, what is in scope in front of them is, or less where they have no point
   pub begins_with : (c : Code) (n : ℕ) (sc : List Local) (d p q : ℕ) → Lowered service flow c n sc d p q → Ends flow q (after c sc) → Ends flow p sc
@@ -137,10 +140,12 @@ pub ends_out : (flow : List Step) (scope : List Local) → Ends flow (length flo
 ends_out flow scope y e = absurd (nothing_behind flow y e)
 
 -- from a foreach of the flow of a service, which goes on behind it
-pub goes_past : (service : Service) (p : ℕ) (x : Step) (w : List ℕ) (e : Term) → IsAt (plan_of service).steps p x → x.act ≡ acts.goes_over w e → Ends (plan_of service).steps (second_of x.next) x.scope
+pub goes_past : (service : Service) (p : ℕ) (x : Step) (w : List ℕ) (e : Term) → IsAt (plan_of service).steps p x → x.act ≡ acts.goes_over w e →
+    Ends (plan_of service).steps (second_of x.next) x.scope
 goes_past service p x w e at is =
     let flow = (plan_of service).steps in
     let out = points service.sessions in
     let len = length_sessions service service.sessions 1 0 out in
-    let all = sessions_past service flow service.sessions 1 0 out (λ y h. absurd (nothing_behind flow y (subst (λ m. slice_get flow m ≡ Some y) (sym len) h))) (holds_self flow) in
+    let all = sessions_past service flow service.sessions 1 0 out
+    (λ y h. absurd (nothing_behind flow y (subst (λ m. slice_get flow m ≡ Some y) (sym len) h))) (holds_self flow) in
     subst (λ a. GoesPast flow a x.scope x.next) is (goes_past_at flow flow p x all at)

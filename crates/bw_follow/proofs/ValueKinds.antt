@@ -1,5 +1,6 @@
 -- The value of an expression is of its kind.
-use Rattle.std.proofs.Common.{◌≡◌, ◌⊎◌, ℕ, zero, suc, Bool, true, false, cond, List, [], ◌∷◌, ◌++◌, map, Option, Some, None, refl, sym, ap, ◌∙◌, subst, inl, inr}
+use Rattle.std.proofs.Common.{◌≡◌, ◌⊎◌, ℕ, zero, suc, Bool, true, false, cond, List, [], ◌∷◌, ◌++◌, map, Option, Some, None, refl, sym, ap, ◌∙◌, subst}
+use Rattle.std.proofs.Common.{inl, inr}
 use Rattle.std.specs.Prelude.{ℤ, pos, neg_ℤ, ◌+ℤ◌, ◌-ℤ◌, ◌*ℤ◌, ◌||◌, nat_lt, length, int_div, int_rem, if◌then◌else◌, find, unwrap_or, Result, Ok, Err}
 use Rattle.std.specs.Option.{option_map, option_or}
 use Rattle.std.specs.Ordering.{int_eq}
@@ -38,16 +39,21 @@ beside_kinds w [] = refl
 beside_kinds w (x ∷ xs) = by_test (same w x.0) (beside_kinds w xs)
   where
     by_test : (b : Bool) → beside w (kinds_of xs) ≡ option_map kind_of (beside w xs)
-        → option_map (λ p. p.1) (cond b (Some (x.0, kind_of x.1)) (find (λ p. same w p.0) (kinds_of xs))) ≡ option_map kind_of (option_map (λ (p : List ℕ × Value). p.1) (cond b (Some x) (find (λ p. same w p.0) xs)))
+        → option_map (λ p. p.1) (cond b (Some (x.0, kind_of x.1)) (find (λ p. same w p.0) (kinds_of xs))) ≡ option_map kind_of
+        (option_map (λ (p : List ℕ × Value). p.1) (cond b (Some x) (find (λ p. same w p.0) xs)))
     by_test true ih = refl
     by_test false ih = ih
 
-template_has : (w : List ℕ) (ts : List Template) → option_map kind_of (option_map (λ (t : Template). document (constant t.items)) (find (λ t. same w t.name) ts)) ≡ (if is_among w (map (λ t. t.name) ts) then Some kinds.Html else None)
+template_has : (w : List ℕ) (ts : List Template) →
+    option_map kind_of (option_map (λ (t : Template). document (constant t.items)) (find (λ t. same w t.name) ts)) ≡
+    (if is_among w (map (λ t. t.name) ts) then Some kinds.Html else None)
 template_has w [] = refl
 template_has w (t ∷ ts) = by_test (same w t.name) (template_has w ts)
   where
-    by_test : (b : Bool) → option_map kind_of (option_map (λ (t : Template). document (constant t.items)) (find (λ t. same w t.name) ts)) ≡ (if is_among w (map (λ t. t.name) ts) then Some kinds.Html else None)
-        → option_map kind_of (option_map (λ (t : Template). document (constant t.items)) (cond b (Some t) (find (λ t. same w t.name) ts))) ≡ (if (b || is_among w (map (λ t. t.name) ts)) then Some kinds.Html else None)
+    by_test : (b : Bool) → option_map kind_of (option_map (λ (t : Template). document (constant t.items)) (find (λ t. same w t.name) ts)) ≡
+        (if is_among w (map (λ t. t.name) ts) then Some kinds.Html else None)
+        → option_map kind_of (option_map (λ (t : Template). document (constant t.items)) (cond b (Some t) (find (λ t. same w t.name) ts))) ≡
+        (if (b || is_among w (map (λ t. t.name) ts)) then Some kinds.Html else None)
     by_test true ih = refl
     by_test false ih = ih
 
@@ -122,7 +128,8 @@ sum_has (document d) w side e (inr t) = absurd (let f : kinds.Html ≡ kinds.Str
 sum_has (list l) w side e (inl t) = absurd (let f : kinds.Strs ≡ kinds.Int = e ∙ t in cc)
 sum_has (list l) w side e (inr t) = absurd (let f : kinds.Strs ≡ kinds.Str = e ∙ t in cc)
 
-combined_has : (op : Op) (v w : Value) (side kind : Kind) → kind_of v ≡ side → kind_of w ≡ side → Takes (op_sort op) side kind → ResultHas kind (combined op v w)
+combined_has : (op : Op) (v w : Value) (side kind : Kind) → kind_of v ≡ side → kind_of w ≡ side → Takes (op_sort op) side kind →
+    ResultHas kind (combined op v w)
 combined_has Or v w side kind ev ew t = ew ∙ t.0 ∙ sym t.1
 combined_has And v w side kind ev ew t = ew ∙ t.0 ∙ sym t.1
 combined_has Eq v w side kind ev ew t = sym t.2
@@ -164,7 +171,8 @@ tree_has t (Ok m) = refl
 tree_has t (Err f) = tt
 
 filled_has : (g : ℕ) (v : Value) (d : Document) → ResultHas kinds.Html (filled g v d)
-filled_has g (text s) d = tree_has (doc.plug_text g s d.tree) (tested (plugged d.measure (text_measure (length s)) (doc.count g d.tree) (doc.around g d.tree)))
+filled_has g (text s) d = tree_has (doc.plug_text g s d.tree)
+    (tested (plugged d.measure (text_measure (length s)) (doc.count g d.tree) (doc.around g d.tree)))
 filled_has g (document a) d = tree_has (doc.plug g a.tree d.tree) (tested (plugged d.measure a.measure (doc.count g d.tree) (doc.around g d.tree)))
 filled_has g (number n) d = refl
 filled_has g (truth_value b) d = refl
@@ -176,7 +184,8 @@ paid_has : (k : Kind) (units : ℕ) (go : ℕ → Evaluated) → ((u : ℕ) → 
 paid_has k zero go h = tt
 paid_has k (suc u) go h = h u
 
-then_has : (j k : Kind) (o : Evaluated) (go : Value → ℕ → Evaluated) → GivesKind j o → ((v : Value) (u : ℕ) → kind_of v ≡ j → GivesKind k (go v u)) → GivesKind k (and_then o go)
+then_has : (j k : Kind) (o : Evaluated) (go : Value → ℕ → Evaluated) → GivesKind j o → ((v : Value) (u : ℕ) → kind_of v ≡ j → GivesKind k (go v u)) →
+    GivesKind k (and_then o go)
 then_has j k (Gives v u) go g h = h v u g
 then_has j k (Faults f u) go g h = tt
 
@@ -185,11 +194,13 @@ given_has k (Ok v) u h = h
 given_has k (Err f) u h = tt
 
 module _ (service : Service) (scope : Scope) (locals shared : Values) (el : kinds_of locals ≡ scope.locals) (es : AreShared service shared) where
-  decide : (op : Op) (side kind : Kind) (r : Term) (v : Value) (u : ℕ) → kind_of v ≡ side → Takes (op_sort op) side kind → ((u1 : ℕ) → GivesKind side (eval service locals shared r u1)) → (b : Bool) → decides op v ≡ b →
+  decide : (op : Op) (side kind : Kind) (r : Term) (v : Value) (u : ℕ) → kind_of v ≡ side → Takes (op_sort op) side kind →
+      ((u1 : ℕ) → GivesKind side (eval service locals shared r u1)) → (b : Bool) → decides op v ≡ b →
       GivesKind kind (if b then Gives v u else and_then (eval service locals shared r u) (λ w. given (combined op v w)))
   decide op side kind r v u ev t ih true d = decided_has op v side kind d ev t
   decide op side kind r v u ev t ih false d =
-      then_has side kind (eval service locals shared r u) (λ w. given (combined op v w)) (ih u) (λ w u1 ew. given_has kind (combined op v w) u1 (combined_has op v w side kind ev ew t))
+      then_has side kind (eval service locals shared r u) (λ w. given (combined op v w)) (ih u)
+      (λ w u1 ew. given_has kind (combined op v w) u1 (combined_has op v w side kind ev ew t))
 
   mutual
     has : (e : Term) (kind : Kind) (units : ℕ) → HasKind service scope e kind → GivesKind kind (eval service locals shared e units)
@@ -202,20 +213,27 @@ module _ (service : Service) (scope : Scope) (locals shared : Values) (el : kind
     has (not e) kind units h =
         paid_has kind units _ (λ u. then_has kinds.Bool kind (eval service locals shared e u) _ (has e kinds.Bool u h.0) (λ v u1 ev. sym h.1))
     has (neg e) kind units h =
-        paid_has kind units _ (λ u. then_has kinds.Int kind (eval service locals shared e u) _ (has e kinds.Int u h.0) (λ v u1 ev. given_has kind (held (neg_ℤ (number_of v))) u1 (result_to kinds.Int kind (held (neg_ℤ (number_of v))) (sym h.1) (held_has (neg_ℤ (number_of v))))))
+        paid_has kind units _ (λ u. then_has kinds.Int kind (eval service locals shared e u) _ (has e kinds.Int u h.0)
+        (λ v u1 ev. given_has kind (held (neg_ℤ (number_of v))) u1
+        (result_to kinds.Int kind (held (neg_ℤ (number_of v))) (sym h.1) (held_has (neg_ℤ (number_of v))))))
     has (call f e) kind units h =
-        paid_has kind units _ (λ u. then_has (fun_takes f) kind (eval service locals shared e u) _ (has e (fun_takes f) u h.0) (λ v u1 ev. called_has f v ∙ sym h.1))
+        paid_has kind units _ (λ u. then_has (fun_takes f) kind (eval service locals shared e u) _ (has e (fun_takes f) u h.0)
+        (λ v u1 ev. called_has f v ∙ sym h.1))
     has (binary op l r) kind units h =
-        paid_has kind units _ (λ u. then_has h.0 kind (eval service locals shared l u) _ (has l h.0 u h.1) (λ v u1 ev. decide op h.0 kind r v u1 ev h.3 (λ u2. has r h.0 u2 h.2) (decides op v) refl))
+        paid_has kind units _ (λ u. then_has h.0 kind (eval service locals shared l u) _ (has l h.0 u h.1)
+        (λ v u1 ev. decide op h.0 kind r v u1 ev h.3 (λ u2. has r h.0 u2 h.2) (decides op v) refl))
     has (plug b ps) kind units h =
-        paid_has kind units _ (λ u. then_has kinds.Html kind (eval service locals shared b u) _ (has b kinds.Html u h.0) (λ d u1 ed. subst (λ k. GivesKind k (fill service locals shared ps d u1)) (sym h.2) (fills ps d u1 h.1 ed)))
+        paid_has kind units _ (λ u. then_has kinds.Html kind (eval service locals shared b u) _ (has b kinds.Html u h.0)
+        (λ d u1 ed. subst (λ k. GivesKind k (fill service locals shared ps d u1)) (sym h.2) (fills ps d u1 h.1 ed)))
 
-    fills : (ps : Fillings) (d : Value) (units : ℕ) → AreTyped service scope ps → kind_of d ≡ kinds.Html → GivesKind kinds.Html (fill service locals shared ps d units)
+    fills : (ps : Fillings) (d : Value) (units : ℕ) → AreTyped service scope ps → kind_of d ≡ kinds.Html →
+        GivesKind kinds.Html (fill service locals shared ps d units)
     fills no_more d units h ed = ed
     fills (filling g e ps) d units h ed =
         let t = h.0 in
         then_has t.1 kinds.Html (eval service locals shared e units) _ (has e t.1 units t.3) (λ v u1 ev.
-        then_has kinds.Html kinds.Html (given (filled (names.number service.gaps g) v (document_of d)) u1) _ (given_has kinds.Html (filled (names.number service.gaps g) v (document_of d)) u1 (filled_has (names.number service.gaps g) v (document_of d)))
+        then_has kinds.Html kinds.Html (given (filled (names.number service.gaps g) v (document_of d)) u1) _
+        (given_has kinds.Html (filled (names.number service.gaps g) v (document_of d)) u1 (filled_has (names.number service.gaps g) v (document_of d)))
         (λ d1 u2 e1. fills ps d1 u2 h.1 e1))
 
 pub values_have_kinds : ValuesHaveKinds

@@ -56,7 +56,8 @@ ValuesHaveKinds =
 abbrev pub HasKinds : Service → List Step → Outcome → Type 0
 HasKinds service flow (Went st) = Unit {0}
 HasKinds service flow (Shown at locals rests shown shared units) =
-    ((p : ℕ) × (x : Step) × (e : Term) × (rs : List Received) × IsAt flow p x × (x.act ≡ acts.shows e rs) × (at ≡ x.number) × (kinds_of locals ≡ kinds_in x.scope)) × AreShared service shared
+    ((p : ℕ) × (x : Step) × (e : Term) × (rs : List Received) × IsAt flow p x × (x.act ≡ acts.shows e rs) × (at ≡ x.number) ×
+    (kinds_of locals ≡ kinds_in x.scope)) × AreShared service shared
 HasKinds service flow (Exited last shared units) = AreShared service shared
 HasKinds service flow (Failed f units) = Unit {0}
 
@@ -75,5 +76,6 @@ TurnsKeepKinds =
 abbrev pub GoingOnKeepsKinds : Type 0
 GoingOnKeepsKinds =
     (typed : Typed) (session p : ℕ) (x : Step) (e : Term) (rs : List Received) (a : Answered) → let service = typed.service in let plan = plan_of service in
-    IsAt plan.steps p x → x.act ≡ acts.shows e rs → IsFit x a → IsOf service session x.number → kinds_of a.locals ≡ kinds_in x.scope → AreShared service a.input.shared →
+    IsAt plan.steps p x → x.act ≡ acts.shows e rs → IsFit x a → IsOf service session x.number → kinds_of a.locals ≡ kinds_in x.scope →
+    AreShared service a.input.shared →
     InputsHaveKinds service a.later → HasKinds service plan.steps (go_on service session a)

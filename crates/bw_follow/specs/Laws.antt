@@ -26,7 +26,8 @@ abbrev pub TurnsAgree : Type 0
 TurnsAgree =
     (service : Service) (session first : ℕ) (shared : Values) (inputs : List Input) → let plan = plan_of service in
     IsReady service → slice_get plan.firsts session ≡ Some first →
-    Settles (λ g. run service plan.steps g first [] (record { locals = []; shared = shared; units = budget; inputs = inputs })) (turn service session shared inputs)
+    Settles (λ g. run service plan.steps g first [] (record { locals = []; shared = shared; units = budget; inputs = inputs }))
+    (turn service session shared inputs)
 
 -- the locals are those in scope at the point, and there is a rest for each foreach around it
 pub record IsFit (x : Step) (a : Answered) : Type 0 where
@@ -49,18 +50,23 @@ GoingOnAgrees =
 -- where a session waits in the middle of its turn, its frame is fit for a show of the flow, which is one of its own
 abbrev pub ShownIsFit : Type 0
 ShownIsFit =
-    (service : Service) (session first : ℕ) (shared : Values) (inputs : List Input) (i : Input) (at : ℕ) (locals : Values) (rests : Rests) (shown : Document) (sh : Values) (units : ℕ) →
+    (service : Service) (session first : ℕ) (shared : Values) (inputs : List Input) (i : Input) (at : ℕ) (locals : Values) (rests : Rests)
+    (shown : Document) (sh : Values) (units : ℕ) →
     let plan = plan_of service in
     IsReady service → slice_get plan.firsts session ≡ Some first → turn service session shared inputs ≡ Shown at locals rests shown sh units →
-    (p : ℕ) × (x : Step) × (e : Term) × (rs : List Received) × (slice_get plan.steps p ≡ Some x) × (x.act ≡ acts.shows e rs) × IsFit x (answered at locals rests i) × IsOf service session at
+    (p : ℕ) × (x : Step) × (e : Term) × (rs : List Received) × (slice_get plan.steps p ≡ Some x) × (x.act ≡ acts.shows e rs)
+    × IsFit x (answered at locals rests i) × IsOf service session at
 
 -- the same where it goes on from a show
 abbrev pub ShownAgainIsFit : Type 0
 ShownAgainIsFit =
-    (service : Service) (session p0 : ℕ) (x0 : Step) (e0 : Term) (rs0 : List Received) (a : Answered) (i : Input) (at : ℕ) (locals : Values) (rests : Rests) (shown : Document) (sh : Values) (units : ℕ) →
+    (service : Service) (session p0 : ℕ) (x0 : Step) (e0 : Term) (rs0 : List Received) (a : Answered) (i : Input) (at : ℕ) (locals : Values)
+    (rests : Rests) (shown : Document) (sh : Values) (units : ℕ) →
     let plan = plan_of service in
-    IsReady service → slice_get plan.steps p0 ≡ Some x0 → x0.act ≡ acts.shows e0 rs0 → IsFit x0 a → IsOf service session x0.number → go_on service session a ≡ Shown at locals rests shown sh units →
-    (p : ℕ) × (x : Step) × (e : Term) × (rs : List Received) × (slice_get plan.steps p ≡ Some x) × (x.act ≡ acts.shows e rs) × IsFit x (answered at locals rests i) × IsOf service session at
+    IsReady service → slice_get plan.steps p0 ≡ Some x0 → x0.act ≡ acts.shows e0 rs0 → IsFit x0 a → IsOf service session x0.number →
+    go_on service session a ≡ Shown at locals rests shown sh units →
+    (p : ℕ) × (x : Step) × (e : Term) × (rs : List Received) × (slice_get plan.steps p ≡ Some x) × (x.act ≡ acts.shows e rs)
+    × IsFit x (answered at locals rests i) × IsOf service session at
 
 -- each service that is well typed is ready
 abbrev pub TypedIsReady : Type 0

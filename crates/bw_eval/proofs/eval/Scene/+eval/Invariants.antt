@@ -14,7 +14,9 @@ decreases-fill g l = goal.size-fill g l
 
 abbrev pub invariant-fill-loop-pair : goal.invariant-fill-loop-pair
 invariant-fill-loop-pair g l = record {
-  same : fill l.self.typed.now.service (values l.self.locals.now) (values l.self.shared.now) (fillings l.pair-items) (value l.fn.base) l.fn.units ≡ fill l.self.typed.now.service (values l.self.locals.now) (values l.self.shared.now) (fillings (drop l.pair-index l.pair-items)) (value l.filled) l.units;
+  same : fill l.self.typed.now.service (values l.self.locals.now) (values l.self.shared.now) (fillings l.pair-items) (value l.fn.base) l.fn.units ≡
+      fill l.self.typed.now.service (values l.self.locals.now) (values l.self.shared.now) (fillings (drop l.pair-index l.pair-items))
+      (value l.filled) l.units;
   steps : l.steps + l.units ≡ l.fn.steps + l.fn.units;
   left : l.units ≤ l.fn.units;
   filled_sound : IsSound l.self.typed.now.service.templates l.filled;

@@ -15,7 +15,8 @@ returns-in-Some-clause-value c m =
 pub returns-in-Some-clause-sound : goal.returns-in-Some-clause-sound
 returns-in-Some-clause-sound c =
     let s = c.args.self.now in let ts = s.typed.now.service.templates in
-    subst (IsSound ts) (sym c.in_ok-copy.ensures) (beside_sound ts c.args.name.now s.locals.now _ c.requires.locals (sym c.get.ensures ∙ ap (option_map (λ v. v.now)) c.in-Some.is))
+    subst (IsSound ts) (sym c.in_ok-copy.ensures) (beside_sound ts c.args.name.now s.locals.now _ c.requires.locals (sym c.get.ensures
+    ∙ ap (option_map (λ v. v.now)) c.in-Some.is))
 
 pub returns-in-Some-get-clause-value : goal.returns-in-Some-get-clause-value
 returns-in-Some-get-clause-value c m =
@@ -27,7 +28,8 @@ returns-in-Some-get-clause-value c m =
 pub returns-in-Some-get-clause-sound : goal.returns-in-Some-get-clause-sound
 returns-in-Some-get-clause-sound c =
     let s = c.args.self.now in let ts = s.typed.now.service.templates in
-    subst (IsSound ts) (sym c.in_ok-copy-2.ensures) (beside_sound ts c.args.name.now s.shared.now _ c.requires.shared (sym c.get-2.ensures ∙ ap (option_map (λ v. v.now)) c.in-Some-get.is))
+    subst (IsSound ts) (sym c.in_ok-copy-2.ensures) (beside_sound ts c.args.name.now s.shared.now _ c.requires.shared (sym c.get-2.ensures
+    ∙ ap (option_map (λ v. v.now)) c.in-Some-get.is))
 
 pub returns-clause-value : goal.returns-clause-value
 returns-clause-value c m =

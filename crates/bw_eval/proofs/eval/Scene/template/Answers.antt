@@ -14,4 +14,5 @@ returns-in_ok-constant-in-Some-clause-value c m =
 pub returns-in-None-clause-value : goal.returns-in-None-clause-value
 returns-in-None-clause-value c m =
     let service = c.args.self.now.typed.now.service in
-    ap Ok (no_template service c.args.name.now (number (pos 0)) (ap (template_of service) (sym c.as_str.ensures.text) ∙ sym c.template.ensures ∙ c.in-None.is))
+    ap Ok (no_template service c.args.name.now (number (pos 0)) (ap (template_of service) (sym c.as_str.ensures.text) ∙ sym c.template.ensures
+    ∙ c.in-None.is))
