@@ -1,0 +1,7 @@
+use Rattle.std.proofs.Common.{sym, subst}
+use Rattle.bw_doc.specs.Operations.{IsOf}
+use Rattle.bw_doc.proofs.OfLaws.{plug_is_of}
+use Rattle.bw_eval.proofs.filling.plug.Goals as goal
+
+pub returns-in-Ok-clause-sound : goal.returns-in-Ok-clause-sound
+returns-in-Ok-clause-sound c ts b a = subst (IsOf ts) (sym c.in-Ok.ensures.ok.0) (plug_is_of ts c.args.doc.now c.args.other.now c.args.gap b a)

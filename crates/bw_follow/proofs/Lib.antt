@@ -1,0 +1,11 @@
+pub mod Back
+pub mod Closing
+pub mod Ends
+pub mod Fit
+pub mod Kept
+pub mod Names
+pub mod Past
+pub mod RunKinds
+pub mod Sim
+pub mod ValueKinds
+pub mod Whole
