@@ -18,14 +18,15 @@ use Rattle.bw_lang.specs.Numbers.{first_number}
 use Rattle.bw_types.specs.Gaps.{template_uses}
 use Rattle.bw_types.specs.Scopes.{Scope, no_locals, template_kind, shared_kinds, with_local, behind, is_among, template_names, behind_each}
 use Rattle.bw_types.specs.Typing.{HasKind, IsTypedCode, IsTypedSession, IsTypedService}
-use Rattle.bw_sum.specs.Graph.{Graph, constant}
+use Rattle.bw_sum.specs.Graph.{Graph, constant, IsBelow}
 use Rattle.bw_sum.specs.Templates.{template_items}
-use Rattle.bw_cover.specs.Abstracts.{Abstract, Nothing, Strings, Html, is_gap, known, EachPair, IsPlug}
+use Rattle.bw_cover.specs.Abstracts.{Abstract, Nothing, Strings, Html, is_gap, known, EachPair, IsPlug, Below}
 use Rattle.bw_cover.specs.Facts.{Facts, is_shared, template_known, look}
 use Rattle.bw_cover.specs.Kinds.{IsOf, LocalsAreOf, CellsAreOf, SharedAreOf, summary_of, Shows, GapsAreThere, CheckedIsAccepted, Agree, PlacesFit}
 use Rattle.bw_cover.specs.Least.{with_cells}
 use Rattle.bw_cover.specs.Spots.{Spot, statement, Scoped, Pages, EachPoint}
 use Rattle.bw_cover.proofs.Names.{or_none, among-added, some_is, beside-cons}
+use Rattle.bw_cover.proofs.Rising.{below_refl}
 use Rattle.bw_cover.proofs.Solved.{least_obeys}
 use Rattle.bw_cover.proofs.Typed.{typed_known}
 use Rattle.bw_lang.specs.declared.stmt.Kind.TheVariants as kinds
@@ -86,11 +87,14 @@ module _ {K : Type 0} (service : Service) (f : Facts K) (one : AllPairs (λ x y.
         × EachPair (IsPlug service) service (look service f p) e
     typed_at e kind h = typed_known service one there scope (look service f p) (λ w k i. name_of w k (beside w scope.locals) refl i) e kind h
 
--- what is known of a document is a summary
-pub page_is : (a : Abstract) → IsOf kinds.Html a → a ≡ Html (summary_of a)
-page_is Nothing h = absurd h
-page_is (Strings S) h = absurd h
-page_is (Html G) h = refl
+-- what is known of a document is a summary, and is below each that has all of it
+pub page_below : (a : Abstract) (G : Graph) → IsOf kinds.Html a → IsBelow (summary_of a) G → Below a (Html G)
+page_below Nothing G h b = absurd h
+page_below (Strings S) G h b = absurd h
+page_below (Html A) G h b = b
+
+page_same : (a : Abstract) (G : Graph) → IsOf kinds.Html a → G ≡ summary_of a → Below a (Html G)
+page_same a G h e = page_below a G h (subst (IsBelow (summary_of a)) (sym e) (below_refl (Html (summary_of a))))
 
 module _ (service : Service) (f : Facts Spot) (one : AllPairs (λ x y. x.0 ≡ y.0 → x.1 ≡ y.1) (template_uses service.templates))
     (there : GapsAreThere service) (shared : SharedAreOf service f) where
@@ -137,11 +141,11 @@ module _ (service : Service) (f : Facts Spot) (one : AllPairs (λ x y. x.0 ≡ y
   typed_code (show e rs rest) n scope sc a t s k sh =
       let v = at n scope sc e kinds.Html s.0 a k.0 t.0 in
       let r = typed_code rest (n + 1) scope sc a t.2 s.1 k.1 sh.2 in
-      ((v.1, r.0), (page_is (known service (look service f (statement n)) e) v.0 ∙ ap Html (sym sh.0), sh.1, r.1))
+      ((v.1, r.0), (page_same (known service (look service f (statement n)) e) (f.shown (statement n)) v.0 sh.0, sh.1, r.1))
   typed_code (exit e rest) n scope sc a t s k sh =
       let v = at n scope sc e kinds.Html s.0 a k.0 t.0 in
       let r = typed_code rest (n + 1) scope sc a t.1 s.1 k.1 sh.2 in
-      ((v.1, r.0), (page_is (known service (look service f (statement n)) e) v.0 ∙ ap Html (sym sh.0), sh.1, r.1))
+      ((v.1, r.0), (page_same (known service (look service f (statement n)) e) (f.shown (statement n)) v.0 sh.0, sh.1, r.1))
 
 -- ---- sessions
 

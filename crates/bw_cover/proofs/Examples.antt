@@ -11,7 +11,7 @@ use Rattle.bw_cover.specs.Abstracts.{Abstract, Nothing, Html, any, is_gap, Below
 use Rattle.bw_cover.specs.Facts.{keeps, takes, look, received_by, Leads}
 use Rattle.bw_types.specs.Scopes.{is_among}
 use Rattle.bw_cover.specs.Spots.{Spot, statement}
-use Rattle.bw_cover.specs.Examples.{rows_service, rows_known, cell, rows_facts, RowsAreAccepted}
+use Rattle.bw_cover.specs.Examples.{rows_service, rows_known, shown_of, cell, rows_facts, RowsAreAccepted}
 use Rattle.bw_cover.proofs.Names.{same_self, some_is}
 use Rattle.bw_types.proofs.Seek.{same_is}
 use Rattle.bw_cover.proofs.Rising.{below_refl, below_nothing}
@@ -123,7 +123,7 @@ pub rows_are_accepted : RowsAreAccepted
 rows_are_accepted = record {
   solves = record {
     scoped = (refl, (refl, (refl, (refl, (refl, tt), (refl, tt)))));
-    pages = (refl, refl, (tt, (refl, refl, tt)));
+    pages = (below_refl (Html (shown_of (statement 2))), refl, (tt, (below_refl (Html rows_known), refl, tt)));
     leads = (
       record { locals = λ w a i e. set_by w (codes "c") Nothing a (same w (codes "c")) false refl tt e; adds = λ i j. not_shared j },
       (

@@ -14,12 +14,13 @@ use Rattle.bw_flow.specs.declared.point.Local.{Local}
 use Rattle.bw_flow.specs.Steps.{Act, sets, tests, goes_over, shows, exits, joins}
 use Rattle.bw_flow.specs.TypedFlow.{names_at, HasKindAt, IsTypedAct}
 use Rattle.bw_flow.proofs.Given.{flows_are_typed}
-use Rattle.bw_cover.specs.Abstracts.{Html, known, EachPair, IsPlug}
+use Rattle.bw_sum.specs.Graph.{IsBelow}
+use Rattle.bw_cover.specs.Abstracts.{Html, known, EachPair, IsPlug, Below}
 use Rattle.bw_cover.specs.Facts.{Facts, look}
 use Rattle.bw_cover.specs.Flows.{names_of, Fits, ActFits}
 use Rattle.bw_cover.specs.FlowKinds.{HasGaps, ActHasGaps, ActShows, SolvedPlacesAreAccepted}
 use Rattle.bw_cover.specs.Kinds.{IsOf, SharedAreOf, LocalsAreOf, GapsAreThere, summary_of}
-use Rattle.bw_cover.proofs.Checked.{typed_at, page_is}
+use Rattle.bw_cover.proofs.Checked.{typed_at, page_below}
 use Rattle.bw_cover.proofs.Names.{beside-cons}
 use Rattle.bw_cover.proofs.SolvedLaws.{gaps_are_there}
 
@@ -42,16 +43,17 @@ module _ (service : Service) (f : Facts ℕ) (t : IsTypedService service) (there
     fits : (e : Term) (kind : Kind) → HasKindAt service scope e kind → HasGaps service f p e → Fits service f p e
     fits e kind h g = record { gaps = g; plugs = (at e kind h).1 }
 
-    -- what is known of a page is a summary
-    page : (e : Term) → HasKindAt service scope e kinds.Html → known service (look service f p) e ≡ Html (summary_of (known service (look service f p) e))
-    page e h = page_is (known service (look service f p) e) (at e kinds.Html h).0
+    -- the page's summary has all that is known of its document
+    page : (e : Term) → HasKindAt service scope e kinds.Html → IsBelow (summary_of (known service (look service f p) e)) (f.shown p)
+        → Below (known service (look service f p) e) (Html (f.shown p))
+    page e h b = page_below (known service (look service f p) e) (f.shown p) (at e kinds.Html h).0 b
 
     act_fits : (n : ℕ) (a : Act) → IsTypedAct service scope a → ActHasGaps service f p a → ActShows service f p n a → ActFits service f p n a
     act_fits n (sets w e) h g w1 = fits e h.0 h.1 g
     act_fits n (tests e) h g w = fits e kinds.Bool h g
     act_fits n (goes_over w e) h g w1 = fits e kinds.Strs h.1 g
-    act_fits n (shows e rs) h g w = (fits e kinds.Html h.0 g, page e h.0 ∙ ap Html (sym w.0), w.1)
-    act_fits n (exits e) h g w = (fits e kinds.Html h g, page e h ∙ ap Html (sym w.0), w.1)
+    act_fits n (shows e rs) h g w = (fits e kinds.Html h.0 g, page e h.0 w.0, w.1)
+    act_fits n (exits e) h g w = (fits e kinds.Html h g, page e h w.0, w.1)
     act_fits n joins h g w = tt
 
 pub solved_places_are_accepted : SolvedPlacesAreAccepted

@@ -15,13 +15,13 @@ use Rattle.bw_meaning.specs.Statements.{declared, add_local, when_paid, when_giv
 use Rattle.bw_meaning.specs.Statements.{unless_fault, leave, turns, add_rest, each, wait}
 use Rattle.bw_meaning.specs.Values.{Value, Values, number, truth_value, text, document, list}
 use Rattle.bw_sum.specs.Graph.{Graph}
-use Rattle.bw_cover.specs.Abstracts.{Abstract, Html, CoversTree, covers, known}
+use Rattle.bw_cover.specs.Abstracts.{Abstract, Html, CoversTree, covers, known, Below}
 use Rattle.bw_cover.specs.Facts.{keeps, takes, Facts, look, Leads, IsPoint, Apart, after}
 use Rattle.bw_types.specs.Scopes.{is_among}
 use Rattle.bw_cover.specs.Plugs.{Plug, on_unit, on_value, on_end, plugs_in, value_plugs, begin_plugs, turns_plugs, each_plugs}
 use Rattle.bw_cover.specs.Covered.{CoversLocals, CoversInputs}
 use Rattle.bw_cover.proofs.Names.{same_self, beside-without, some-without, among-after, among-inner}
-use Rattle.bw_cover.proofs.Values.{open_append, Given, eval_good}
+use Rattle.bw_cover.proofs.Values.{open_append, Given, eval_good, covers_below}
 use Rattle.bw_cover.proofs.Lookups.{looks}
 use Rattle.bw_cover.proofs.Locals.{none_some}
 use Rattle.bw_cover.proofs.States.{IsAt, Fine, Good, with_units, here, kept, taken_good}
@@ -190,12 +190,13 @@ module _ {K : Type 0} (service : Service) (f : Facts K) where
   page_is G (list s) c = absurd c
 
   pub fine_wait : (n : ℕ) (p r : K) (sc : List (List ℕ)) (rs : List Receive) (e : Term) (v : Value) (st : State) (inputs : List Input) → f.scope p ≡ sc
-      → f.place n ≡ p → known service (look service f p) e ≡ Html (f.shown p)
+      → f.place n ≡ p → Below (known service (look service f p) e) (Html (f.shown p))
       → Leads service f p (takes rs) r → covers service (known service (look service f p) e) v → IsAt service f p sc st → CoversInputs service f inputs
       → Fine service f r sc (wait n rs (document_of v) st inputs)
   fine_wait n p r sc rs e v st [] s pl k h cv c ci = record {
     locals_are = subst (λ x. CoversLocals service f x st.locals) (sym pl) (here service f p sc st s c);
-    shown_is = subst (λ x. CoversTree service (f.shown x) (document_of v).tree) (sym pl) (page_is (f.shown p) v (subst (λ a. covers service a v) k cv));
+    shown_is = subst (λ x. CoversTree service (f.shown x) (document_of v).tree) (sym pl) (page_is (f.shown p) v
+        (covers_below service (known service (look service f p) e) (Html (f.shown p)) v k cv));
     shared_are = c.shared;
   }
   fine_wait n p r sc rs e v st (i ∷ later) s pl k h cv c ci = taken_good service f p r sc rs st.locals i later s (here service f p sc st s c) h ci.0 ci.1

@@ -13,11 +13,12 @@ use Rattle.bw_meaning.specs.States.{Rests, Input, State, Outcome, Went, Shown, E
 use Rattle.bw_meaning.specs.Statements.{declared, add_local, store, taken, with_value, begin, then_do}
 use Rattle.bw_meaning.specs.Statements.{leave, room, turns, add_rest, each, wait, shows, exits, exec}
 use Rattle.bw_meaning.specs.Values.{Value, Values, text, list_weight}
-use Rattle.bw_cover.specs.Abstracts.{any, covers, known}
+use Rattle.bw_cover.specs.Abstracts.{any, known, Html}
 use Rattle.bw_cover.specs.Facts.{keeps, sets, brings, Facts, look, Leads, Apart, after, Laid}
 use Rattle.bw_cover.specs.Plugs.{Plug, on_end, value_plugs, begin_plugs, turns_plugs, each_plugs, plugs, rest_plugs}
 use Rattle.bw_cover.specs.Plugs.{plugs_behind, turn_plugs, go_on_plugs}
 use Rattle.bw_cover.specs.Covered.{CoversLocals, CoversShared, CoversInputs, IsCovered, AreOpen}
+use Rattle.bw_cover.proofs.Values.{covers_below}
 use Rattle.bw_cover.proofs.Locals.{none_some}
 use Rattle.bw_cover.proofs.States.{IsAt, Fine, Good, kept, added, stored, taken_good}
 use Rattle.bw_cover.proofs.Outcomes.{good_value, good_begin, good_then, good_step, good_if, fine_kept, good_leave, good_inner, good_turns, good_each}
@@ -120,7 +121,13 @@ module _ {K : Type 0} (service : Service) (f : Facts K) where
       good_begin service f p q sc (after rest sc) e st (λ v. exits (document_of v)) (λ v st1. []) pt c
       (λ v st1 cv c1. (
         fine_unless service f q (after rest sc) (exit_fault (document_of v) st1.shared) st1.units (Exited (document_of v) st1.shared st1.units)
-            (record { at = p; is_exit = x; last_is = page_is service f (f.shown p) v (subst (λ a. covers service a v) k cv); shared_are = c1.shared }),
+            (record {
+              at = p;
+              is_exit = x;
+              last_is = page_is service f (f.shown p) v
+                  (covers_below service (known service (look service f p) e) (Html (f.shown p)) v k cv);
+              shared_are = c1.shared;
+            }),
         tt,
       ))
 

@@ -156,8 +156,8 @@ Laid {K} service f (for_each w e b rest) n scope p q =
     (y : K) × (r : K) × IsPoint service f p scope e × Apart scope (w ∷ declared b) × Leads service f p (brings w) y × Leads service f p keeps r
     × Laid service f b (n + 1) (scope ++ w ∷ []) y p × Laid service f rest (n + 1 + numbered b) scope r q
 Laid {K} service f (show e rs rest) n scope p q =
-    (r : K) × IsPoint service f p scope e × (known service (look service f p) e ≡ Html (f.shown p)) × (f.place n ≡ p) × Leads service f p (takes rs) r
+    (r : K) × IsPoint service f p scope e × Below (known service (look service f p) e) (Html (f.shown p)) × (f.place n ≡ p) × Leads service f p (takes rs) r
     × Laid service f rest (n + 1) scope r q
 Laid {K} service f (exit e rest) n scope p q =
-    (r : K) × IsPoint service f p scope e × (known service (look service f p) e ≡ Html (f.shown p)) × (f.is_exit p ≡ true)
+    (r : K) × IsPoint service f p scope e × Below (known service (look service f p) e) (Html (f.shown p)) × (f.is_exit p ≡ true)
     × Laid service f rest (n + 1) scope r q

@@ -10,6 +10,7 @@ use Rattle.bw_flow.specs.Layout.{plan_of}
 use Rattle.bw_flow.specs.Stands.{IsAt}
 use Rattle.bw_flow.specs.Steps.{Act, sets, tests, goes_over, shows, exits, joins, Step}
 use Rattle.bw_flow.specs.TypedFlow.{names_at}
+use Rattle.bw_sum.specs.Graph.{IsBelow}
 use Rattle.bw_cover.specs.Abstracts.{Below, known, EachPair, IsNotLacked}
 use Rattle.bw_cover.specs.Facts.{Facts, look, literal_known}
 use Rattle.bw_cover.specs.Flows.{names_of, ActLeads}
@@ -29,13 +30,13 @@ ActHasGaps service f p (shows e rs) = HasGaps service f p e
 ActHasGaps service f p (exits e) = HasGaps service f p e
 ActHasGaps service f p joins = Unit {0}
 
--- the summary of a page is that of its document; the show of number n stands here, and an exit is one
+-- the summary of a page has all that is known of its document; the show of number n stands here, and an exit is one
 abbrev pub ActShows : Service → Facts ℕ → ℕ → ℕ → Act → Type 0
 ActShows service f p n (sets w e) = Unit {0}
 ActShows service f p n (tests e) = Unit {0}
 ActShows service f p n (goes_over w e) = Unit {0}
-ActShows service f p n (shows e rs) = (f.shown p ≡ summary_of (known service (look service f p) e)) × (f.place n ≡ p)
-ActShows service f p n (exits e) = (f.shown p ≡ summary_of (known service (look service f p) e)) × (f.is_exit p ≡ true)
+ActShows service f p n (shows e rs) = IsBelow (summary_of (known service (look service f p) e)) (f.shown p) × (f.place n ≡ p)
+ActShows service f p n (exits e) = IsBelow (summary_of (known service (look service f p) e)) (f.shown p) × (f.is_exit p ≡ true)
 ActShows service f p n joins = Unit {0}
 
 -- what is found at a point: what each local in scope there is, of its kind, and where that leads

@@ -54,13 +54,13 @@ ActLeads service f p (shows e rs) next = LeadsToAll service f p (facts.takes (wr
 ActLeads service f p (exits e) next = Unit {0}
 ActLeads service f p joins next = LeadsToAll service f p facts.keeps next
 
--- its expression fits; what is known of a page's document is the summary that is given for it; the statement of number n stands here
+-- its expression fits; the summary that is given for a page has all that is known of its document; the show of number n stands here
 abbrev pub ActFits : Service → Facts ℕ → ℕ → ℕ → Act → Type 0
 ActFits service f p n (sets w e) = Fits service f p e
 ActFits service f p n (tests e) = Fits service f p e
 ActFits service f p n (goes_over w e) = Fits service f p e
-ActFits service f p n (shows e rs) = Fits service f p e × (known service (look service f p) e ≡ Html (f.shown p)) × (f.place n ≡ p)
-ActFits service f p n (exits e) = Fits service f p e × (known service (look service f p) e ≡ Html (f.shown p)) × (f.is_exit p ≡ true)
+ActFits service f p n (shows e rs) = Fits service f p e × Below (known service (look service f p) e) (Html (f.shown p)) × (f.place n ≡ p)
+ActFits service f p n (exits e) = Fits service f p e × Below (known service (look service f p) e) (Html (f.shown p)) × (f.is_exit p ≡ true)
 ActFits service f p n joins = Unit {0}
 
 -- and so at each point

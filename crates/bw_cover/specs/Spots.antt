@@ -7,7 +7,7 @@ use Rattle.bw_lang.specs.CodeNames.{local_names}
 use Rattle.bw_lang.specs.Term.{Term}
 use Rattle.bw_meaning.specs.GoOn.{body_of}
 use Rattle.bw_lang.specs.Numbers.{first_number}
-use Rattle.bw_cover.specs.Abstracts.{Html, known, EachPair, IsNotLacked, IsPlug}
+use Rattle.bw_cover.specs.Abstracts.{Html, Below, known, EachPair, IsNotLacked, IsPlug}
 use Rattle.bw_cover.specs.Facts.{keeps, sets, brings, takes, Facts, look, Edge, edge, EachLeads}
 
 -- a point: that of the statement of a number, or the join of the `if` of a number. Behind a session's end, at `out`, no point stands
@@ -69,7 +69,7 @@ Scoped f (for_each w e b rest) n scope = (f.scope (statement n) ≡ scope) × Sc
 Scoped f (show e rs rest) n scope = (f.scope (statement n) ≡ scope) × Scoped f rest (n + 1) scope
 Scoped f (exit e rest) n scope = (f.scope (statement n) ≡ scope) × Scoped f rest (n + 1) scope
 
--- what is known of the document of each show and exit is the summary that is given for it
+-- the summary that is given for each show and exit has all that is known of its document
 abbrev pub Pages : Service → Facts Spot → Code → ℕ → Type 0
 Pages service f done n = Unit {0}
 Pages service f (declare kind w e rest) n = Pages service f rest (n + 1)
@@ -81,9 +81,9 @@ Pages service f (while_loop t b rest) n = Pages service f b (n + 1) × Pages ser
 Pages service f (block b rest) n = Pages service f b n × Pages service f rest (n + numbered b)
 Pages service f (for_each w e b rest) n = Pages service f b (n + 1) × Pages service f rest (n + 1 + numbered b)
 Pages service f (show e rs rest) n =
-    (known service (look service f (statement n)) e ≡ Html (f.shown (statement n))) × (f.place n ≡ statement n) × Pages service f rest (n + 1)
+    Below (known service (look service f (statement n)) e) (Html (f.shown (statement n))) × (f.place n ≡ statement n) × Pages service f rest (n + 1)
 Pages service f (exit e rest) n =
-    (known service (look service f (statement n)) e ≡ Html (f.shown (statement n))) × (f.is_exit (statement n) ≡ true) × Pages service f rest (n + 1)
+    Below (known service (look service f (statement n)) e) (Html (f.shown (statement n))) × (f.is_exit (statement n) ≡ true) × Pages service f rest (n + 1)
 
 -- holds of each point that evaluates an expression, and of this
 abbrev pub EachPoint : (Spot → Term → Type 0) → Code → ℕ → Type 0

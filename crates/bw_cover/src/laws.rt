@@ -1,5 +1,4 @@
-// Laws of the definitions.
-
+//! Laws of facts that solve the system of a service. A law is the contract of an empty function.
 ghost use Rattle.bw_cover.specs.Sound.{TurnIsCovered, GoingOnIsCovered, TurnPlugsAreOpen, GoingOnPlugsAreOpen};
 ghost use Rattle.bw_cover.specs.Worlds.{EmptyIsCovered, StepsKeepCovering, NextIsCovered, WorldsAreCovered, StreamsReach};
 ghost use Rattle.bw_cover.specs.EdgeLaws.{EdgesAreLeads, EdgesAreNexts};
