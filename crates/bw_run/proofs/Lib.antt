@@ -1,0 +1,13 @@
+pub mod Beginnings
+pub mod Fits
+pub mod Measures
+pub mod Missed
+pub mod More
+pub mod Own
+pub mod Places
+pub mod Receivings
+pub mod Resumed
+pub mod Started
+pub mod Stores
+pub mod Tidy
+pub mod Walkable

@@ -1,0 +1,110 @@
+use Rattle.std.proofs.Common.{◌≡◌, ◌<◌, length, ap, sym, ◌∙◌, refl, subst}
+use Rattle.std.specs.Prelude.{Ok, Err}
+use Rattle.std.specs.List.{All}
+use Rattle.std.proofs.lemmas.Option.{same_Some}
+use Rattle.std.proofs.lemmas.List.Elements.{All-nil}
+use Rattle.bw_flow.specs.Stands.{IsAt}
+use Rattle.bw_flow.specs.Steps.{Plan}
+use Rattle.bw_flow.specs.View.{seen}
+use Rattle.bw_lang.specs.Submissions.{values_of}
+use Rattle.bw_eval.specs.View.{values}
+use Rattle.bw_follow.specs.Runs.{first_of, fields_of}
+use Rattle.bw_follow.specs.Scoped.{names_in}
+use Rattle.bw_run.specs.Code.{AreShort}
+use Rattle.bw_run.specs.Turns.{received_at, answered_frame}
+use Rattle.bw_meaning.specs.GoOn.{go_on}
+use Rattle.bw_meaning.specs.States.{units_left}
+use Rattle.bw_eval.specs.Sound.{AreSound}
+use Rattle.bw_follow.specs.Kinds as kinds
+use Rattle.bw_follow.specs.Laws.{IsFit, IsOf}
+use Rattle.bw_follow.proofs.Kept.{going_on_keeps_kinds}
+use Rattle.bw_run.specs.Walks.{number_of, number_at}
+use Rattle.bw_run.proofs.Own.{own_session}
+use Rattle.bw_run.proofs.Fits.{fit_turn, going_on_waits, can_walk, names_from}
+use Rattle.bw_run.proofs.Missed.{none_short}
+use Rattle.bw_run.proofs.More.{one_more}
+use Rattle.bw_run.proofs.Resumed.{fields_are, resumed}
+use Rattle.bw_run.proofs.turn.resume.Goals as goal
+
+pub walk-requires-clause-inside : goal.walk-requires-clause-inside
+walk-requires-clause-inside g c =
+    subst (λ q. q < length c.args.flow.now.steps) (sym (c.first_of-next.ensures ∙ ap first_of c.as_slice-2.ensures))
+    ((can_walk c.args.typed.now c.args.flow.now c.requires.flow).first c.args.frame.now.point (seen c.in-Some.point.now) c.in-Some.ensures)
+
+pub walk-requires-clause-walkable : goal.walk-requires-clause-walkable
+walk-requires-clause-walkable g c = can_walk c.args.typed.now c.args.flow.now c.requires.flow
+
+pub returns-in-Err-clause-turn : goal.returns-in-Err-clause-turn
+returns-in-Err-clause-turn g c m session of =
+    let f = c.requires.frame in
+    let x = seen c.in-Some.point.now in
+    let e = same_Some x f.point (sym c.in-Some.ensures ∙ f.is) in
+    let h = fields_are x f.point f.page f.fields c.in-Some-receives_of.receives.now e f.acts c.in-Some-receives_of.ensures.1 in
+    resumed c.args.typed.now c.args.flow.now session c.first_of-next.result x f.page f.fields c.as_slice.result.now c.args.frame.now
+    c.in_ok-copy.field-0 c.args.shared.now c.in_ok-copy-2.field-0 c.args.form.now (Err c.in-Err.fault) (Err c.in-Err.fault) c.args.steps.now
+    c.walk.new.steps c.receive_all.new.standing c.walk.new.standing
+    c.requires.flow c.in-Some.ensures (ap (λ u. u.act) e ∙ f.acts) (names_from (values c.args.frame.now.locals) f.point.scope f.locals.kinds_are
+    ∙ ap (λ u. names_in u.scope) (sym e)) (f.rests ∙ ap (λ u. u.inside) (sym e)) of
+    (h ∙ sym c.as_slice.ensures) c.in_ok-copy.ensures c.in_ok-copy-2.ensures c.in_ok-receive_all.ensures.state (c.in_ok-receive_all.ensures.rests
+    ∙ c.in_ok-copy-3.ensures) c.in_ok-receive_all.ensures.units
+    (c.first_of-next.ensures ∙ ap first_of c.as_slice-2.ensures) (c.in-Err.ensures.run m) c.in-Err.ensures.steps refl
+
+pub returns-in-Ok-clause-turn : goal.returns-in-Ok-clause-turn
+returns-in-Ok-clause-turn g c m session of =
+    let f = c.requires.frame in
+    let x = seen c.in-Some.point.now in
+    let e = same_Some x f.point (sym c.in-Some.ensures ∙ f.is) in
+    let h = fields_are x f.point f.page f.fields c.in-Some-receives_of.receives.now e f.acts c.in-Some-receives_of.ensures.1 in
+    resumed c.args.typed.now c.args.flow.now session c.first_of-next.result x f.page f.fields c.as_slice.result.now c.args.frame.now
+    c.in_ok-copy.field-0 c.args.shared.now c.in_ok-copy-2.field-0 c.args.form.now (Ok c.finished.result) (Ok c.in-Ok.stop) c.args.steps.now
+    c.walk.new.steps c.receive_all.new.standing c.walk.new.standing
+    c.requires.flow c.in-Some.ensures (ap (λ u. u.act) e ∙ f.acts) (names_from (values c.args.frame.now.locals) f.point.scope f.locals.kinds_are
+    ∙ ap (λ u. names_in u.scope) (sym e)) (f.rests ∙ ap (λ u. u.inside) (sym e)) of
+    (h ∙ sym c.as_slice.ensures) c.in_ok-copy.ensures c.in_ok-copy-2.ensures c.in_ok-receive_all.ensures.state (c.in_ok-receive_all.ensures.rests
+    ∙ c.in_ok-copy-3.ensures) c.in_ok-receive_all.ensures.units
+    (c.first_of-next.ensures ∙ ap first_of c.as_slice-2.ensures) (c.in-Ok.ensures.run tt) c.in-Ok.ensures.steps
+    (c.finished.ensures.turn c.args.flow.now.steps)
+
+pub returns-in-Err-clause-inputs : goal.returns-in-Err-clause-inputs
+returns-in-Err-clause-inputs g c m session first inputs s =
+    one_more c.args.typed.now.service c.args.flow.now.steps c.args.frame.now c.args.form.now c.args.shared.now (Err c.in-Err.fault) c.args.steps.now
+    c.walk.new.steps session first inputs (returns-in-Err-clause-turn g c m) s
+
+pub returns-in-Ok-clause-inputs : goal.returns-in-Ok-clause-inputs
+returns-in-Ok-clause-inputs g c m session first inputs s =
+    one_more c.args.typed.now.service c.args.flow.now.steps c.args.frame.now c.args.form.now c.args.shared.now (Ok c.finished.result)
+    c.args.steps.now c.walk.new.steps session first inputs (returns-in-Ok-clause-turn g c m) s
+
+pub walk-requires-clause-sound : goal.walk-requires-clause-sound
+walk-requires-clause-sound g c =
+    let f = c.requires.frame in
+    let ts = c.args.typed.now.service.templates in
+    let x = seen c.in-Some.point.now in
+    let e = same_Some x f.point (sym c.in-Some.ensures ∙ f.is) in
+    let h = fields_are x f.point f.page f.fields c.in-Some-receives_of.receives.now e f.acts c.in-Some-receives_of.ensures.1 in
+    let fields = ap received_at f.is ∙ ap fields_of f.acts ∙ h ∙ sym c.as_slice.ensures in
+    c.in_ok-receive_all.ensures.sound ts (record {
+      locals = subst (AreSound ts) (sym c.in_ok-copy.ensures) f.locals.sound;
+      shared = subst (AreSound ts) (sym c.in_ok-copy-2.ensures) c.requires.shared.sound;
+      rests = subst (All AreShort) (sym c.in_ok-copy-3.ensures) f.short;
+    }) (subst (All (λ r. AreShort (values_of r.field c.args.form.now))) fields (none_short _ c.args.form.now c.requires.missing))
+
+pub returns-in-Ok-clause-fit : goal.returns-in-Ok-clause-fit
+returns-in-Ok-clause-fit g c =
+    let typed = c.args.typed.now in
+    let service = typed.service in
+    let flow = c.args.flow.now in
+    let frame = c.args.frame.now in
+    let f = c.requires.frame in
+    let at = subst (λ (p : Plan). IsAt p.steps frame.point f.point) c.requires.flow f.is in
+    let own = own_session service frame.point f.point at in
+    let number : number_at flow.steps frame.point ≡ f.point.number = ap number_of f.is in
+    let of = subst (IsOf service own.0) (sym number) own.1 in
+    let a = answered_frame flow.steps frame c.args.form.now c.args.shared.now in
+    let o = go_on service own.0 a in
+    let fit : IsFit f.point a = record { number = number; names = names_from (values frame.locals) f.point.scope f.locals.kinds_are; rests = f.rests } in
+    fit_turn typed flow c.finished.result o (units_left o) c.requires.flow (returns-in-Ok-clause-turn g c tt own.0 of).outcome
+    (going_on_keeps_kinds typed own.0 frame.point f.point f.page f.fields a at f.acts fit own.1 f.locals.kinds_are c.requires.shared.kinds_are
+    (All-nil (λ i. kinds.AreShared service i.shared)))
+    (going_on_waits typed own.0 frame.point f.point f.page f.fields a at f.acts fit own.1)
+    (c.finished.ensures.sound service.templates flow.steps c.in-Ok.ensures.stops c.in-Ok.ensures.sound)

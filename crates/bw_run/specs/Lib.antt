@@ -1,0 +1,5 @@
+pub mod Code
+pub mod Fit
+pub mod Missing
+pub mod Turns
+pub mod Walks
