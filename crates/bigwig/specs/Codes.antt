@@ -1,5 +1,7 @@
 -- The exit codes.
 use Rattle.std.specs.Prelude.{ℕ}
+use Rattle.bigwig.specs.declared.status.Refusal.{Refusal}
+use Rattle.bigwig.specs.declared.status.Refusal.TheVariants as refusals
 use Rattle.bigwig.specs.declared.status.Status.{Status}
 use Rattle.bigwig.specs.declared.status.Status.TheVariants.{Done, Usage, ServiceRefused, SchemaRefused, ReadFault, WriteFault, DoorFault, Memory, PageRefused, NoFile}
 
@@ -15,3 +17,10 @@ code_of DoorFault = 7
 code_of Memory = 8
 code_of PageRefused = 9
 code_of NoFile = 15
+
+-- the status that the program ends with where this is refused
+abbrev pub status_for : Refusal → Status
+status_for refusals.File = NoFile
+status_for refusals.Service = ServiceRefused
+status_for refusals.Schema = SchemaRefused
+status_for refusals.Page = PageRefused

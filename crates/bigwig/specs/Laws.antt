@@ -1,35 +1,72 @@
--- Laws of outcomes and of runs.
-use Rattle.std.specs.Prelude.{◌≡◌, ◌⊎◌, ℕ, List}
-use Rattle.bw_lang.specs.declared.service.Service.{Service}
-use Rattle.bw_out.specs.Told.{Coming, Disk}
-use Rattle.bigwig.specs.Outcomes.{Due, Comes}
-use Rattle.bigwig.specs.Requests.{Path, Asks}
-use Rattle.bigwig.specs.Runs.{Run, WantsMemory}
+-- Laws of outcomes.
+use Rattle.std.specs.Prelude.{◌≡◌, ◌↔◌, ◌⊎◌, ℕ, List, Option, None, Some}
+use Rattle.bw_lang.specs.Forest.{Forest}
+use Rattle.bw_out.specs.Told.{Disk}
+use Rattle.bw_read.specs.Pages.{IsPage}
+use Rattle.bw_schema.specs.BuiltIn.{built_in_root, built_in_rules}
+use Rattle.bw_schema.specs.Reads.{Reads}
+use Rattle.bw_schema.specs.Validity.{Valid as IsValid}
+use Rattle.bw_schema.specs.declared.default_schema.TheConstants.{BUILT_IN}
+use Rattle.bw_schema.specs.declared.schema.Schema.{Schema}
+use Rattle.bigwig.specs.Asked.{Work, asked, schema}
+use Rattle.bigwig.specs.Commands.{command_of}
+use Rattle.bigwig.specs.Outcomes.{Outside, Comes, IsDone}
+use Rattle.bigwig.specs.Questions.{Said}
+use Rattle.bigwig.specs.declared.command.Command.TheVariants.{Valid}
 use Rattle.bigwig.specs.declared.status.Status.{Status}
-use Rattle.bigwig.specs.declared.status.Status.TheVariants.{ReadFault, WriteFault, Memory}
+use Rattle.bigwig.specs.declared.status.Status.TheVariants.{Done, ReadFault, WriteFault, Memory}
 
--- the rows of the table of outcomes exclude each other: one status is due
+-- the status that is due by the words and the files: that of what is said, or that of work that is done
+abbrev pub Due : List (List ℕ) → Disk → Status → Type 0
+Due words disk status = ((said : Said) × (asked words disk).says said × (status ≡ said.status)) ⊎ ((work : Work) × (asked words disk).gives work × (status ≡ Done))
+
+-- for all words and files some status is due
+abbrev pub SomeStatusIsDue : Type 0
+SomeStatusIsDue = (words : List (List ℕ)) (disk : Disk) → (status : Status) × Due words disk status
+
+-- and one only
 abbrev pub OneStatusIsDue : Type 0
-OneStatusIsDue =
-    (words : List (List ℕ)) (disk : Disk) (keys : Coming) (s t : Status) (left : Coming) (bytes : List ℕ) (later : Coming) (others : List ℕ) → Due words disk keys s left bytes → Due words disk keys t later others → s ≡ t
+OneStatusIsDue = (words : List (List ℕ)) (disk : Disk) (status other : Status) → Due words disk status → Due words disk other → status ≡ other
+
+-- the status of a fault that is counted, or that of want of memory
+abbrev pub IsFree : Status → Type 0
+IsFree status = (status ≡ ReadFault) ⊎ ((status ≡ WriteFault) ⊎ (status ≡ Memory))
 
 -- the program comes to the status that is due, unless a count rose or there was no memory
 abbrev pub ComesWhereDue : Type 0
 ComesWhereDue =
-    (words : List (List ℕ)) (disk : Disk) (keys : Coming) (s t : Status) (left : Coming) (bytes : List ℕ) (later : Coming) (others : List ℕ) → Due words disk keys s left bytes → Comes words disk keys t later others
-    → (t ≡ s) ⊎ ((t ≡ ReadFault) ⊎ ((t ≡ WriteFault) ⊎ (t ≡ Memory)))
+    (words : List (List ℕ)) (disk : Disk) (before after : Outside) (status other : Status) → Due words disk status → Comes (asked words disk) before after other
+    → (other ≡ status) ⊎ IsFree other
 
--- a request is at the front of its bytes in one way
-abbrev pub AsksOnce : Type 0
-AsksOnce = (bytes rest more : List ℕ) (path other : Path) → Asks bytes path rest → Asks bytes other more → (path ≡ other) × (rest ≡ more)
+-- where every question goes well, the work is done, unless a count rose or there was no memory
+abbrev pub DoesItsWork : Type 0
+DoesItsWork =
+    (words : List (List ℕ)) (disk : Disk) (work : Work) (before after : Outside) (status : Status) → (asked words disk).gives work
+    → Comes (asked words disk) before after status → ((status ≡ Done) × IsDone work before after status) ⊎ IsFree status
 
--- a stream leaves the same keys however it is answered
-abbrev pub LeavesOnce : Type 0
-LeavesOnce =
-    (service : Service) (stream : List ℕ) (keys left : Coming) (all : List ℕ) (later : Coming) (others : List ℕ) (most : ℕ) → Run service stream keys most left all → Run service stream keys most later others → left ≡ later
+-- the file of this name is a page, and it is valid by the schema that is named
+pub record IsValidFile (disk : Disk) (name : List ℕ) (named : Option (List ℕ)) : Type 0 where
+  pub content : List ℕ
+  pub found : disk name ≡ Some content
+  pub tree : Forest
+  pub page : IsPage content tree
+  pub by : Schema
+  pub is_schema : (schema disk named).gives by
+  pub valid : IsValid by tree
 
--- and it is answered by the same bytes, unless there was no memory for a reply
-abbrev pub AnswersOnce : Type 0
-AnswersOnce =
-    (service : Service) (stream : List ℕ) (keys left : Coming) (all : List ℕ) (later : Coming) (others : List ℕ) (most : ℕ) (one : Run service stream keys most left all) (other : Run service stream keys most later others)
-    → (all ≡ others) ⊎ (WantsMemory one ⊎ WantsMemory other)
+-- `valid` is done exactly where the page and the schema read and the page is valid
+abbrev pub ValidIsDone : Type 0
+ValidIsDone =
+    (words : List (List ℕ)) (disk : Disk) (name : List ℕ) (named : Option (List ℕ)) → command_of words ≡ Some (Valid name named) → Due words disk Done ↔ IsValidFile disk name named
+
+-- the built-in text reads as the rules of the built-in schema
+abbrev pub BuiltInReads : Type 0
+BuiltInReads = Reads BUILT_IN.now built_in_root built_in_rules
+
+-- where no schema is named, these rules are meant
+abbrev pub BuiltInIsMeant : Type 0
+BuiltInIsMeant = (disk : Disk) (s : Schema) → (schema disk None).gives s → (s.root ≡ built_in_root) × (s.elements ≡ built_in_rules)
+
+-- and no schema is refused
+abbrev pub BuiltInIsNotRefused : Type 0
+BuiltInIsNotRefused = (disk : Disk) (what : Said) → (schema disk None).says what → ⊥

@@ -1,4 +1,4 @@
--- The lines that tell why a service is refused, without their ends.
+-- The lines that tell why something is refused, without their ends.
 use Rattle.std.specs.Prelude.{ℕ, ◌==◌, if◌then◌else◌, List, [], ◌++◌, map, codes, decimal}
 use Rattle.bw_lang.specs.declared.limits.Limit.{Limit}
 use Rattle.bw_lang.specs.declared.limits.Limit.TheVariants as limits
@@ -6,12 +6,15 @@ use Rattle.bw_lang.specs.declared.stmt.Kind.{Kind}
 use Rattle.bw_lang.specs.declared.stmt.Kind.TheVariants as kinds
 use Rattle.bw_lex.specs.declared.LexFault.{LexFault}
 use Rattle.bw_lex.specs.declared.LexFault.TheVariants as lexing
+use Rattle.bw_schema.specs.declared.fault.SchemaFault.{SchemaFault}
+use Rattle.bw_schema.specs.declared.fault.SchemaFault.TheVariants as schemas
 use Rattle.bw_syntax.specs.declared.fault.SyntaxFault.{SyntaxFault}
 use Rattle.bw_syntax.specs.declared.fault.SyntaxFault.TheVariants as reading
 use Rattle.bw_tmpl.specs.declared.fault.TmplFault.{TmplFault}
 use Rattle.bw_tmpl.specs.declared.fault.TmplFault.TheVariants as templates
 use Rattle.bw_types.specs.declared.fault.TypeFault.{TypeFault}
 use Rattle.bw_types.specs.declared.fault.TypeFault.TheVariants as typing
+use Rattle.bw_valid.specs.declared.breach.Breach.{Breach}
 
 -- the words that name a limit
 abbrev pub limit_name : Limit → List ℕ
@@ -77,6 +80,27 @@ type_line (typing.FileInput template) = codes "type file input " ++ template
 type_line (typing.NoExit session) = codes "type no exit " ++ session
 type_line typing.Memory = []
 
--- the service isn't of the kind that is served by now
-abbrev pub not_yet_line : List ℕ
-not_yet_line = codes "not yet"
+-- the service has so many points, too many
+abbrev pub points_line : ℕ → List ℕ
+points_line n = codes "too many points " ++ decimal n
+
+-- there is no file of this name
+abbrev pub no_file_line : List ℕ → List ℕ
+no_file_line name = codes "no file " ++ name
+
+-- the bytes are no page
+abbrev pub no_page_line : List ℕ
+no_page_line = codes "not a page"
+
+-- this element breaks this rule
+abbrev pub breach_line : Breach → List ℕ
+breach_line breach = codes "invalid place " ++ (decimal breach.place ++ (codes " rule " ++ decimal breach.rule))
+
+-- why the text is read as no schema
+abbrev pub schema_line : SchemaFault → List ℕ
+schema_line schemas.Malformed = codes "schema malformed"
+schema_line (schemas.Version version) = codes "schema version " ++ decimal version
+schema_line (schemas.Repeated name) = codes "schema repeated " ++ name
+schema_line (schemas.Unknown name) = codes "schema unknown " ++ name
+schema_line schemas.TooLong = codes "schema too long"
+schema_line schemas.Memory = []

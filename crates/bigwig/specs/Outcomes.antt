@@ -1,74 +1,95 @@
--- What the program comes to: its status, the keys that it leaves, and what it prints.
-use Rattle.std.specs.Prelude.{◌≡◌, ◌≢◌, ◌⊎◌, ℕ, List, [], ◌∷◌, ◌++◌, None, Some, IfSome, codes}
-use Rattle.std.specs.declared.option.Option.{Option}
+-- What the program comes to: its status, and what is then printed, drawn and given back.
+use Rattle.std.specs.Prelude.{◌≡◌, ◌⊎◌, ℕ, List, Option, Some}
 use Rattle.std.specs.Io.KnownBytes.{Appends}
 use Rattle.bw_lang.specs.declared.service.Service.{Service}
-use Rattle.bw_out.specs.Told.{Coming, Disk}
-use Rattle.bigwig.specs.Commands.{command_of, replay}
-use Rattle.bigwig.specs.Loads.{IsServed, IsRefused}
-use Rattle.bigwig.specs.Runs.{Run, IsCutShort, IsBroken}
+use Rattle.bw_model.specs.Sessions.{World, empty}
+use Rattle.bw_out.specs.Doors.{Returned}
+use Rattle.bw_out.specs.Told.{Coming}
+use Rattle.bw_out.specs.Writes.{AppendsPart}
+use Rattle.bw_answer.specs.Answers.{Place, Course, AreLeft}
+use Rattle.bw_answer.specs.declared.ends.StreamEnd.{StreamEnd}
+use Rattle.bw_answer.specs.declared.ends.StreamEnd.TheVariants as ends
+use Rattle.bigwig.specs.Asked.{Work}
+use Rattle.bigwig.specs.Asked.Work.{prints, replays}
+use Rattle.bigwig.specs.Questions.{Said, Question}
 use Rattle.bigwig.specs.declared.status.Status.{Status}
-use Rattle.bigwig.specs.declared.status.Status.TheVariants.{Done, Usage, ServiceRefused, ReadFault, WriteFault, Memory, NoFile}
+use Rattle.bigwig.specs.declared.status.Status.TheVariants.{Done, ReadFault, WriteFault, Memory}
 
--- a line with its end
-abbrev pub line : List ℕ → List ℕ
-line text = text ++ 10 ∷ []
+-- what is seen of the outside: what `out` holds, the keys to come, the port that was asked for, the links to come and
+-- those given back, and the steps so far
+pub record Outside : Type 0 where
+  pub printed : Option (List ℕ)
+  pub keys : Option Coming
+  pub asked : Option ℕ
+  pub coming : Option (List (List ℕ))
+  pub returned : Option (List Returned)
+  pub steps : ℕ
 
--- what is printed where the words are refused
-abbrev pub usage_line : List ℕ
-usage_line = line (codes "usage: bigwig check SERVICE | replay SERVICE REQUESTS | serve SERVICE | valid PAGE | make N")
+abbrev pub outside : Option (List ℕ) → Option Coming → Option ℕ → Option (List (List ℕ)) → Option (List Returned) → ℕ → Outside
+outside printed keys asked coming returned steps =
+    record { printed = printed; keys = keys; asked = asked; coming = coming; returned = returned; steps = steps }
 
--- what is printed where the file of this name isn't there
-abbrev pub no_file_line : List ℕ → List ℕ
-no_file_line name = codes "no file " ++ line name
+-- between two streams: the model world, the keys to come, and the steps so far
+pub record Between : Type 0 where
+  pub world : World
+  pub keys : Coming
+  pub steps : ℕ
 
--- the words name a file of this service, which is served, and a file of these requests
-pub record Replays (words : List (List ℕ)) (disk : Disk) (tree : Service) (stream : List ℕ) : Type 0 where
-  pub service : List ℕ
-  pub requests : List ℕ
-  pub content : List ℕ
-  pub asked : command_of words ≡ Some (replay service requests)
-  pub found : disk service ≡ Some content
-  pub served : IsServed content tree
-  pub given : disk requests ≡ Some stream
+-- these bytes were answered by a run of at most so many messages, whose replies are appended to what was held; `left`
+-- is what was not read
+pub record IsStreamed (most : ℕ) (service : Service) (from : Between) (bytes : List ℕ) (to : Between) (held now left : Option (List ℕ)) (end : StreamEnd) : Type 0 where
+  pub old : Place
+  pub new : Place
+  pub rest : List ℕ
+  pub course : Course service most (record { world = from.world; bytes = bytes; keys = from.keys }) (record { world = to.world; bytes = rest; keys = to.keys }) old new end
+  pub unhandled : AreLeft new.taken left rest
+  pub held_is : old.held ≡ held
+  pub now_is : new.held ≡ now
+  pub from_is : old.steps ≡ from.steps
+  pub to_is : new.steps ≡ to.steps
 
--- What is due by the words, the files and the keys to come: a status, the keys that are left, and the bytes printed.
--- One case for each row of the table of outcomes, in the order in which they are decided.
-pub data Due (words : List (List ℕ)) (disk : Disk) (keys : Coming) : Status → Coming → List ℕ → Type 0 where
-  usage : {left : Coming} {bytes : List ℕ} → command_of words ≡ None → left ≡ keys → bytes ≡ usage_line → Due words disk keys Usage left bytes
-  no_service : {left : Coming} {bytes : List ℕ} (service requests : List ℕ) → command_of words ≡ Some (replay service requests)
-      → disk service ≡ None → left ≡ keys → bytes ≡ no_file_line service → Due words disk keys NoFile left bytes
-  refused : {left : Coming} {bytes : List ℕ} (service requests content why : List ℕ) → command_of words ≡ Some (replay service requests)
-      → disk service ≡ Some content → IsRefused content why → left ≡ keys → bytes ≡ line why → Due words disk keys ServiceRefused left bytes
-  no_requests : {left : Coming} {bytes : List ℕ} (service requests content : List ℕ) (tree : Service) → command_of words ≡ Some (replay service requests)
-      → disk service ≡ Some content → IsServed content tree → disk requests ≡ None → left ≡ keys → bytes ≡ no_file_line requests → Due words disk keys NoFile left bytes
-  served : {left : Coming} {bytes : List ℕ} (tree : Service) (stream : List ℕ) → Replays words disk tree stream → Run tree stream keys 1000000 left bytes
-      → Due words disk keys Done left bytes
+-- the status of a stream that ended so
+abbrev pub status_of : StreamEnd → Status
+status_of (ends.Ended count) = Done
+status_of ends.ReadFault = ReadFault
+status_of ends.WriteFault = WriteFault
 
--- What comes of what is due: the whole of it; a read fault or want of memory, with nothing printed and no key drawn; a
--- write fault, with a first part of a line printed; or a fault in the midst of the requests, where each request before
--- it was answered whole.
-pub data Comes (words : List (List ℕ)) (disk : Disk) (keys : Coming) : Status → Coming → List ℕ → Type 0 where
-  whole : {status : Status} {left : Coming} {bytes : List ℕ} → Due words disk keys status left bytes → Comes words disk keys status left bytes
-  read_fault : {left : Coming} {bytes : List ℕ} → left ≡ keys → bytes ≡ [] → Comes words disk keys ReadFault left bytes
-  cut_short : {left : Coming} {bytes : List ℕ} (tree : Service) (stream rest : List ℕ) → Replays words disk tree stream → IsCutShort tree stream keys 1000000 rest left bytes
-      → Comes words disk keys ReadFault left bytes
-  write_fault : {left : Coming} {bytes : List ℕ} (status : Status) (all rest : List ℕ) → status ≢ Done → Due words disk keys status left all → bytes ++ rest ≡ all
-      → Comes words disk keys WriteFault left bytes
-  broken : {left : Coming} {bytes : List ℕ} (tree : Service) (stream : List ℕ) → Replays words disk tree stream → IsBroken tree stream keys 1000000 left bytes
-      → Comes words disk keys WriteFault left bytes
-  memory : {left : Coming} {bytes : List ℕ} → left ≡ keys → bytes ≡ [] → Comes words disk keys Memory left bytes
+-- the text was printed, and the status is this one; or a first part of it was, and it is a write fault
+abbrev pub Prints : Said → Option (List ℕ) → Option (List ℕ) → Status → Type 0
+Prints what held now status = ((status ≡ what.status) × Appends held now what.text) ⊎ ((status ≡ WriteFault) × AppendsPart held now what.text)
 
--- the keys that are left, and the bytes that were appended to what was held, are so related
-abbrev pub Leaves : Option Coming → Option (List ℕ) → Option (List ℕ) → (Coming → List ℕ → Type 0) → Type 0
-Leaves keys held now fact = (left : Coming) × (bytes : List ℕ) × (keys ≡ Some left) × Appends held now bytes × fact left bytes
+-- this was said, and nothing else has changed
+pub record IsSaid (what : Said) (before after : Outside) (status : Status) : Type 0 where
+  pub prints : Prints what before.printed after.printed status
+  pub kept : after ≡ record before { printed = after.printed }
 
--- The text was printed, and the status is this one; or a first part of the text was, and it is a write fault.
-abbrev pub Prints : Option (List ℕ) → Option (List ℕ) → Status → List ℕ → Status → Type 0
-Prints held now status text result =
-    (bytes : List ℕ) × Appends held now bytes × (((result ≡ status) × (bytes ≡ text)) ⊎ ((result ≡ WriteFault) × (rest : List ℕ) × (bytes ++ rest ≡ text)))
+-- the requests of a file were answered on `out`, from the world in which nothing was requested yet
+pub record IsReplayed (tree : Service) (stream : List ℕ) (most : ℕ) (before after : Outside) (status : Status) : Type 0 where
+  pub end : StreamEnd
+  pub status_is : status ≡ status_of end
+  pub left : Option (List ℕ)
+  pub streamed : (keys : Coming) → before.keys ≡ Some keys → (to : Between) × (after.keys ≡ Some to.keys) × (after.steps ≡ to.steps)
+      × IsStreamed most tree (record { world = empty tree; keys = keys; steps = before.steps }) stream to before.printed after.printed left end
+  pub kept : (after.asked ≡ before.asked) × (after.coming ≡ before.coming) × (after.returned ≡ before.returned)
 
--- what a run comes to by these words, where the files and the keys tell
-abbrev pub ComesBy : Option Disk → Option Coming → Option Coming → Option (List ℕ) → Option (List ℕ) → List (List ℕ) → Status → Type 0
-ComesBy told coming later held now words status =
-    IfSome told (λ disk. IfSome coming (λ keys. Leaves later held now (Comes words disk keys status)))
+-- what comes of the work
+abbrev pub IsDone : Work → Outside → Outside → Status → Type 0
+IsDone (prints text) before after status = IsSaid (record { status = Done; text = text }) before after status
+IsDone (replays tree stream most) before after status = IsReplayed tree stream most before after status
+
+-- What comes of the questions. What is said is printed; or the work is done; or, after a read fault or for want of
+-- memory, nothing has changed.
+pub data Comes (question : Question Work) (before after : Outside) (status : Status) : Type 0 where
+  said : (what : Said) → question.says what → IsSaid what before after status → Comes question before after status
+  done : (work : Work) → question.gives work → IsDone work before after status → Comes question before after status
+  read_fault : status ≡ ReadFault → after ≡ before → Comes question before after status
+  no_memory : status ≡ Memory → after ≡ before → Comes question before after status
+
+-- the same, of code that only prints
+abbrev pub Speaks : Question Work → Option (List ℕ) → Option (List ℕ) → Status → Type 0
+Speaks question held now status = (o : Outside) → Comes question (record o { printed = held }) (record o { printed = now }) status
+
+-- the same, of code that answers on `out`
+abbrev pub Replies : Question Work → Option (List ℕ) → Option (List ℕ) → Option Coming → Option Coming → ℕ → ℕ → Status → Type 0
+Replies question held now keys later steps after status =
+    (o : Outside) → Comes question (record o { printed = held; keys = keys; steps = steps }) (record o { printed = now; keys = later; steps = after }) status

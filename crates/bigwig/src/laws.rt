@@ -1,16 +1,20 @@
-//! Laws of outcomes and of runs.
-ghost use Rattle.bigwig.specs.Laws.{OneStatusIsDue, ComesWhereDue, AsksOnce, LeavesOnce, AnswersOnce};
+//! Laws of outcomes.
+ghost use Rattle.bigwig.specs.Laws.{SomeStatusIsDue, OneStatusIsDue, ComesWhereDue, DoesItsWork, ValidIsDone, BuiltInReads, BuiltInIsMeant, BuiltInIsNotRefused};
 
-/// The rows of the table of outcomes exclude each other, so each status comes exactly where its row says, counted
-/// faults and want of memory aside.
+/// By all words and files some status is due, and one only; the program ends with it, counted faults and want of
+/// memory aside. Where every question goes well, the work is done. `valid` is done exactly where the page and the schema
+/// read and the page is valid.
 pub fn one_outcome()
-    ensures due { OneStatusIsDue }
+    ensures some { SomeStatusIsDue }
+    ensures one { OneStatusIsDue }
     ensures comes { ComesWhereDue }
+    ensures complete { DoesItsWork }
+    ensures valid { ValidIsDone }
 {}
 
-/// A stream is answered in one way, want of memory aside.
-pub fn one_answer()
-    ensures asks { AsksOnce }
-    ensures keys { LeavesOnce }
-    ensures bytes { AnswersOnce }
+/// The text of the built-in schema reads as its rules. Where no schema is named, these are meant, and none is refused.
+pub fn built_in_is_read()
+    ensures reads { BuiltInReads }
+    ensures meant { BuiltInIsMeant }
+    ensures never { BuiltInIsNotRefused }
 {}

@@ -2,18 +2,17 @@
 #![tactic(auto)]
 
 mod command;
-mod intake;
+mod judging;
 mod laws;
 mod lines;
 mod loading;
-mod plain;
+mod numbers;
 mod program;
-mod reply;
-mod request;
-mod serving;
+mod report;
 mod status;
-mod stream;
+mod stop;
+mod words;
 
-pub use laws::{one_answer, one_outcome};
+pub use laws::{built_in_is_read, one_outcome};
 pub use program::run;
 pub use status::Status;

@@ -1,14 +1,17 @@
-//! The lines that tell why a service is refused, without their ends.
+//! The lines that tell why something is refused, without their ends.
 ghost use Rattle.std.specs.Prelude.{◌≡◌, ◌≢◌, ◌++◌, decimal, IfOk};
+ghost use Rattle.bw_schema.specs.declared.fault.SchemaFault.TheVariants as schemas;
 ghost use Rattle.bw_syntax.specs.declared.fault.SyntaxFault.TheVariants as faults;
 ghost use Rattle.bw_types.specs.declared.fault.TypeFault.TheVariants as types;
 ghost use Rattle.bigwig.specs.Lines as spec;
 
 use bw_lang::{Kind, Limit, Memory};
 use bw_lex::LexFault;
+use bw_schema::SchemaFault;
 use bw_syntax::SyntaxFault;
 use bw_tmpl::TmplFault;
 use bw_types::TypeFault;
+use bw_valid::Breach;
 use itoa::Buffer;
 use std::alloc::Global;
 
@@ -180,9 +183,58 @@ pub fn type_line(alloc: Global, fault: &TypeFault) -> Result<Vec<u8>, Memory>
     }
 }
 
-/// The service isn't of the kind that is served by now.
-pub fn not_yet_line(alloc: Global) -> Result<Vec<u8>, Memory>
-    ensures { IfOk result (λ line. line.items ≡ spec.not_yet_line) }
+/// The service has so many points, too many.
+pub fn points_line(alloc: Global, count: u64) -> Result<Vec<u8>, Memory>
+    ensures { IfOk result (λ line. line.items ≡ spec.points_line count) }
 {
-    paired(alloc, b"not yet", b"")
+    paired(
+        alloc,
+        b"too many points ",
+        Buffer::new().format(count).as_bytes(),
+    )
+}
+
+/// There is no file of this name.
+pub fn no_file_line(alloc: Global, name: &str) -> Result<Vec<u8>, Memory>
+    ensures { IfOk result (λ line. line.items ≡ spec.no_file_line name.now) }
+{
+    paired(alloc, b"no file ", name.as_bytes())
+}
+
+/// The bytes are no page.
+pub fn no_page_line(alloc: Global) -> Result<Vec<u8>, Memory>
+    ensures { IfOk result (λ line. line.items ≡ spec.no_page_line) }
+{
+    paired(alloc, b"not a page", b"")
+}
+
+/// This element breaks this rule.
+pub fn breach_line(alloc: Global, breach: Breach) -> Result<Vec<u8>, Memory>
+    ensures { IfOk result (λ line. line.items ≡ spec.breach_line breach) }
+{
+    let mut line = placed(alloc, b"invalid place ", breach.place as usize)?;
+    line.extend_from_slice(b" rule ")?;
+    line.extend_from_slice(Buffer::new().format(breach.rule).as_bytes())?;
+    Ok(line)
+}
+
+/// Why a text is read as no schema. Want of memory has no line.
+pub fn schema_line(alloc: Global, fault: &SchemaFault) -> Result<Vec<u8>, Memory>
+    ensures line { IfOk result (λ line. line.items ≡ spec.schema_line fault.now) }
+    ensures reason { IfOk result (λ line. fault.now ≢ schemas.Memory) }
+{
+    match fault {
+        SchemaFault::Malformed => paired(alloc, b"schema malformed", b""),
+        SchemaFault::Version(version) => {
+            paired(
+                alloc,
+                b"schema version ",
+                Buffer::new().format(*version).as_bytes(),
+            )
+        }
+        SchemaFault::Repeated(name) => paired(alloc, b"schema repeated ", name.as_bytes()),
+        SchemaFault::Unknown(name) => paired(alloc, b"schema unknown ", name.as_bytes()),
+        SchemaFault::TooLong => paired(alloc, b"schema too long", b""),
+        SchemaFault::Memory => Err(Memory),
+    }
 }

@@ -1,6 +1,6 @@
 //! How the program ends.
 ghost use Rattle.std.specs.Prelude.{◌≡◌};
-ghost use Rattle.bigwig.specs.Codes.{code_of};
+ghost use Rattle.bigwig.specs.Codes.{code_of, status_for};
 
 /// How the program ends. The numbers are its exit codes.
 #[derive(Clone, Copy, Debug, PartialEq, Eq)]
@@ -43,6 +43,33 @@ impl Status {
             Status::Memory => 8,
             Status::PageRefused => 9,
             Status::NoFile => 15,
+        }
+    }
+}
+
+/// What is refused, or isn't there.
+#[derive(Clone, Copy, Debug, PartialEq, Eq)]
+pub enum Refusal {
+    /// A file that isn't there.
+    File,
+    /// What a service file holds.
+    Service,
+    /// What a schema file holds.
+    Schema,
+    /// What a page file holds.
+    Page,
+}
+
+impl Refusal {
+    /// The status that the program ends with.
+    pub fn status(self) -> Status
+        ensures { result ≡ status_for self }
+    {
+        match self {
+            Refusal::File => Status::NoFile,
+            Refusal::Service => Status::ServiceRefused,
+            Refusal::Schema => Status::SchemaRefused,
+            Refusal::Page => Status::PageRefused,
         }
     }
 }

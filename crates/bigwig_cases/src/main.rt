@@ -14,6 +14,8 @@ use std::process::ExitCode;
 enum Trial {
     /// Runs of the whole program.
     Runs,
+    /// Runs of the whole program over requests that interleave sessions.
+    Worlds,
     /// Runs of the whole program by services that are the names of the cases.
     Services,
     /// Reads and writes that are interrupted.
@@ -24,6 +26,7 @@ impl Kind for Trial {
     fn file_name(self) -> &'static str {
         match self {
             Trial::Runs => "run.cases",
+            Trial::Worlds => "world.cases",
             Trial::Services => "services.cases",
             Trial::Retries => "retries.cases",
         }
@@ -31,7 +34,7 @@ impl Kind for Trial {
 
     fn try_case(self, alloc: Global, texts: &Texts<'_>, case: &Case<'_>) -> Result<Verdict, Fault> {
         match self {
-            Trial::Runs => runs::try_case(alloc, texts, case),
+            Trial::Runs | Trial::Worlds => runs::try_case(alloc, texts, case),
             Trial::Services => runs::try_service(alloc, case),
             Trial::Retries => retries::try_case(alloc, case),
         }
@@ -39,5 +42,8 @@ impl Kind for Trial {
 }
 
 fn main(rt: HostRuntime) -> ExitCode {
-    try_files(&rt, &[Trial::Runs, Trial::Services, Trial::Retries])
+    try_files(
+        &rt,
+        &[Trial::Runs, Trial::Worlds, Trial::Services, Trial::Retries],
+    )
 }

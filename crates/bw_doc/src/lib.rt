@@ -13,7 +13,7 @@ mod sheet;
 mod spots;
 mod walk;
 
+pub use bw_page::Sheet;
 pub use doc::Doc;
 pub use fault::DocFault;
 pub use part::Part;
-pub use sheet::Sheet;

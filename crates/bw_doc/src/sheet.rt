@@ -1,7 +1,6 @@
-//! Pages ready to be sent.
+//! The pages of documents, ready to be sent.
 ghost use Rattle.std.specs.Prelude.{◌≡◌, ◌++◌, codes, length, IfOk, OnOk};
 ghost use Rattle.bw_lang.specs.Print.{print};
-ghost use Rattle.bw_out.specs.Sends.{Sends};
 ghost use Rattle.bw_page.specs.Pages.{show_page, exit_page};
 ghost use Rattle.bw_doc.specs.Made.{tree};
 ghost use Rattle.bw_doc.specs.Sheets.{page_of};
@@ -10,24 +9,8 @@ use crate::doc::Doc;
 use crate::output::Output;
 use crate::walk::put_doc;
 use bw_lang::{Memory, Name, Text};
-use bw_out::{Sink, WriteFault, write_all};
+use bw_page::Sheet;
 use std::alloc::Global;
-use std::marker::Model;
-
-/// A page ready to be sent, which contracts see as its bytes. All the memory that sending it takes was taken as it
-/// was made.
-#[derive(Drop)]
-pub struct Sheet {
-    bytes: Vec<u8>,
-}
-
-impl Model for Sheet {
-    ghost use Rattle.std.specs.Prelude.{ℕ, List};
-
-    ghost Value = { List ℕ };
-
-    ghost view = { λ s. s.bytes.items };
-}
 
 impl Doc {
     /// The number of bytes that the document prints to, open gaps left out.
@@ -51,9 +34,7 @@ impl Doc {
             Some(target) => put_show(alloc, title, target, self, &mut out)?,
             None => put_exit(alloc, title, self, &mut out)?,
         }
-        Ok(Sheet {
-            bytes: out.into_bytes(),
-        })
+        Ok(Sheet::from_bytes(out.into_bytes()))
     }
 }
 
@@ -83,36 +64,4 @@ fn put_exit(alloc: Global, title: &Name, doc: &Doc, out: &mut Output) -> Result<
     out.put(b"</title></head><body>")?;
     put_doc(alloc, doc, out)?;
     out.put(b"</body></html>")
-}
-
-impl Sheet {
-    /// The sheet of a plain text.
-    pub fn plain(alloc: Global, text: &Text) -> Result<Sheet, Memory>
-        ensures { IfOk result (λ sheet. sheet ≡ text.now) }
-    {
-        let mut bytes = Vec::new(alloc);
-        bytes.extend_from_slice(text.as_bytes())?;
-        Ok(Sheet { bytes })
-    }
-
-    pub fn as_bytes(&self) -> &[u8]
-        ensures { result.now ≡ self.now }
-    {
-        self.bytes.as_slice()
-    }
-
-    /// The number of its bytes.
-    pub fn length(&self) -> u64
-        ensures { result ≡ length self.now }
-    {
-        self.bytes.len() as u64
-    }
-
-    /// Writes all of them. It takes no memory. After a fault, which comes only where the sink's count rose, a first part
-    /// of the bytes is written.
-    pub fn write<W: Sink>(self, sink: &mut W) -> Result<(), WriteFault>
-        ensures { Sends W.Channel sink.old sink.new self result }
-    {
-        write_all(sink, self.bytes.as_slice())
-    }
 }

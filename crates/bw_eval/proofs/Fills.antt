@@ -1,6 +1,6 @@
 -- The pairs of a plug, one after the other.
 use Rattle.std.proofs.Common.{◌≡◌, ℕ, zero, suc, ◌+◌, ◌<◌, List, [], ◌∷◌, length, get_or, drop, Ok, Err, refl, ap, sym, ◌∙◌, subst, arith}
-use Rattle.std.specs.Prelude.{Result, IsErrAnd}
+use Rattle.std.specs.Prelude.{Result, IsErrAnd, IfOk}
 use Rattle.bw_lang.specs.declared.expr.Pair.{Pair}
 use Rattle.bw_lang.specs.declared.service.Service.{Service}
 use Rattle.bw_lang.specs.declared.turn.TurnFault.{TurnFault}
@@ -11,8 +11,9 @@ use Rattle.bw_meaning.specs.Expressions.{Evaluated, Gives, Faults, and_then, giv
 use Rattle.bw_meaning.specs.Operators.{document_of, filled}
 use Rattle.bw_meaning.specs.Values.{Value, Values}
 use Rattle.bw_eval.specs.declared.value.Value as declared
+use Rattle.bw_eval.specs.Bases.{IsDocument, GivesDocument}
 use Rattle.bw_eval.specs.Evaluations.{evaluated, HasMemory}
-use Rattle.bw_typed.specs.ShortStrings.{HasShort, HaveShort}
+use Rattle.bw_eval.specs.View.{value}
 
 -- the pair at a place, and those behind it
 pub fillings_at : (xs : List Pair) (i : ℕ) (x : Pair) → x ≡ get_or xs i x → i < length xs →
@@ -22,12 +23,10 @@ fillings_at (y ∷ xs) zero x e h = ap (λ (p : Pair). filling p.gap (term p.val
 fillings_at (y ∷ xs) (suc i) x e h = let k : suc i + 1 ≡ suc (i + 1) = omega arith in fillings_at xs i x e (omega arith)
     ∙ ap (λ n. filling x.gap (term x.value) (fillings (drop n (y ∷ xs)))) (sym k)
 
-pub pair_short : (xs : List Pair) (i : ℕ) (x : Pair) → x ≡ get_or xs i x → i < length xs → HaveShort (fillings (drop i xs)) → HasShort (term x.value)
-pair_short xs i x e h s = (subst HaveShort (fillings_at xs i x e h) s).0
-
-pub later_short : (xs : List Pair) (i : ℕ) (x : Pair) → x ≡ get_or xs i x → i < length xs → HaveShort (fillings (drop i xs)) →
-    HaveShort (fillings (drop (i + 1) xs))
-later_short xs i x e h s = (subst HaveShort (fillings_at xs i x e h) s).1
+-- what holds of these pairs holds of the pair at a place and those behind it
+pub pairs_from : (Q : Fillings → Type 0) (xs : List Pair) (i : ℕ) (x : Pair) → x ≡ get_or xs i x → i < length xs → Q (fillings (drop i xs)) →
+    Q (filling x.gap (term x.value) (fillings (drop (i + 1) xs)))
+pairs_from Q xs i x e h q = subst Q (fillings_at xs i x e h) q
 
 fill_next : (service : Service) (l s : Values) (g : List ℕ) (e : Term) (ps : Fillings) (d v d1 : Value) (u w : ℕ) →
     eval service l s e u ≡ Gives v w → filled (names.number service.gaps g) v (document_of d) ≡ Ok d1 →
@@ -81,3 +80,12 @@ pub stops_with : (r : Result declared.Value TurnFault) (f : TurnFault) (w : ℕ)
     (HasMemory {A = declared.Value} (Err f) → Faults f w ≡ o) → HasMemory r → evaluated r w ≡ o
 stops_with (Ok v) f w o p h m = absurd p
 stops_with (Err e) f w o p h m = subst (λ x. HasMemory {A = declared.Value} (Err x) → Faults x w ≡ o) (sym p) h m
+
+-- what an expression gives is a document, where its values are
+pub document_given : (o : Evaluated) (v : Value) (u : ℕ) → Gives v u ≡ o → GivesDocument o → IsDocument v
+document_given o v u e h = subst GivesDocument (sym e) h
+
+pub ok_document : (r : Result declared.Value TurnFault) (u : ℕ) (o : Evaluated) → (HasMemory r → evaluated r u ≡ o) → GivesDocument o →
+    IfOk r (λ v. IsDocument (value v))
+ok_document (Ok v) u o e h = document_given o (value v) u (e tt) h
+ok_document (Err f) u o e h = tt

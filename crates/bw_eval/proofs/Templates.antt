@@ -31,7 +31,8 @@ pub found_none : {X : Type 0} (p : X → Bool) (xs : List X) → position p xs �
 found_none p xs e = find_at p xs
     ∙ slice_get_past xs (position_or_len p xs) (no_place (position_or_len p xs) (length xs) (nat_lt (position_or_len p xs) (length xs)) refl e)
 
-get_within : {X : Type 0} (xs : List X) (n : ℕ) → n < length xs → is_some (slice_get xs n) ≡ true
+-- there is an item at each place within a list
+pub get_within : {X : Type 0} (xs : List X) (n : ℕ) → n < length xs → is_some (slice_get xs n) ≡ true
 get_within [] n lt = absurd (omega arith)
 get_within (x ∷ xs) zero lt = refl
 get_within (x ∷ xs) (suc n) lt = get_within xs n (omega arith)

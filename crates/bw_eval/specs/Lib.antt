@@ -1,3 +1,4 @@
+pub mod Bases
 pub mod Evaluations
 pub mod Sound
 pub mod View

@@ -4,6 +4,7 @@ ghost use Rattle.bw_lang.specs.TermView.{term};
 ghost use Rattle.bw_meaning.specs.Expressions as spec;
 ghost use Rattle.bw_meaning.specs.Values.{number, template_value};
 ghost use Rattle.bw_typed.specs.ShortStrings.{HasShort, HaveShort};
+ghost use Rattle.bw_eval.specs.Bases.{HasBases, HaveBases, IsDocument};
 ghost use Rattle.bw_eval.specs.Evaluations.{evaluated, HasMemory};
 ghost use Rattle.bw_eval.specs.Sound.{IsSound, AreSound};
 ghost use Rattle.bw_eval.specs.View.{value, values, resulted};
@@ -58,7 +59,8 @@ impl Scene<'_> {
     }
 
     /// The value of an expression, or its fault, and the units left: each node takes a unit as it begins, which is a
-    /// step. The fault is `Memory` only for want of it.
+    /// step. Each plug goes into a document, as in a service that is well typed, so the fault is `Memory` only for want
+    /// of it.
     #[cycle(eval)]
     pub fn eval<L: Ledger>(
         &self,
@@ -68,6 +70,7 @@ impl Scene<'_> {
         steps: &mut Steps<L>,
     ) -> Result<Value, TurnFault>
         requires short { HasShort (term expr.now) }
+        requires bases { HasBases self.now.typed.now.service (values self.now.locals.now) (values self.now.shared.now) (term expr.now) }
         requires locals { AreSound self.now.typed.now.service.templates self.now.locals.now }
         requires shared { AreSound self.now.typed.now.service.templates self.now.shared.now }
         ensures value { HasMemory result → evaluated result units.new ≡
@@ -122,7 +125,9 @@ impl Scene<'_> {
         steps: &mut Steps<L>,
     ) -> Result<Value, TurnFault>
         requires short { HaveShort pairs.now }
+        requires bases { HaveBases self.now.typed.now.service (values self.now.locals.now) (values self.now.shared.now) pairs.now }
         requires base { IsSound self.now.typed.now.service.templates base }
+        requires document { IsDocument (value base) }
         requires locals { AreSound self.now.typed.now.service.templates self.now.locals.now }
         requires shared { AreSound self.now.typed.now.service.templates self.now.shared.now }
         ensures value { HasMemory result → evaluated result units.new ≡

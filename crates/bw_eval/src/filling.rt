@@ -5,6 +5,7 @@ ghost use Rattle.bw_lang.specs.declared.service.Template.{Template};
 ghost use Rattle.bw_meaning.specs.Operators as spec;
 ghost use Rattle.bw_meaning.specs.Values as meaning;
 ghost use Rattle.std.specs.Prelude.{List};
+ghost use Rattle.bw_eval.specs.Bases.{IsDocument};
 ghost use Rattle.bw_eval.specs.Evaluations.{HasMemory};
 ghost use Rattle.bw_eval.specs.Sound.{IsShort, IsSound};
 ghost use Rattle.bw_eval.specs.View.{document, value, resulted, plugged, turn_fault};
@@ -52,6 +53,7 @@ fn plug_text(doc: &Doc, gap: GapId, text: &str) -> Result<Doc, TurnFault>
 fn fill(doc: &Doc, gap: GapId, filling: &Value) -> Result<Value, TurnFault>
     requires { IsShort (spec.text_of (value filling.now)) }
     ensures value { HasMemory result → resulted result ≡ spec.filled gap (value filling.now) (document doc.now) }
+    ensures document { IfOk result (λ v. IsDocument (value v)) }
     ensures sound { (templates : List Template) → IsOf templates doc.now → IsSound templates filling.now → IfOk result (IsSound templates) }
 {
     match filling {
@@ -62,16 +64,17 @@ fn fill(doc: &Doc, gap: GapId, filling: &Value) -> Result<Value, TurnFault>
 }
 
 impl Value {
-    /// The document that it is, with a value in its open gaps of that number. A value that is no document, which no
-    /// typed service plugs into, is answered by `Memory`.
+    /// The document that it is, with a value in its open gaps of that number. What it gives is a document again.
     pub fn filled(&self, gap: GapId, filling: &Value) -> Result<Value, TurnFault>
-        requires { IsShort (spec.text_of (value filling.now)) }
+        requires document { IsDocument (value self.now) }
+        requires short { IsShort (spec.text_of (value filling.now)) }
         ensures value { HasMemory result → resulted result ≡ spec.filled gap (value filling.now) (spec.document_of (value self.now)) }
+        ensures document { IfOk result (λ v. IsDocument (value v)) }
         ensures sound { (templates : List Template) → IsSound templates self.now → IsSound templates filling.now → IfOk result (IsSound templates) }
     {
         match self {
             Value::Html(doc) => fill(doc, gap, filling),
-            _ => Err(TurnFault::Memory),
+            Value::Int(_) | Value::Bool(_) | Value::Str(_) | Value::Strs(_) => unreachable!(),
         }
     }
 }

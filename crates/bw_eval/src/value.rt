@@ -100,7 +100,7 @@ impl Value {
             Value::Int(_) | Value::Bool(_) => Some(16),
             Value::Str(text) => 16u64.checked_add(text.len() as u64),
             Value::Html(doc) => Some(doc.measure().weight),
-            Value::Strs(strings) => words_weight(strings),
+            Value::Strs(strings) => words_weight(strings.as_slice()),
         }
     }
 
@@ -119,11 +119,11 @@ impl Value {
 }
 
 /// What a list of strings weighs, unless that is too great for a number of 64 bits.
-pub fn words_weight(strings: &Words) -> Option<u64>
+pub fn words_weight(strings: &[Text]) -> Option<u64>
     ensures { IfSome result (λ w. w ≡ meaning.list_weight strings.now) }
 {
     let mut total: u64 = 16;
-    for string in strings.as_slice() {
+    for string in strings {
         let own = 16u64.checked_add(string.len() as u64)?;
         total = total.checked_add(own)?;
     }

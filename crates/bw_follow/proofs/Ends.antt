@@ -20,7 +20,7 @@ use Rattle.bw_meaning.specs.Expressions.{Evaluated, Gives, Faults, eval}
 use Rattle.bw_meaning.specs.Operators.{truth_of, list_of, document_of}
 use Rattle.bw_meaning.specs.Pages.{show_fault, exit_fault}
 use Rattle.bw_meaning.specs.States.{Input, State, Outcome, Went, Shown, Exited, Failed, Rests}
-use Rattle.bw_meaning.specs.Statements.{declared, add_local, store, taken, when_paid, with_unit, when_given, with_value, begin, then_do, unless_fault}
+use Rattle.bw_meaning.specs.Statements.{declared, add_local, store, when_paid, when_given, with_value, begin, then_do, unless_fault}
 use Rattle.bw_meaning.specs.Statements.{leave, room, turns, add_rest, each, wait, shows, exits, exec}
 use Rattle.bw_meaning.specs.Values.{Document, Value, Values, text, list_weight, without}
 use Rattle.bw_meaning.specs.Values.{names_of}

@@ -1,17 +1,18 @@
 -- The frames that turns show are fit.
-use Rattle.std.proofs.Common.{◌≡◌, ℕ, ◌+◌, ◌<◌, ◌≤◌, List, [], length, Some, refl, sym, ap, ◌∙◌, subst, arith}
-use Rattle.std.specs.Prelude.{slice_get}
+use Rattle.std.proofs.Common.{◌≡◌, ℕ, ◌+◌, ◌<◌, ◌≤◌, [], length, refl, sym, ap, ◌∙◌, subst, arith}
+use Rattle.bw_lang.specs.declared.service.Service.{Service}
 use Rattle.bw_lang.specs.Code.{numbered}
 use Rattle.bw_flow.specs.Layout.{points, plan_of}
 use Rattle.bw_flow.proofs.Stands.{stands_for_all}
 use Rattle.bw_flow.proofs.Numbered.{all_have_numbers}
-use Rattle.bw_meaning.specs.GoOn.{behind, body_of, turn}
+use Rattle.bw_meaning.specs.GoOn.{behind, body_of}
 use Rattle.bw_lang.specs.Numbers.{first_number}
-use Rattle.bw_meaning.specs.States.{State, Went, Shown, Answered, budget}
-use Rattle.bw_meaning.specs.Statements.{declared, refills, room, exec}
+use Rattle.bw_meaning.specs.States.{Input, State, Went, Shown, Answered, Rests, budget}
+use Rattle.bw_meaning.specs.Statements.{declared, refills, room}
 use Rattle.bw_meaning.proofs.ExecLaw.{behind_good}
 use Rattle.bw_meaning.proofs.Good.{Good, exec_good}
-use Rattle.bw_follow.specs.Laws.{ShownIsFit, ShownAgainIsFit}
+use Rattle.bw_meaning.specs.Values.{Values}
+use Rattle.bw_follow.specs.Laws.{IsFitShow, ShownIsFit, ShownAgainIsFit}
 use Rattle.bw_follow.proofs.Back.{back}
 use Rattle.bw_follow.proofs.Ends.{Ends, Waits, exec_ends}
 use Rattle.bw_follow.proofs.Whole.{found, length_firsts, in_range, means_end, at_end, none_more}
@@ -19,6 +20,21 @@ use Rattle.std.proofs.lemmas.Option.{slice_get_within}
 
 plus_none : (n m : ℕ) → 0 + n ≡ m → n ≡ m
 plus_none n m e = omega arith
+
+-- where a session waits, the frame is fit
+waits_fit : (service : Service) (session : ℕ) (i : Input) (at : ℕ) (locals : Values) (rests : Rests) → Waits (plan_of service).steps 0 at locals rests →
+    first_number service session ≤ at → at < first_number service session + numbered (body_of service session) →
+    IsFitShow service session i at locals rests
+waits_fit service session i at locals rests w from below = (
+  w.place,
+  w.point,
+  w.page,
+  w.fields,
+  w.is,
+  w.acts,
+  record { number = w.number; names = w.names; rests = plus_none (length rests) w.point.inside w.depth },
+  record { from = from; below = below },
+)
 
 pub shown_is_fit : ShownIsFit
 shown_is_fit service session first shared inputs i at locals rests shown sh units ready ef e =
@@ -33,20 +49,8 @@ shown_is_fit service session first shared inputs i at locals rests shown sh unit
     let n = first_number service session in
     let w : Waits flow 0 at locals rests = subst (Ends flow 0 (declared body)) e
     (exec_ends flow service body n [] 0 f.first (length flow) 0 st f.lowered f.scoped refl) in
-    let g = subst (Good n (n + numbered body) (room st)) e (exec_good service body n 0 st) in (
-      w.place,
-      w.point,
-      w.page,
-      w.fields,
-      w.is,
-      w.acts,
-      record {
-        number = w.number;
-        names = w.names;
-        rests = plus_none (length rests) w.point.inside w.depth;
-      },
-      record { from = g.0; below = g.1 },
-    )
+    let g = subst (Good n (n + numbered body) (room st)) e (exec_good service body n 0 st) in
+    waits_fit service session i at locals rests w g.0 g.1
 
 pub shown_again_is_fit : ShownAgainIsFit
 shown_again_is_fit service session p0 x0 e0 rs0 a i at locals rests shown sh units ready at0 is fit of e =
@@ -65,17 +69,5 @@ shown_again_is_fit service session p0 x0 e0 rs0 a i at locals rests shown sh uni
     let e1 : behind service body n 0 a1 ≡ Shown at locals rests shown sh units = ap (λ k. behind service body n 0 (record a { at = k }))
     (sym fit.number) ∙ e in
     let w : Waits flow 0 at locals rests = subst (Ends flow 0 (declared body)) e1 h.ends in
-    let g = subst (Good n (n + numbered body) r) e1 (behind_good service body n 0 a1) in (
-      w.place,
-      w.point,
-      w.page,
-      w.fields,
-      w.is,
-      w.acts,
-      record {
-        number = w.number;
-        names = w.names;
-        rests = plus_none (length rests) w.point.inside w.depth;
-      },
-      record { from = g.0; below = g.1 },
-    )
+    let g = subst (Good n (n + numbered body) r) e1 (behind_good service body n 0 a1) in
+    waits_fit service session i at locals rests w g.0 g.1

@@ -2,10 +2,14 @@ pub mod Back
 pub mod Closing
 pub mod Ends
 pub mod Fit
+pub mod FitKinds
 pub mod Kept
 pub mod Names
 pub mod Past
+pub mod Points
 pub mod RunKinds
+pub mod Settling
+pub mod Showing
 pub mod Sim
 pub mod ValueKinds
 pub mod Whole

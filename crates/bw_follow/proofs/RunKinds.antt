@@ -1,153 +1,61 @@
 -- What the flow tells is of the kinds of its variables.
-use Rattle.std.proofs.Common.{◌≡◌, ◌⊎◌, ℕ, zero, suc, ◌+◌, Bool, true, false, cond, List, [], ◌∷◌, ◌++◌, map, take, length, Option, Some, None, refl, sym}
-use Rattle.std.proofs.Common.{ap, ◌∙◌, subst, inl, inr, arith, append_assoc}
-use Rattle.std.specs.Prelude.{◌==◌, if◌then◌else◌, is_some, slice_get, unwrap_or, find}
-use Rattle.std.specs.List.{All}
-use Rattle.std.specs.Option.{option_map, option_or}
-use Rattle.std.proofs.lemmas.List.{map-append, length-map}
+use Rattle.std.proofs.Common.{◌≡◌, ◌⊎◌, ℕ, zero, suc, Bool, true, false, List, [], ◌∷◌, ◌++◌, map, take, length, Option, Some, None, refl, sym}
+use Rattle.std.proofs.Common.{ap, ◌∙◌, subst, inl, inr, append_assoc}
+use Rattle.std.specs.Prelude.{◌==◌, if◌then◌else◌, is_some, slice_get}
+use Rattle.std.proofs.lemmas.List.{map-append}
 use Rattle.std.proofs.lemmas.List.Elements.{All-head, All-tail}
-use Rattle.std.proofs.Math.Seq.{take-append_seam}
 use Rattle.bw_lang.specs.declared.service.Service.{Service}
 use Rattle.bw_lang.specs.declared.stmt.Kind.{Kind}
 use Rattle.bw_lang.specs.declared.stmt.Kind.TheVariants as kinds
 use Rattle.bw_lang.specs.declared.turn.TurnFault.{TurnFault}
 use Rattle.bw_lang.specs.declared.turn.TurnFault.TheVariants.{Spent}
-use Rattle.bw_lang.specs.Names.{same, beside}
-use Rattle.bw_lang.specs.Submissions.{values_of}
 use Rattle.bw_lang.specs.Term.{Term}
-use Rattle.bw_types.specs.Scopes.{shared_kind, variable_kind}
 use Rattle.bw_flow.specs.declared.point.Local.{Local}
 use Rattle.bw_flow.specs.declared.point.Received.{Received}
 use Rattle.bw_flow.specs.Places.{Among, HasNexts}
 use Rattle.bw_flow.specs.Scoped.{is_known}
-use Rattle.bw_flow.specs.Scopes.{kind_in}
 use Rattle.bw_flow.specs.Stands.{IsAt}
 use Rattle.bw_flow.specs.Steps.{Act, Step}
 use Rattle.bw_flow.specs.Steps as acts
-use Rattle.bw_flow.specs.TypedFlow.{names_at, kind_at, HasKindAt, IsTypedReceive, IsTypedAct, BringsIn, Follows, IsTypedFlow}
-use Rattle.bw_flow.proofs.Names.{kind_in_is}
+use Rattle.bw_flow.specs.TypedFlow.{names_at, kind_at, HasKindAt, IsTypedAct, BringsIn, Follows, IsTypedFlow}
 use Rattle.bw_flow.proofs.Ways.{Ends}
 use Rattle.bw_meaning.specs.Expressions.{Evaluated, Gives, Faults, eval}
-use Rattle.bw_meaning.specs.Forms.{received_value}
 use Rattle.bw_meaning.specs.Operators.{truth_of, list_of, document_of}
 use Rattle.bw_meaning.specs.Pages.{show_fault, exit_fault}
-use Rattle.bw_meaning.specs.States.{Form, Input, State, Outcome, Went, Shown, Exited, Failed, Rests, budget}
-use Rattle.bw_meaning.specs.Statements.{add_local, store, variable, received, taken, when_paid, with_unit, when_given, with_value, begin, then_do}
+use Rattle.bw_meaning.specs.States.{Input, State, Outcome, Went, Shown, Exited, Failed, Rests}
+use Rattle.bw_meaning.specs.Statements.{add_local, store, taken, when_paid, when_given, with_value, begin, then_do}
 use Rattle.bw_meaning.specs.Statements.{unless_fault, wait, shows, exits}
-use Rattle.bw_meaning.specs.Values.{Document, Value, Values, number, truth_value, text, document, list, replaced}
+use Rattle.bw_meaning.specs.Values.{Document, Value, Values, text}
 use Rattle.bw_typed.proofs.OneKind.{kinds_agree}
 use Rattle.bw_follow.specs.Kinds.{kind_of, kinds_of, kinds_in, AreShared, GivesKind, HasKinds, InputsHaveKinds}
 use Rattle.bw_follow.specs.Runs.{put, cut, plain, first_of, second_of, rests_weight, last_rest, outer_rests, within, Next, go_over, does, at_point, run}
-use Rattle.bw_follow.proofs.ValueKinds.{beside_kinds, variable_has, values_have_kinds}
-
--- ---- lists of names and kinds
-
--- storing a value of the kind that the name has changes no kind
-pub kinds_replaced : (w : List ℕ) (v : Value) (xs : Values) → ((k : Kind) → beside w (kinds_of xs) ≡ Some k → kind_of v ≡ k) →
-    kinds_of (replaced w v xs) ≡ kinds_of xs
-kinds_replaced w v [] h = refl
-kinds_replaced w v (x ∷ xs) h = by_test (same w x.0) h (kinds_replaced w v xs)
-  where
-    by_test : (b : Bool) → ((k : Kind) →
-        option_map (λ (p : List ℕ × Kind). p.1) (cond b (Some (x.0, kind_of x.1)) (find (λ p. same w p.0) (kinds_of xs))) ≡ Some k → kind_of v ≡ k)
-        → (((k : Kind) → beside w (kinds_of xs) ≡ Some k → kind_of v ≡ k) → kinds_of (replaced w v xs) ≡ kinds_of xs)
-        → kinds_of (if b then (x.0, v) ∷ xs else x ∷ replaced w v xs) ≡ kinds_of (x ∷ xs)
-    by_test true h ih = ap (λ k. (x.0, k) ∷ kinds_of xs) (h (kind_of x.1) refl)
-    by_test false h ih = ap (λ l. (x.0, kind_of x.1) ∷ l) (ih h)
-
-kinds_take : (n : ℕ) (xs : Values) → kinds_of (take n xs) ≡ take n (kinds_of xs)
-kinds_take zero xs = refl
-kinds_take (suc n) [] = refl
-kinds_take (suc n) (x ∷ xs) = ap (λ l. (x.0, kind_of x.1) ∷ l) (kinds_take n xs)
-
--- the first of these locals, by their names and kinds
-first_kinds : (l : Values) (scope gone : List Local) → kinds_of l ≡ kinds_in (scope ++ gone) → kinds_of (take (length scope) l) ≡ kinds_in scope
-first_kinds l scope gone e =
-    kinds_take (length scope) l ∙ ap (take (length scope)) (e ∙ map-append (λ (x : Local). (x.name, x.kind)) scope gone)
-    ∙ ap (λ n. take n (kinds_in scope ++ kinds_in gone)) (sym (length-map scope (λ (x : Local). (x.name, x.kind))))
-    ∙ take-append_seam (kinds_in scope) (kinds_in gone)
-
-same_kind : (o : Option Kind) (a b : Kind) → o ≡ Some a → o ≡ Some b → a ≡ b
-same_kind o a b x y = let e : Some a ≡ Some b = sym x ∙ y in cc
-
-known_kind : (service : Service) (sc : List Local) (w : List ℕ) → is_known service sc w ≡ is_some (kind_at service sc w)
-known_kind service sc w = ap (λ o. is_some (option_or o (shared_kind service w))) (sym (kind_in_is sc w))
-
--- where no local has the name, the variable is the shared one
-or_none : {A : Type 0} (a b : Option A) (x : A) → option_or a b ≡ Some x → is_some a ≡ false → b ≡ Some x
-or_none None b x e n = e
-or_none (Some y) b x e n = cc
-
-or_first : {A : Type 0} (a b : Option A) (x : A) → a ≡ Some x → option_or a b ≡ Some x
-or_first a b x e = ap (λ o. option_or o b) e
-
-none_mapped : {A B : Type 0} (f : A → B) (o : Option A) → is_some o ≡ false → is_some (option_map f o) ≡ false
-none_mapped f None e = refl
-none_mapped f (Some x) e = cc
-
--- ---- storing
-
--- the kinds that a state has at a point
-pub record Fits (service : Service) (scope : List Local) (st : State) : Type 0 where
-  pub locals : kinds_of st.locals ≡ kinds_in scope
-  pub shared : AreShared service st.shared
-  pub inputs : InputsHaveKinds service st.inputs
-
-fits_store : (service : Service) (scope : List Local) (w : List ℕ) (v : Value) (k : Kind) (st : State) → kind_at service scope w ≡ Some k →
-    kind_of v ≡ k → Fits service scope st → Fits service scope (store w v st)
-fits_store service scope w v k st at ev f = record {
-  locals = kinds_replaced w v st.locals (λ j e. ev
-      ∙ same_kind (kind_at service scope w) k j at (or_first (beside w (kinds_in scope)) (shared_kind service w) j (ap (beside w) (sym f.locals)
-      ∙ e))) ∙ f.locals;
-  shared = by_test (is_some (beside w st.locals)) refl;
-  inputs = f.inputs;
-}
-  where
-    by_test : (b : Bool) → is_some (beside w st.locals) ≡ b → AreShared service (if b then st.shared else replaced w v st.shared)
-    by_test true e = f.shared
-    by_test false e =
-        let none : is_some (beside w (kinds_in scope)) ≡ false = ap (λ l. is_some (beside w l)) (sym f.locals)
-        ∙ ap is_some (beside_kinds w st.locals) ∙ none_mapped kind_of (beside w st.locals) e in
-        let sk = or_none (beside w (kinds_in scope)) (shared_kind service w) k at none in
-        kinds_replaced w v st.shared (λ j h. ev ∙ same_kind (shared_kind service w) k j sk (ap (beside w) (sym f.shared) ∙ h)) ∙ f.shared
-
-received_has : (old : Option Value) (k : Kind) (vs : List (List ℕ)) → option_map kind_of old ≡ Some k → (k ≡ kinds.Str) ⊎ (k ≡ kinds.Strs) →
-    kind_of (received_value old vs) ≡ k
-received_has None k vs e t = cc
-received_has (Some (list l)) k vs e t = cc
-received_has (Some (text s)) k vs e t = cc
-received_has (Some (number n)) k vs e (inl t) = absurd (let f : kinds.Int ≡ kinds.Str = (let g : kinds.Int ≡ k = cc in g) ∙ t in cc)
-received_has (Some (number n)) k vs e (inr t) = absurd (let f : kinds.Int ≡ kinds.Strs = (let g : kinds.Int ≡ k = cc in g) ∙ t in cc)
-received_has (Some (truth_value b)) k vs e (inl t) = absurd (let f : kinds.Bool ≡ kinds.Str = (let g : kinds.Bool ≡ k = cc in g) ∙ t in cc)
-received_has (Some (truth_value b)) k vs e (inr t) = absurd (let f : kinds.Bool ≡ kinds.Strs = (let g : kinds.Bool ≡ k = cc in g) ∙ t in cc)
-received_has (Some (document d)) k vs e (inl t) = absurd (let f : kinds.Html ≡ kinds.Str = (let g : kinds.Html ≡ k = cc in g) ∙ t in cc)
-received_has (Some (document d)) k vs e (inr t) = absurd (let f : kinds.Html ≡ kinds.Strs = (let g : kinds.Html ≡ k = cc in g) ∙ t in cc)
-
-fits_received : (service : Service) (scope : List Local) (rs : List Received) (form : Form) (st : State) → All (IsTypedReceive service scope) rs →
-    Fits service scope st → Fits service scope (received (map plain rs) form st)
-fits_received service scope [] form st t f = f
-fits_received service scope (r ∷ rs) form st t f =
-    let h = All-head (IsTypedReceive service scope) r rs t in
-    let v = received_value (variable r.target st) (values_of r.field form) in
-    let has = variable_has service (names_at scope) st.locals st.shared r.target f.locals f.shared in
-    fits_received service scope rs form (store r.target v st) (All-tail (IsTypedReceive service scope) r rs t)
-    (fits_store service scope r.target v r.kind st h.0 (received_has (variable r.target st) r.kind (values_of r.field form) (has ∙ h.0) h.1) f)
-
-pub fits_taken : (service : Service) (scope : List Local) (rs : List Received) (l : Values) (i : Input) (later : List Input) →
-    All (IsTypedReceive service scope) rs → kinds_of l ≡ kinds_in scope → AreShared service i.shared →
-    InputsHaveKinds service later → Fits service scope (taken (map plain rs) l i later)
-fits_taken service scope rs l i later t el es ei = fits_received service scope rs i.form (record {
-  locals = l;
-  shared = i.shared;
-  units = budget;
-  inputs = later;
-}) t (record { locals = el; shared = es; inputs = ei })
+use Rattle.bw_follow.proofs.ValueKinds.{values_have_kinds}
+use Rattle.bw_follow.proofs.FitKinds.{Fits, first_kinds, known_kind, fits_store, fits_taken}
 
 -- ---- one thing after another
 
-module _ (service : Service) (flow : List Step) where
+-- where it goes on, the state is so; what is told is of the kinds of its variables
+abbrev pub Told : Service → List Step → (State → Type 0) → Outcome → Type 0
+Told service flow W (Went st) = W st
+Told service flow W (Shown at locals rests shown shared units) = HasKinds service flow (Shown at locals rests shown shared units)
+Told service flow W (Exited last shared units) = HasKinds service flow (Exited last shared units)
+Told service flow W (Failed f units) = Unit {0}
+
+abbrev Any : State → Type 0
+Any st = Unit {0}
+
+told_kinds : (service : Service) (flow : List Step) (o : Outcome) → Told service flow Any o → HasKinds service flow o
+told_kinds service flow (Went st) h = h
+told_kinds service flow (Shown at locals rests shown shared units) h = h
+told_kinds service flow (Exited last shared units) h = h
+told_kinds service flow (Failed f units) h = h
+
+fits_units : (service : Service) (scope : List Local) (st : State) (u : ℕ) → Fits service scope st → Fits service scope (record st { units = u })
+fits_units service scope st u f = record { locals = f.locals; shared = f.shared; inputs = f.inputs }
+
+module _ (service : Service) (flow : List Step) (W : State → Type 0) where
   abbrev Kinds : Outcome → Type 0
-  Kinds o = HasKinds service flow o
+  Kinds o = Told service flow W o
 
   kinds_paid : (u : ℕ) (go : ℕ → Outcome) → ((w : ℕ) → Kinds (go w)) → Kinds (when_paid u go)
   kinds_paid zero go h = tt
@@ -164,21 +72,19 @@ module _ (service : Service) (flow : List Step) where
       kinds_given k (eval service st.locals st.shared e st.units) (λ v u. go v (record st { units = u }))
       (values_have_kinds service (names_at scope) e k st.locals st.shared st.units h f.locals f.shared) more
 
-  fits_units : (scope : List Local) (st : State) (u : ℕ) → Fits service scope st → Fits service scope (record st { units = u })
-  fits_units scope st u f = record { locals = f.locals; shared = f.shared; inputs = f.inputs }
-
   kinds_begin : (scope : List Local) (e : Term) (k : Kind) (st : State) (go : Value → State → Outcome) → HasKindAt service scope e k → Fits service scope st
       → ((v : Value) (u : ℕ) → kind_of v ≡ k → Kinds (go v (record st { units = u }))) → Kinds (begin service e st go)
   kinds_begin scope e k st go h f more =
       kinds_paid st.units (λ u. with_value service e (record st { units = u }) go)
-      (λ u. kinds_value scope e k (record st { units = u }) go h (fits_units scope st u f) more)
+      (λ u. kinds_value scope e k (record st { units = u }) go h (fits_units service scope st u f) more)
 
   kinds_if : (b : Bool) (o p : Outcome) → Kinds o → Kinds p → Kinds (if b then o else p)
   kinds_if true o p a b = a
   kinds_if false o p a b = b
 
-  -- ---- from point to point
+-- ---- from point to point
 
+module _ (service : Service) (flow : List Step) where
   -- what a state has at whatever point comes next
   pub record Arrives (q : ℕ) (st : State) : Type 0 where
     pub there : (y : Step) → IsAt flow q y → kinds_of (take (length y.scope) st.locals) ≡ kinds_in y.scope
@@ -226,8 +132,8 @@ among_second next q r e = subst (λ n. Among (second_of n) n) (sym e) (inr (inl 
 
 module _ (service : Service) (flow : List Step) (typed : IsTypedFlow service flow) (nexts : (p : ℕ) (x : Step) → IsAt flow p x → HasNexts x.act x.next)
     (pasts : (p : ℕ) (x : Step) (w : List ℕ) (e : Term) → IsAt flow p x → x.act ≡ acts.goes_over w e → Ends flow (second_of x.next) x.scope) where
-  module _ (p : ℕ) (x : Step) (at : IsAt flow p x) (next : Next) (more : (q : ℕ) (rs : Rests) (st : State) → Arrives service flow q st →
-      HasKinds service flow (next q rs st)) where
+  module _ (W : State → Type 0) (p : ℕ) (x : Step) (at : IsAt flow p x) (next : Next) (more : (q : ℕ) (rs : Rests) (st : State) → Arrives service flow q st →
+      Told service flow W (next q rs st)) where
     -- where the point brings in no local
     kept_at : (q : ℕ) → Among q x.next → ((l : Local) → BringsIn service x.scope x.act l → ⊥) → (y : Step) → IsAt flow q y →
         (gone : List Local) × (x.scope ≡ y.scope ++ gone)
@@ -260,25 +166,25 @@ module _ (service : Service) (flow : List Step) (typed : IsTypedFlow service flo
             (λ l b. ((brought l b).0, kinds_agree service (names_at x.scope) e l.kind k (brought l b).1 value))
 
     go_kinds : (w : List ℕ) (e : Term) → x.act ≡ acts.goes_over w e → (vs : List (List ℕ)) (rests : Rests) (st : State) → Fits service x.scope st →
-        HasKinds service flow (go_over w vs x.next next rests st)
+        Told service flow W (go_over w vs x.next next rests st)
     go_kinds w e is [] rests st f =
-        kinds_paid service flow st.units (λ u. next (second_of x.next) rests (record st { units = u }))
+        kinds_paid service flow W st.units (λ u. next (second_of x.next) rests (record st { units = u }))
         (λ u. more (second_of x.next) rests (record st { units = u })
-        (arrives_kept service flow x (second_of x.next) (record st { units = u }) (fits_units service flow x.scope st u f) (pasts p x w e at is)))
+        (arrives_kept service flow x (second_of x.next) (record st { units = u }) (fits_units service x.scope st u f) (pasts p x w e at is)))
     go_kinds w e is (v ∷ vs) rests st f =
         let two = subst (λ a. HasNexts a x.next) is (nexts p x at) in
         let q = first_of x.next in
         let among = among_first x.next two.0 two.1 two.2 in
-        kinds_paid service flow st.units (λ u. next q (rests ++ vs ∷ []) (add_local w (text v) (record st { units = u })))
+        kinds_paid service flow W st.units (λ u. next q (rests ++ vs ∷ []) (add_local w (text v) (record st { units = u })))
         (λ u. more q (rests ++ vs ∷ []) (add_local w (text v) (record st { units = u }))
-        (arrives_brought service flow x q w (text v) kinds.Str (record st { units = u }) (fits_units service flow x.scope st u f) refl
+        (arrives_brought service flow x q w (text v) kinds.Str (record st { units = u }) (fits_units service x.scope st u f) refl
         (λ y yt. typed.follows p q x y at yt among)
         (λ l b. let c = subst (λ a. BringsIn service x.scope a l) is b in (c.0, c.1))))
 
     show_kinds : (e : Term) (rs : List Received) → x.act ≡ acts.shows e rs →
         (fault : Option TurnFault) (u : ℕ) (d : Document) (rests : Rests) (st : State) (ins : List Input) → Fits service x.scope st →
         InputsHaveKinds service ins →
-        HasKinds service flow (then_do (within rests (unless_fault fault u (wait x.number (map plain rs) d st ins))) (next (first_of x.next) rests))
+        Told service flow W (then_do (within rests (unless_fault fault u (wait x.number (map plain rs) d st ins))) (next (first_of x.next) rests))
     show_kinds e rs is (Some f) u d rests st ins fits h = tt
     show_kinds e rs is None u d rests st [] fits h = ((p, x, e, rs, at, is, refl, fits.locals), fits.shared)
     show_kinds e rs is None u d rests st (i ∷ later) fits h =
@@ -291,47 +197,47 @@ module _ (service : Service) (flow : List Step) (typed : IsTypedFlow service flo
         (kept_at (first_of x.next) (among_one x.next one.0 one.1) (λ l b. subst (λ a. BringsIn service x.scope a l) is b)))
 
     exit_kinds : (fault : Option TurnFault) (d : Document) (st : State) → AreShared service st.shared →
-        HasKinds service flow (unless_fault fault st.units (Exited d st.shared st.units))
+        Told service flow W (unless_fault fault st.units (Exited d st.shared st.units))
     exit_kinds None d st h = h
     exit_kinds (Some f) d st h = tt
 
-    does_kinds : (a : Act) → x.act ≡ a → (rests : Rests) (st : State) → Fits service x.scope st → HasKinds service flow (does service a x next rests st)
+    does_kinds : (a : Act) → x.act ≡ a → (rests : Rests) (st : State) → Fits service x.scope st → Told service flow W (does service a x next rests st)
     does_kinds (acts.sets w e) is rests st f =
         let one = subst (λ a. HasNexts a x.next) is (nexts p x at) in
         let t = subst (λ a. IsTypedAct service x.scope a) is (typed.acts p x at) in
-        kinds_begin service flow x.scope e t.0 st (λ v st1. next (first_of x.next) rests (put service x.scope w v st1)) t.1 f
+        kinds_begin service flow W x.scope e t.0 st (λ v st1. next (first_of x.next) rests (put service x.scope w v st1)) t.1 f
         (λ v u ev. more (first_of x.next) rests (put service x.scope w v (record st { units = u }))
         (put_arrives (first_of x.next) w e v t.0 (record st { units = u }) (among_one x.next one.0 one.1) is t.1 t.2 ev
-        (fits_units service flow x.scope st u f)))
+        (fits_units service x.scope st u f)))
     does_kinds (acts.tests e) is rests st f =
         let two = subst (λ a. HasNexts a x.next) is (nexts p x at) in
         let t = subst (λ a. IsTypedAct service x.scope a) is (typed.acts p x at) in
         let none = λ (l : Local) (b : BringsIn service x.scope x.act l). subst (λ a. BringsIn service x.scope a l) is b in
-        kinds_begin service flow x.scope e kinds.Bool st
+        kinds_begin service flow W x.scope e kinds.Bool st
         (λ v st1. if truth_of v then next (first_of x.next) rests st1 else next (second_of x.next) rests st1) t f
-        (λ v u ev. let st1 : State = record st { units = u } in let f1 = fits_units service flow x.scope st u f in
-        kinds_if service flow (truth_of v) (next (first_of x.next) rests st1) (next (second_of x.next) rests st1)
+        (λ v u ev. let st1 : State = record st { units = u } in let f1 = fits_units service x.scope st u f in
+        kinds_if service flow W (truth_of v) (next (first_of x.next) rests st1) (next (second_of x.next) rests st1)
         (more (first_of x.next) rests st1
         (arrives_kept service flow x (first_of x.next) st1 f1 (kept_at (first_of x.next) (among_first x.next two.0 two.1 two.2) none)))
         (more (second_of x.next) rests st1
         (arrives_kept service flow x (second_of x.next) st1 f1 (kept_at (second_of x.next) (among_second x.next two.0 two.1 two.2) none))))
     does_kinds (acts.goes_over w e) is rests st f =
         let t = subst (λ a. IsTypedAct service x.scope a) is (typed.acts p x at) in
-        kinds_if service flow (length rests == x.inside) (with_value service e st (λ v. go_over w (list_of v) x.next next rests))
+        kinds_if service flow W (length rests == x.inside) (with_value service e st (λ v. go_over w (list_of v) x.next next rests))
         (go_over w (last_rest rests) x.next next (outer_rests rests) st)
-        (kinds_value service flow x.scope e kinds.Strs st (λ v. go_over w (list_of v) x.next next rests) t.1 f
-        (λ v u ev. go_kinds w e is (list_of v) rests (record st { units = u }) (fits_units service flow x.scope st u f)))
+        (kinds_value service flow W x.scope e kinds.Strs st (λ v. go_over w (list_of v) x.next next rests) t.1 f
+        (λ v u ev. go_kinds w e is (list_of v) rests (record st { units = u }) (fits_units service x.scope st u f)))
         (go_kinds w e is (last_rest rests) (outer_rests rests) st f)
     does_kinds (acts.shows e rs) is rests st f =
         let t = subst (λ a. IsTypedAct service x.scope a) is (typed.acts p x at) in
-        kinds_begin service flow x.scope e kinds.Html st
+        kinds_begin service flow W x.scope e kinds.Html st
         (λ v st1. then_do (within rests (shows x.number (rests_weight rests) (map plain rs) (document_of v) st1)) (next (first_of x.next) rests)) t.0 f
         (λ v u ev. let st1 : State = record st { units = u } in
         show_kinds e rs is (show_fault (document_of v) st.locals (rests_weight rests) st.shared) u (document_of v) rests st1 st.inputs
-        (fits_units service flow x.scope st u f) f.inputs)
+        (fits_units service x.scope st u f) f.inputs)
     does_kinds (acts.exits e) is rests st f =
         let t = subst (λ a. IsTypedAct service x.scope a) is (typed.acts p x at) in
-        kinds_begin service flow x.scope e kinds.Html st (λ v. exits (document_of v)) t f
+        kinds_begin service flow W x.scope e kinds.Html st (λ v. exits (document_of v)) t f
         (λ v u ev. exit_kinds (exit_fault (document_of v) st.shared) (document_of v) (record st { units = u }) f.shared)
     does_kinds acts.joins is rests st f =
         let one = subst (λ a. HasNexts a x.next) is (nexts p x at) in
@@ -339,19 +245,29 @@ module _ (service : Service) (flow : List Step) (typed : IsTypedFlow service flo
         (arrives_kept service flow x (first_of x.next) st f
         (kept_at (first_of x.next) (among_one x.next one.0 one.1) (λ l b. subst (λ a. BringsIn service x.scope a l) is b)))
 
-  pub run_kinds : (g q : ℕ) (rests : Rests) (st : State) → Arrives service flow q st → HasKinds service flow (run service flow g q rests st)
-  run_kinds zero q rests st a = tt
-  run_kinds (suc g) q rests st a = by_point (λ q1 rs1 st1 a1. run_kinds g q1 rs1 st1 a1) (slice_get flow q) refl
+  run_told : (g q : ℕ) (rests : Rests) (st : State) → Arrives service flow q st → Told service flow Any (run service flow g q rests st)
+  run_told zero q rests st a = tt
+  run_told (suc g) q rests st a = by_point (λ q1 rs1 st1 a1. run_told g q1 rs1 st1 a1) (slice_get flow q) refl
     where
-      by_point : ((q1 : ℕ) (rs1 : Rests) (st1 : State) → Arrives service flow q1 st1 → HasKinds service flow (run service flow g q1 rs1 st1)) →
-          (o : Option Step) → slice_get flow q ≡ o → HasKinds service flow (at_point service o (run service flow g) rests st)
+      by_point : ((q1 : ℕ) (rs1 : Rests) (st1 : State) → Arrives service flow q1 st1 → Told service flow Any (run service flow g q1 rs1 st1)) →
+          (o : Option Step) → slice_get flow q ≡ o → Told service flow Any (at_point service o (run service flow g) rests st)
       by_point ih None e = tt
       by_point ih (Some x) e =
-          does_kinds q x e (run service flow g) ih x.act refl rests (cut (length x.scope) st) (record {
+          does_kinds Any q x e (run service flow g) ih x.act refl rests (cut (length x.scope) st) (record {
             locals = a.there x e;
             shared = a.shared;
             inputs = a.inputs;
           })
+
+  pub run_kinds : (g q : ℕ) (rests : Rests) (st : State) → Arrives service flow q st → HasKinds service flow (run service flow g q rests st)
+  run_kinds g q rests st a = told_kinds service flow (run service flow g q rests st) (run_told g q rests st a)
+
+  -- A point that goes on leaves the kinds that are due at the next one. The units stand for the place.
+  pub comes_on : (p : ℕ) (x : Step) → IsAt flow p x → (rests : Rests) (st : State) → Fits service x.scope st →
+      Told service flow (λ s. Arrives service flow s.units s) (does service x.act x (λ q rs s. Went (record s { units = q })) rests st)
+  comes_on p x at rests st f =
+      does_kinds (λ s. Arrives service flow s.units s) p x at (λ q rs s. Went (record s { units = q }))
+      (λ q rs s a. record { there = a.there; shared = a.shared; inputs = a.inputs }) x.act refl rests st f
 
   -- behind a show, once its input is taken
   pub arrives_behind : (p : ℕ) (x : Step) (e : Term) (rs : List Received) (l : Values) (i : Input) (later : List Input) → IsAt flow p x →
@@ -361,7 +277,7 @@ module _ (service : Service) (flow : List Step) (typed : IsTypedFlow service flo
       let one = subst (λ a. HasNexts a x.next) is (nexts p x at) in
       let t = subst (λ a. IsTypedAct service x.scope a) is (typed.acts p x at) in
       arrives_kept service flow x (first_of x.next) (taken (map plain rs) l i later) (fits_taken service x.scope rs l i later t.1 el es ei)
-      (kept_at p x at (λ q rs1 st1. Failed Spent 0) (λ q rs1 st1 a. tt) (first_of x.next) (among_one x.next one.0 one.1)
+      (kept_at Any p x at (λ q rs1 st1. Failed Spent 0) (λ q rs1 st1 a. tt) (first_of x.next) (among_one x.next one.0 one.1)
       (λ l1 b. subst (λ a. BringsIn service x.scope a l1) is b))
 
 -- at a session's first point there is no local

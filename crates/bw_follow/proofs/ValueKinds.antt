@@ -22,12 +22,12 @@ use Rattle.bw_lang.specs.Measures.{text_measure, plugged, tested}
 use Rattle.bw_lang.specs.Names as names
 use Rattle.bw_lang.specs.Names.{same, beside}
 use Rattle.bw_lang.specs.Term.{Term, int, truth, string, name, paren, not, neg, binary, call, plug, nothing, Fillings, no_more, filling}
-use Rattle.bw_types.specs.ExpressionFaults.{OpSort, op_sort, fun_takes, fun_gives}
-use Rattle.bw_types.specs.Scopes.{Scope, is_among, shared_kind, variable_kind, template_kind, name_kind}
+use Rattle.bw_types.specs.ExpressionFaults.{op_sort, fun_takes, fun_gives}
+use Rattle.bw_types.specs.Scopes.{Scope, is_among, variable_kind, name_kind}
 use Rattle.bw_types.specs.Typing.{HasKind, AreTyped, Takes}
 use Rattle.bw_meaning.specs.Expressions.{Evaluated, Gives, Faults, paid, and_then, given, named, eval, fill}
 use Rattle.bw_meaning.specs.Numbers.{fits}
-use Rattle.bw_meaning.specs.Operators.{held, joined, sum, divided, decides, combined, called, filled, with_tree, document_of, truth_of, number_of, text_of}
+use Rattle.bw_meaning.specs.Operators.{held, joined, sum, divided, decides, combined, called, filled, with_tree, document_of, number_of, text_of}
 use Rattle.bw_meaning.specs.Values.{Value, Values, Document, number, truth_value, text, document, list, constant, template_value}
 use Rattle.bw_follow.specs.Kinds.{kind_of, kinds_of, AreShared, GivesKind, ValuesHaveKinds}
 

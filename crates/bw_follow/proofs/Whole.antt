@@ -1,7 +1,7 @@
 -- A whole session: what the flow does from its first point, and from behind a show.
-use Rattle.std.proofs.Common.{◌≡◌, ℕ, zero, suc, ◌+◌, ◌<◌, ◌≤◌, Bool, true, false, List, [], ◌∷◌, map, take, length, Option, Some, None, refl, sym, ap}
+use Rattle.std.proofs.Common.{◌≡◌, ℕ, zero, suc, ◌+◌, ◌<◌, Bool, true, false, List, [], ◌∷◌, map, take, length, Option, Some, None, refl, sym, ap}
 use Rattle.std.proofs.Common.{◌∙◌, subst, arith, ⊎_elim}
-use Rattle.std.specs.Prelude.{◌==◌, nat_lt, if◌then◌else◌, slice_get, sum_by, unwrap_or}
+use Rattle.std.specs.Prelude.{◌==◌, nat_lt, if◌then◌else◌, slice_get, unwrap_or}
 use Rattle.std.proofs.lemmas.Bool.{cases_lt}
 use Rattle.std.proofs.lemmas.List.{length-map}
 use Rattle.std.proofs.lemmas.List.Sums.{sum_by-cons}
@@ -17,24 +17,22 @@ use Rattle.std.specs.List.{All}
 use Rattle.std.proofs.lemmas.List.Elements.{All-head, All-tail}
 use Rattle.bw_follow.proofs.Closing.{closes, closes_is}
 use Rattle.bw_flow.specs.Steps.{Step}
-use Rattle.bw_flow.specs.Steps as acts
 use Rattle.bw_flow.proofs.Stands.{stands_for_all}
 use Rattle.bw_flow.proofs.Numbered.{all_have_numbers}
 use Rattle.bw_meaning.specs.Expressions.{Evaluated, Gives, Faults, eval}
-use Rattle.bw_meaning.specs.GoOn.{behind, with_rest, body_of, turn, go_on}
+use Rattle.bw_meaning.specs.GoOn.{behind, with_rest, body_of, go_on}
 use Rattle.bw_lang.specs.Numbers.{first_number, statements}
 use Rattle.bw_meaning.specs.Operators.{document_of, truth_of, list_of}
 use Rattle.bw_meaning.specs.Pages.{exit_fault}
-use Rattle.bw_meaning.specs.States.{State, Outcome, Went, Shown, Exited, Failed, Rests, Answered, budget}
+use Rattle.bw_meaning.specs.States.{State, Outcome, Went, Shown, Exited, Failed, Answered, budget}
 use Rattle.bw_meaning.specs.Statements.{declared, add_local, store, taken, when_paid, when_given, with_value, begin, then_do, unless_fault, leave, refills}
 use Rattle.bw_meaning.specs.Statements.{room, turns, add_rest, each, shows, exits, exec}
 use Rattle.bw_meaning.specs.Values.{Document, Value, Values, list_weight}
-use Rattle.bw_follow.specs.Laws.{Settles, TurnsAgree, GoingOnAgrees, IsFit, IsOf}
-use Rattle.bw_meaning.specs.Values.{names_of}
+use Rattle.bw_follow.specs.Laws.{Settles, TurnsAgree, GoingOnAgrees}
 use Rattle.bw_follow.specs.Runs.{cut, plain, first_of, at_point, run}
-use Rattle.bw_follow.specs.Scoped.{names_in, IsReady}
 use Rattle.bw_flow.specs.Scoped.{IsScoped}
-use Rattle.bw_follow.proofs.Sim.{settles_step, settles_to, on, Means, sim}
+use Rattle.bw_follow.proofs.Settling.{settles_step, settles_to, on, Means}
+use Rattle.bw_follow.proofs.Sim.{sim}
 use Rattle.bw_follow.proofs.Back.{back}
 
 -- ---- a session never comes to the end of its statements

@@ -1,5 +1,5 @@
 -- The values that a session has are of the kinds of their variables.
-use Rattle.std.specs.Prelude.{◌≡◌, ℕ, List, [], map, slice_get, Some}
+use Rattle.std.specs.Prelude.{◌≡◌, ℕ, List, map, slice_get, Some}
 use Rattle.std.specs.List.{All}
 use Rattle.bw_lang.specs.declared.service.Service.{Service}
 use Rattle.bw_lang.specs.declared.stmt.Kind.{Kind}

@@ -40,6 +40,13 @@ pub record IsOf (service : Service) (session number : ℕ) : Type 0 where
   pub from : first_number service session ≤ number
   pub below : number < first_number service session + numbered (body_of service session)
 
+-- With these locals and rests the session waits at a show of the flow, which is one of its own: whatever the input, its frame
+-- is fit.
+abbrev pub IsFitShow : Service → ℕ → Input → ℕ → Values → Rests → Type 0
+IsFitShow service session i at locals rests =
+    (p : ℕ) × (x : Step) × (e : Term) × (rs : List Received) × (slice_get (plan_of service).steps p ≡ Some x) × (x.act ≡ acts.shows e rs)
+    × IsFit x (answered at locals rests i) × IsOf service session at
+
 -- from behind a show, once its input is taken, the flow gives what the session goes on with
 abbrev pub GoingOnAgrees : Type 0
 GoingOnAgrees =
@@ -54,8 +61,7 @@ ShownIsFit =
     (shown : Document) (sh : Values) (units : ℕ) →
     let plan = plan_of service in
     IsReady service → slice_get plan.firsts session ≡ Some first → turn service session shared inputs ≡ Shown at locals rests shown sh units →
-    (p : ℕ) × (x : Step) × (e : Term) × (rs : List Received) × (slice_get plan.steps p ≡ Some x) × (x.act ≡ acts.shows e rs)
-    × IsFit x (answered at locals rests i) × IsOf service session at
+    IsFitShow service session i at locals rests
 
 -- the same where it goes on from a show
 abbrev pub ShownAgainIsFit : Type 0
@@ -65,8 +71,7 @@ ShownAgainIsFit =
     let plan = plan_of service in
     IsReady service → slice_get plan.steps p0 ≡ Some x0 → x0.act ≡ acts.shows e0 rs0 → IsFit x0 a → IsOf service session x0.number →
     go_on service session a ≡ Shown at locals rests shown sh units →
-    (p : ℕ) × (x : Step) × (e : Term) × (rs : List Received) × (slice_get plan.steps p ≡ Some x) × (x.act ≡ acts.shows e rs)
-    × IsFit x (answered at locals rests i) × IsOf service session at
+    IsFitShow service session i at locals rests
 
 -- each service that is well typed is ready
 abbrev pub TypedIsReady : Type 0

@@ -9,31 +9,23 @@ use Rattle.bw_http.specs.Cuts.{Cut}
 use Rattle.bw_http.specs.Replies.{bytes_of}
 use Rattle.bw_lang.specs.declared.service.Service.{Service}
 use Rattle.bw_lang.specs.Names.{with_names}
+use Rattle.bw_out.specs.Told.{Coming, later_words}
 use Rattle.bw_types.specs.Fields.{field_names}
 use Rattle.bw_model.specs.Sessions.{World}
 use Rattle.bw_model.specs.Steps.{step}
 
--- where a stream stands: the world, and the bytes and the keys to come
+-- where a stream stands: the world, the bytes to come, and the keys to come
 pub record At : Type 0 where
   pub world : World
   pub bytes : List ℕ
-  pub keys : List ℕ
-
--- the next key that is drawn, where 0 follows the last one, and those behind it
-abbrev pub next_key : List ℕ → ℕ
-next_key [] = 0
-next_key (k ∷ ks) = k
-
-abbrev pub later_keys : List ℕ → List ℕ
-later_keys [] = []
-later_keys (k ∷ ks) = ks
+  pub keys : Coming
 
 -- One message is handled, by this reply at this cost: a request by the step of the world, with the next key; or there was
 -- no memory for a whole message, and the world stays.
 pub data Turn (service : Service) (at : At) (reply : Reply) (cost : ℕ) (to : At) : Type 0 where
-  request : (r : Request) → Cut at.bytes (Ok r) to.bytes → step service at.world r (next_key at.keys) ≡ record { reply = reply; world = to.world; cost = cost }
-      → to.keys ≡ later_keys at.keys → Turn service at reply cost to
-  no_memory : Cut at.bytes (Err outcomes.Memory) to.bytes → reply ≡ replies.Memory → to.world ≡ at.world → (to.keys ≡ at.keys) ⊎ (to.keys ≡ later_keys at.keys)
+  request : (r : Request) → Cut at.bytes (Ok r) to.bytes → step service at.world r (at.keys 0) ≡ record { reply = reply; world = to.world; cost = cost }
+      → to.keys ≡ later_words at.keys → Turn service at reply cost to
+  no_memory : Cut at.bytes (Err outcomes.Memory) to.bytes → reply ≡ replies.Memory → to.world ≡ at.world → (to.keys ≡ at.keys) ⊎ (to.keys ≡ later_words at.keys)
       → cost ≤ 100000 → Turn service at reply cost to
 
 -- messages are handled one after another, by these replies

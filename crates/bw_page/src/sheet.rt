@@ -25,6 +25,13 @@ impl Model for Sheet {
 }
 
 impl Sheet {
+    /// These bytes as they stand.
+    pub fn from_bytes(bytes: Vec<u8>) -> Sheet
+        ensures { result ≡ bytes.items }
+    {
+        Sheet { bytes }
+    }
+
     /// The page that this tree prints to, open gaps left out.
     pub fn of(alloc: Global, page: &Tree) -> Result<Sheet, Memory>
         ensures { IfOk result (λ sheet. sheet ≡ print page.now.items) }
@@ -36,7 +43,7 @@ impl Sheet {
         match print(page, &mut sink) {
             Ok(()) => {
                 let Growing { bytes, faults: _ } = sink;
-                Ok(Sheet { bytes })
+                Ok(Sheet::from_bytes(bytes))
             }
             Err(WriteFault) => Err(Memory),
         }
@@ -48,7 +55,7 @@ impl Sheet {
     {
         let mut bytes = Vec::new(alloc);
         bytes.extend_from_slice(text.as_bytes())?;
-        Ok(Sheet { bytes })
+        Ok(Sheet::from_bytes(bytes))
     }
 
     /// The number of its bytes.

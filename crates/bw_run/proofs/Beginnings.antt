@@ -7,8 +7,7 @@ use Rattle.bw_lang.specs.Names.{same}
 use Rattle.bw_doc.specs.Made as made
 use Rattle.bw_doc.specs.Made.{Made}
 use Rattle.bw_doc.specs.Operations.{items_in, items_at}
-use Rattle.bw_eval.proofs.Templates.{found_at}
-use Rattle.bw_run.proofs.Places.{get_within}
+use Rattle.bw_eval.proofs.Templates.{found_at, get_within}
 use Rattle.std.proofs.lemmas.List.{map-append}
 use Rattle.std.proofs.lemmas.List.Elements.{All-append, All-cons, All-nil}
 use Rattle.bw_lang.specs.declared.service.Service.{Service}
@@ -62,7 +61,8 @@ constant_some : (n : ℕ) (o : Option Template) → is_some o ≡ true →
 constant_some n None e = cc
 constant_some n (Some t) e = refl
 
-pub template_some : (service : Service) (w : List ℕ) (n : ℕ) (d : Made) → position (λ (t : Template). same w t.name) service.templates ≡ Some n → d ≡ made.constant n (items_at service.templates n) →
+pub template_some : (service : Service) (w : List ℕ) (n : ℕ) (d : Made) →
+    position (λ (t : Template). same w t.name) service.templates ≡ Some n → d ≡ made.constant n (items_at service.templates n) →
     meaning.template_value service w ≡ Some (meaning.document (document d))
 template_some service w n d e ed =
     let h = found_at (λ (t : Template). same w t.name) service.templates n e in

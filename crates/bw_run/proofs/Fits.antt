@@ -19,7 +19,7 @@ use Rattle.bw_meaning.specs.States.{Input, Answered, Outcome, Shown}
 use Rattle.bw_meaning.specs.Values as meaning
 use Rattle.bw_meaning.specs.Values.{names_of}
 use Rattle.bw_eval.specs.View.{document, values}
-use Rattle.bw_run.proofs.Places.{get_within}
+use Rattle.bw_eval.proofs.Templates.{get_within}
 use Rattle.bw_follow.specs.Kinds as kinds
 use Rattle.bw_follow.specs.Kinds.{kinds_of, kinds_in, HasKinds}
 use Rattle.bw_follow.specs.Laws.{IsFit, IsOf}
@@ -31,8 +31,8 @@ use Rattle.bw_run.specs.declared.turn.Turn.{Turn}
 use Rattle.bw_run.specs.declared.turn.Turn.TheVariants as turns
 use Rattle.bw_run.specs.Fit.{IsFitTurn, IsSoundTurn}
 use Rattle.bw_run.specs.Turns.{turned}
-use Rattle.bw_run.specs.Walks.{number_of, number_at, IsWalkable}
-use Rattle.bw_run.proofs.Walkable.{walkable}
+use Rattle.bw_run.specs.Walks.{number_of, number_at}
+use Rattle.bw_run.proofs.Walkable.{IsWalkable, walkable}
 
 -- the names of values are those of their kinds
 names_of_kinds : (l : meaning.Values) → map (λ p. p.0) (kinds_of l) ≡ names_of l

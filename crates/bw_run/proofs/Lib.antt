@@ -1,10 +1,11 @@
 pub mod Beginnings
+pub mod Due
 pub mod Fits
+pub mod Keeping
 pub mod Measures
 pub mod Missed
 pub mod More
 pub mod Own
-pub mod Places
 pub mod Receivings
 pub mod Resumed
 pub mod Started

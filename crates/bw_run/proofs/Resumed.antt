@@ -33,6 +33,14 @@ use Rattle.bw_follow.proofs.Whole.{going_on_agrees}
 pub fields_are : (x y : Step) (page : Term) (fields rs : List Received) → x ≡ y → y.act ≡ acts.shows page fields → fields_of x.act ≡ rs → fields ≡ rs
 fields_are x y page fields rs e a h = sym (ap fields_of a) ∙ sym (ap (λ (u : Step). fields_of u.act) e) ∙ h
 
+-- what stands behind a show, once the form is received, is the state with the input taken
+pub taken_is : (fields rs : List Received) (l l0 shared sh0 : List (List ℕ × Value)) (form : Form) (s0 : Standing) → fields ≡ rs → l0 ≡ l → sh0 ≡ shared →
+    state s0 ≡ received (map plain rs) form (record { locals = values l0; shared = values sh0; units = budget; inputs = [] }) →
+    state s0 ≡ taken (map plain fields) (values l) (record { form = form; shared = values shared }) []
+taken_is fields rs l l0 shared sh0 form s0 ef el es est =
+    est ∙ ap (λ fs. received (map plain fs) form (record { locals = values l0; shared = values sh0; units = budget; inputs = [] })) (sym ef)
+    ∙ (λ j. received (map plain fields) form (record { locals = values (el j); shared = values (es j); units = budget; inputs = [] }))
+
 pub resumed : (typed : Typed) (flow : Plan) (session q : ℕ) (x : Step) (page : Term) (fields rs : List Received) (frame : Frame)
     (l0 shared sh0 : List (List ℕ × Value)) (form : Form) (result : Result Turn TurnFault) (stop : Result Stop TurnFault) (before after : ℕ)
     (s0 s1 : Standing) →
@@ -60,9 +68,7 @@ resumed typed flow session q x page fields rs frame l0 shared sh0 form result st
       rests = er;
     }) (subst (IsOf service session) ek of) in
     let law1 = subst (λ (f : Plan). Settles (λ g. run service f.steps g (first_of x.next) rests st) (go_on service session a)) (sym ew) law in
-    let same : state s0 ≡ st = est
-    ∙ ap (λ fs. received (map plain fs) form (record { locals = values l0; shared = values sh0; units = budget; inputs = [] })) (sym ef)
-    ∙ (λ j. received (map plain fields) form (record { locals = values (el j); shared = values (es j); units = budget; inputs = [] })) in
+    let same = taken_is fields rs frame.locals l0 shared sh0 form s0 ef el es est in
     let run2 = subst (λ z. Settles (λ g. run service flow.steps g z s0.rests (state s0)) (stopped flow.steps stop s1)) eq run1 in
     let run3 = subst (λ z. Settles (λ g. run service flow.steps g (first_of x.next) z (state s0)) (stopped flow.steps stop s1)) ers run2 in
     let run4 = subst (λ z. Settles (λ g. run service flow.steps g (first_of x.next) rests z) (stopped flow.steps stop s1)) same run3 in

@@ -23,7 +23,14 @@ use Rattle.bw_flow.proofs.OfTyped.{nexts_are_inside}
 use Rattle.bw_follow.specs.Runs.{first_of, second_of}
 use Rattle.bw_typed.proofs.ShortServices.{sessions_have_short}
 use Rattle.bw_run.specs.Code.{ActIsShort}
-use Rattle.bw_run.specs.Walks.{rank_of, rank, IsWalkable}
+use Rattle.bw_run.specs.Walks.{rank_of, rank}
+
+-- points lead to points, joins alone make no circle, and string literals are short
+pub record IsWalkable (flow : List Step) : Type 0 where
+  pub first : (p : ℕ) (x : Step) → IsAt flow p x → first_of x.next < length flow
+  pub second : (p : ℕ) (x : Step) → IsAt flow p x → second_of x.next < length flow
+  pub joins : (p : ℕ) (x : Step) → IsAt flow p x → is_join x.act ≡ true → rank flow (first_of x.next) < rank flow p
+  pub short : (p : ℕ) (x : Step) → IsAt flow p x → ActIsShort x.act
 
 -- ---- literals
 

@@ -1,17 +1,21 @@
 -- What the code's values stand for.
-use Rattle.std.specs.Prelude.{◌≡◌, ℕ, true, List, [], Option, Some, None, Result, Ok, Err}
+use Rattle.std.specs.Prelude.{◌≡◌, ◌≤◌, ℕ, ◌+◌, true, List, [], Option, Some, None, Result, Ok, Err, IfOk, OnOk}
 use Rattle.std.specs.List.{All}
+use Rattle.bw_lang.specs.declared.service.Service.{Service}
 use Rattle.bw_lang.specs.declared.service.Template.{Template}
 use Rattle.bw_lang.specs.declared.turn.TurnFault.{TurnFault}
+use Rattle.bw_lang.specs.Term.{Term}
 use Rattle.bw_typed.specs.ShortStrings.{HasShort}
 use Rattle.bw_flow.specs.Steps.{Act, Step}
 use Rattle.bw_flow.specs.Steps as acts
-use Rattle.bw_follow.specs.Runs.{first_of, second_of, is_show, Next}
+use Rattle.bw_follow.specs.Runs.{first_of, second_of, is_show, Next, does}
 use Rattle.bw_meaning.specs.States.{State, Outcome, Shown, Exited, Failed}
 use Rattle.bw_meaning.specs.Values as meaning
 use Rattle.bw_doc.specs.Made.{Made}
 use Rattle.bw_doc.specs.Operations.{IsOf}
 use Rattle.bw_eval.specs.declared.value.Value.{Value}
+use Rattle.bw_eval.specs.Bases.{HasBases, GivesDocuments}
+use Rattle.bw_eval.specs.Evaluations.{HasMemory}
 use Rattle.bw_eval.specs.Sound.{IsShort, AreSound}
 use Rattle.bw_eval.specs.View.{document, value, values}
 use Rattle.bw_run.specs.declared.standing.Standing.{Standing}
@@ -82,3 +86,36 @@ StopsWell templates a First = Unit {0}
 StopsWell templates a Second = Unit {0}
 StopsWell templates a (Waits d) = (is_show a ≡ true) × IsOf templates d
 StopsWell templates a (Ends d) = IsOf templates d
+
+-- ---- what a point asks and gives
+
+-- An expression can be evaluated: its string literals are short, its plugs go into documents, and all at hand is sound.
+pub record CanEvaluate (service : Service) (e : Term) (s : Standing) : Type 0 where
+  pub short : HasShort e
+  pub bases : HasBases service (values s.locals) (values s.shared) e
+  pub sound : IsSound service.templates s
+
+-- and its values are documents
+pub record CanShow (service : Service) (e : Term) (s : Standing) : Type 0 where
+  pub evaluates : CanEvaluate service e s
+  pub documents : GivesDocuments service (values s.locals) (values s.shared) e
+
+-- a point can do this
+abbrev pub CanDo : Service → Act → Standing → Type 0
+CanDo service (acts.sets w e) s = CanEvaluate service e s
+CanDo service (acts.tests e) s = CanEvaluate service e s
+CanDo service (acts.goes_over w e) s = CanEvaluate service e s
+CanDo service (acts.shows e rs) s = CanShow service e s
+CanDo service (acts.exits e) s = CanShow service e s
+CanDo service acts.joins s = IsSound service.templates s
+
+-- A point did this, with this answer, and the counter rose from the one number to the other.
+pub record Does (service : Service) (a : Act) (x : Step) (old new : Standing) (before after : ℕ) (result : Result Stepped TurnFault) : Type 0 where
+  -- it is what the flow does there, wherever that goes on
+  pub does_so : (next : Next) → HasMemory result → does service a x next old.rests (state old) ≡ stepped result x next new
+  -- each unit is a step
+  pub steps : after + new.units ≡ before + old.units
+  pub left : new.units ≤ old.units
+  pub paid : IfOk result (λ s. new.units + pays a s ≤ old.units)
+  pub stops : IfOk result (StopsWell service.templates a)
+  pub sound : OnOk result (IsSound service.templates new)

@@ -1,5 +1,5 @@
 -- Walking over a flow.
-use Rattle.std.specs.Prelude.{◌≡◌, ◌<◌, ℕ, ◌+◌, ◌*◌, ◌-◌, true, List, length, slice_get, Option, Some, None, if◌then◌else◌, Result, Ok, Err}
+use Rattle.std.specs.Prelude.{◌≡◌, ◌<◌, ℕ, ◌+◌, ◌*◌, ◌-◌, true, List, length, take, slice_get, Option, Some, None, if◌then◌else◌, Result, Ok, Err}
 use Rattle.bw_lang.specs.declared.service.Service.{Service}
 use Rattle.bw_lang.specs.declared.turn.TurnFault.{TurnFault}
 use Rattle.bw_flow.specs.Flows.{is_join}
@@ -12,10 +12,12 @@ use Rattle.bw_run.specs.declared.walk.Advance.TheVariants as advances
 use Rattle.bw_run.specs.declared.walk.Stop.{Stop}
 use Rattle.bw_run.specs.declared.walk.Stop.TheVariants as stops
 use Rattle.bw_eval.specs.View.{document, values}
-use Rattle.bw_run.specs.Code.{state, ActIsShort}
+use Rattle.bw_follow.specs.Kinds as kinds
+use Rattle.bw_follow.specs.Kinds.{kinds_of, kinds_in}
+use Rattle.bw_run.specs.Code.{state}
 use Rattle.bw_lang.specs.declared.service.Template.{Template}
 use Rattle.bw_doc.specs.Operations.{IsOf}
-use Rattle.bw_follow.specs.Runs.{first_of, second_of, is_show, run}
+use Rattle.bw_follow.specs.Runs.{is_show, run}
 
 -- the number of the statement at a place
 abbrev pub number_of : Option Step → ℕ
@@ -59,13 +61,6 @@ IsLess flow p old new (advances.To q) = measure flow q new < measure flow p old
 IsLess flow p old new (advances.Waits d) = Unit {0}
 IsLess flow p old new (advances.Ends d) = Unit {0}
 
--- points lead to points, joins alone make no circle, and string literals are short
-pub record IsWalkable (flow : List Step) : Type 0 where
-  pub first : (p : ℕ) (x : Step) → IsAt flow p x → first_of x.next < length flow
-  pub second : (p : ℕ) (x : Step) → IsAt flow p x → second_of x.next < length flow
-  pub joins : (p : ℕ) (x : Step) → IsAt flow p x → is_join x.act ≡ true → rank flow (first_of x.next) < rank flow p
-  pub short : (p : ℕ) (x : Step) → IsAt flow p x → ActIsShort x.act
-
 -- a show stands at that place
 abbrev pub AtShow : List Step → ℕ → Type 0
 AtShow flow p = (x : Step) × IsAt flow p x × (is_show x.act ≡ true)
@@ -79,3 +74,15 @@ AdvancesWell templates flow at (advances.Ends d) = IsOf templates d
 abbrev pub IsSoundStop : List Template → List Step → Stop → Type 0
 IsSoundStop templates flow (stops.Waits p d) = AtShow flow p × IsOf templates d
 IsSoundStop templates flow (stops.Ends d) = IsOf templates d
+
+-- At that place there is a value of its kind for each local in scope, which may stand in front of others, and for each
+-- shared variable.
+pub record HasKindsAt (service : Service) (flow : List Step) (p : ℕ) (s : Standing) : Type 0 where
+  pub locals : (x : Step) → IsAt flow p x → kinds_of (take (length x.scope) (values s.locals)) ≡ kinds_in x.scope
+  pub shared : kinds.AreShared service (values s.shared)
+
+-- so it is where a turn goes from a point
+abbrev pub AdvancesTo : Service → List Step → Standing → Advance → Type 0
+AdvancesTo service flow s (advances.To q) = HasKindsAt service flow q s
+AdvancesTo service flow s (advances.Waits d) = Unit {0}
+AdvancesTo service flow s (advances.Ends d) = Unit {0}

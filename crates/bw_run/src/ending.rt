@@ -50,7 +50,8 @@ fn carried(doc: &Doc, locals: &Values, rests: &Rests) -> Option<u64>
 
 /// The locals, the rests and the document together weigh at most 1,048,576.
 fn session_test(doc: &Doc, locals: &Values, rests: &Rests) -> Result<(), TurnFault>
-    ensures { HasMemory result → tested result ≡ spec.over 1048576 SessionHeavy (weights (values locals.now) + rests_weight rests.now + (measure doc.now).weight) }
+    ensures { HasMemory result →
+        tested result ≡ spec.over 1048576 SessionHeavy (weights (values locals.now) + rests_weight rests.now + (measure doc.now).weight) }
 {
     let weight = match carried(doc, locals, rests) {
         Some(weight) => weight,
@@ -72,7 +73,8 @@ pub fn exit_test(doc: &Doc, shared: &Values) -> Result<(), TurnFault>
 
 /// The tests at a show.
 pub fn show_test(doc: &Doc, standing: &Standing) -> Result<(), TurnFault>
-    ensures { HasMemory result → tested result ≡ spec.show_fault (document doc.now) (values standing.now.locals) (rests_weight standing.now.rests) (values standing.now.shared) }
+    ensures { HasMemory result →
+        tested result ≡ spec.show_fault (document doc.now) (values standing.now.locals) (rests_weight standing.now.rests) (values standing.now.shared) }
 {
     page_test(doc)?;
     session_test(doc, &standing.locals, &standing.rests)?;

@@ -65,10 +65,14 @@ fn receive(
     form: &Submission,
     standing: &mut Standing,
 ) -> Result<(), Memory>
-    ensures state { OnOk result (state standing.new ≡ spec.store received.now.target (forms.received_value (spec.variable received.now.target (state standing.old)) (values_of received.now.field form.now)) (state standing.old)) }
+    ensures state { OnOk result (state standing.new ≡
+        spec.store received.now.target
+        (forms.received_value (spec.variable received.now.target (state standing.old)) (values_of received.now.field form.now))
+        (state standing.old)) }
     ensures rests { standing.new.rests ≡ standing.old.rests }
     ensures units { standing.new.units ≡ standing.old.units }
-    ensures sound { (templates : List Template) → IsSound templates standing.old → AreShort (values_of received.now.field form.now) → OnOk result (IsSound templates standing.new) }
+    ensures sound { (templates : List Template) → IsSound templates standing.old → AreShort (values_of received.now.field form.now) →
+        OnOk result (IsSound templates standing.new) }
 {
     let values = values(alloc, form, &received.field)?;
     let new = received_value(alloc, standing.variable(&received.target), values)?;
@@ -86,7 +90,8 @@ pub fn receive_all(
     ensures state { OnOk result (state standing.new ≡ spec.received (map plain receives.now) form.now (state standing.old)) }
     ensures rests { standing.new.rests ≡ standing.old.rests }
     ensures units { standing.new.units ≡ standing.old.units }
-    ensures sound { (templates : List Template) → IsSound templates standing.old → All (λ r. AreShort (values_of r.field form.now)) receives.now → OnOk result (IsSound templates standing.new) }
+    ensures sound { (templates : List Template) → IsSound templates standing.old → All (λ r. AreShort (values_of r.field form.now)) receives.now →
+        OnOk result (IsSound templates standing.new) }
 {
     for received in receives {
         receive(alloc, received, form, standing)?;

@@ -1,16 +1,83 @@
 //! What is still to come of foreachs.
-ghost use Rattle.std.specs.Prelude.{◌≡◌, ◌++◌, ◌∷◌, ◌-◌, [], IfOk, IfSome, OnOk, OnErr, length, take, slice_get};
+ghost use Rattle.std.specs.Prelude.{◌≡◌, ◌++◌, ◌∷◌, ◌-◌, [], IfOk, IfSome, OnOk, OnErr, MatchOption, length, take, slice_get};
 ghost use Rattle.bw_follow.specs.Runs.{rests_weight};
+ghost use Rattle.bw_meaning.specs.Values.{list_weight};
 
 use bw_eval::words_weight;
-use bw_lang::{Memory, Words};
+use bw_lang::{Memory, Text, Words};
 use std::alloc::Global;
 use std::marker::Model;
+
+/// The strings still to come of one foreach. Those that were taken stay where they are, so that to take one costs the same
+/// however many are to come.
+#[derive(Drop)]
+pub struct Rest {
+    strings: Words,
+    taken: usize,
+}
+
+impl Model for Rest {
+    ghost use Rattle.std.specs.Prelude.{ℕ, List, drop, length, ◌≤◌};
+
+    ghost Value = { List (List ℕ) };
+
+    ghost view = { λ r. drop r.taken r.strings };
+
+    ghost invariant = { λ r. r.taken ≤ length r.strings };
+}
+
+impl Rest {
+    /// All of these strings.
+    pub fn of(strings: Words) -> Rest
+        ensures { result ≡ strings }
+    {
+        Rest { strings, taken: 0 }
+    }
+
+    /// Takes the first string out, if there is one.
+    pub fn take_first(&mut self) -> Result<Option<Text>, Memory>
+        ensures { IfOk result (λ first. MatchOption first ((self.old ≡ []) × (self.new ≡ [])) (λ string. self.old ≡ string ∷ self.new)) }
+    {
+        match self.strings.as_slice().get(self.taken) {
+            None => Ok(None),
+            Some(string) => {
+                let first = string.copy()?;
+                self.taken += 1;
+                Ok(Some(first))
+            }
+        }
+    }
+
+    /// The strings in their order.
+    fn as_slice(&self) -> &[Text]
+        ensures { result.now ≡ self.now }
+    {
+        &self.strings.as_slice()[self.taken..]
+    }
+
+    /// Equal strings with memory of their own.
+    fn copy(&self, alloc: Global) -> Result<Rest, Memory>
+        ensures { IfOk result (λ r. r ≡ self.now) }
+    {
+        let mut strings = Words::new(alloc);
+        for string in self.as_slice() {
+            strings.push(string.copy()?)?;
+        }
+        Ok(Rest::of(strings))
+    }
+
+    /// What they weigh, unless that is too great for a number of 64 bits.
+    fn weight(&self) -> Option<u64>
+        ensures { IfSome result (λ w. w ≡ list_weight self.now) }
+    {
+        words_weight(self.as_slice())
+    }
+}
 
 /// The strings still to come of the foreachs around a place, the outermost first.
 #[derive(Drop)]
 pub struct Rests {
-    list: Vec<Words>,
+    list: Vec<Rest>,
 }
 
 impl Model for Rests {
@@ -39,7 +106,7 @@ impl Rests {
     }
 
     /// A foreach inside the others.
-    pub fn push(&mut self, rest: Words) -> Result<(), Memory>
+    pub fn push(&mut self, rest: Rest) -> Result<(), Memory>
         ensures ok { OnOk result (self.new ≡ self.old ++ rest ∷ []) }
         ensures err { OnErr result (self.new ≡ self.old) }
     {
@@ -48,7 +115,7 @@ impl Rests {
     }
 
     /// Takes the innermost out.
-    pub fn pop(&mut self) -> Option<Words>
+    pub fn pop(&mut self) -> Option<Rest>
         ensures rest { result ≡ slice_get self.old (length self.old - 1) }
         ensures outer { self.new ≡ take (length self.old - 1) self.old }
     {
@@ -59,9 +126,10 @@ impl Rests {
     pub fn copy(&self) -> Result<Rests, Memory>
         ensures { IfOk result (λ r. r ≡ self.now) }
     {
-        let mut list = Vec::new(*self.list.allocator());
+        let alloc = *self.list.allocator();
+        let mut list = Vec::new(alloc);
         for rest in &self.list {
-            list.push(rest.copy()?)?;
+            list.push(rest.copy(alloc)?)?;
         }
         Ok(Rests { list })
     }
@@ -72,7 +140,7 @@ impl Rests {
     {
         let mut total: u64 = 0;
         for rest in &self.list {
-            total = total.checked_add(words_weight(rest)?)?;
+            total = total.checked_add(rest.weight()?)?;
         }
         Some(total)
     }

@@ -1,17 +1,17 @@
 //! What a turn works on.
 ghost use Rattle.std.specs.Prelude.{◌≡◌, ◌+◌, ◌<◌, ◌≤◌, IfOk, List};
 ghost use Rattle.bw_doc.specs.Operations.{IsOf};
+ghost use Rattle.bw_eval.specs.Bases.{IsDocument, GivesDocuments};
 ghost use Rattle.bw_eval.specs.Evaluations.{HasMemory};
 ghost use Rattle.bw_eval.specs.Sound.{IsSound as IsKept};
-ghost use Rattle.bw_eval.specs.View.{value};
+ghost use Rattle.bw_eval.specs.View.{value, values};
 ghost use Rattle.bw_follow.specs.Runs.{cut};
 ghost use Rattle.bw_lang.specs.declared.service.Template.{Template};
 ghost use Rattle.bw_lang.specs.TermView.{term};
 ghost use Rattle.bw_meaning.specs.States.{State, Outcome};
 ghost use Rattle.bw_meaning.specs.Statements as spec;
 ghost use Rattle.bw_meaning.specs.Values as meaning;
-ghost use Rattle.bw_run.specs.Code.{state, begun, begun_document, IsSound};
-ghost use Rattle.bw_typed.specs.ShortStrings.{HasShort};
+ghost use Rattle.bw_run.specs.Code.{state, begun, begun_document, IsSound, CanEvaluate, CanShow};
 
 use crate::rests::Rests;
 use bw_doc::Doc;
@@ -39,9 +39,9 @@ pub fn evaluates<L: Ledger>(
     standing: &mut Standing,
     steps: &mut Steps<L>,
 ) -> Result<Value, TurnFault>
-    requires short { HasShort (term expr.now) }
-    requires sound { IsSound typed.now.service.templates standing.old }
-    ensures value { (go : meaning.Value → State → Outcome) → HasMemory result → spec.with_value typed.now.service (term expr.now) (state standing.old) go ≡ begun result go (state standing.old) standing.new.units }
+    requires { CanEvaluate typed.now.service (term expr.now) standing.old }
+    ensures value { (go : meaning.Value → State → Outcome) → HasMemory result →
+        spec.with_value typed.now.service (term expr.now) (state standing.old) go ≡ begun result go (state standing.old) standing.new.units }
     ensures locals { standing.new.locals ≡ standing.old.locals }
     ensures shared { standing.new.shared ≡ standing.old.shared }
     ensures rests { standing.new.rests ≡ standing.old.rests }
@@ -65,15 +65,17 @@ pub fn begins<L: Ledger>(
     standing: &mut Standing,
     steps: &mut Steps<L>,
 ) -> Result<Value, TurnFault>
-    requires short { HasShort (term expr.now) }
-    requires sound { IsSound typed.now.service.templates standing.old }
-    ensures value { (go : meaning.Value → State → Outcome) → HasMemory result → spec.begin typed.now.service (term expr.now) (state standing.old) go ≡ begun result go (state standing.old) standing.new.units }
+    requires { CanEvaluate typed.now.service (term expr.now) standing.old }
+    ensures value { (go : meaning.Value → State → Outcome) → HasMemory result →
+        spec.begin typed.now.service (term expr.now) (state standing.old) go ≡ begun result go (state standing.old) standing.new.units }
     ensures locals { standing.new.locals ≡ standing.old.locals }
     ensures shared { standing.new.shared ≡ standing.old.shared }
     ensures rests { standing.new.rests ≡ standing.old.rests }
     ensures steps { steps.new + standing.new.units ≡ steps.old + standing.old.units }
     ensures paid { IfOk result (λ _. standing.new.units < standing.old.units) }
     ensures left { standing.new.units ≤ standing.old.units }
+    ensures documents { GivesDocuments typed.now.service (values standing.old.locals) (values standing.old.shared) (term expr.now) →
+        IfOk result (λ v. IsDocument (value v)) }
     ensures sound { IfOk result (IsKept typed.now.service.templates) }
 {
     take_unit(&mut standing.units, steps)?;
@@ -85,8 +87,7 @@ pub fn begins<L: Ledger>(
     scene.eval(alloc, expr, &mut standing.units, steps)
 }
 
-/// Takes a unit, which is a step, and evaluates an expression that gives a document. Another value, which no page of a
-/// typed service is, is answered by `Memory`.
+/// Takes a unit, which is a step, and evaluates an expression whose values are documents.
 pub fn begins_document<L: Ledger>(
     alloc: Global,
     typed: &Typed,
@@ -94,19 +95,20 @@ pub fn begins_document<L: Ledger>(
     standing: &mut Standing,
     steps: &mut Steps<L>,
 ) -> Result<Doc, TurnFault>
-    requires short { HasShort (term expr.now) }
-    requires sound { IsSound typed.now.service.templates standing.old }
-    ensures value { (go : meaning.Value → State → Outcome) → HasMemory result → spec.begin typed.now.service (term expr.now) (state standing.old) go ≡ begun_document result go (state standing.old) standing.new.units }
+    requires { CanShow typed.now.service (term expr.now) standing.old }
+    ensures value { (go : meaning.Value → State → Outcome) → HasMemory result →
+        spec.begin typed.now.service (term expr.now) (state standing.old) go ≡ begun_document result go (state standing.old) standing.new.units }
     ensures locals { standing.new.locals ≡ standing.old.locals }
     ensures shared { standing.new.shared ≡ standing.old.shared }
     ensures rests { standing.new.rests ≡ standing.old.rests }
     ensures steps { steps.new + standing.new.units ≡ steps.old + standing.old.units }
     ensures paid { IfOk result (λ _. standing.new.units < standing.old.units) }
+    ensures left { standing.new.units ≤ standing.old.units }
     ensures sound { IfOk result (IsOf typed.now.service.templates) }
 {
     match begins(alloc, typed, expr, standing, steps)? {
         Value::Html(doc) => Ok(doc),
-        _ => Err(TurnFault::Memory),
+        Value::Int(_) | Value::Bool(_) | Value::Str(_) | Value::Strs(_) => unreachable!(),
     }
 }
 

@@ -12,10 +12,10 @@ ghost use Rattle.bw_follow.specs.Runs as spec;
 ghost use Rattle.bw_follow.specs.Runs.{Next};
 ghost use Rattle.bw_lang.specs.declared.service.Template.{Template};
 ghost use Rattle.bw_lang.specs.TermView.{term};
-ghost use Rattle.bw_run.specs.Code.{state, stepped, pays, ActIsShort, AreShort, IsSound, StopsWell};
-ghost use Rattle.bw_typed.specs.ShortStrings.{HasShort};
+ghost use Rattle.bw_run.specs.Code.{state, stepped, AreShort, IsSound, StopsWell, CanEvaluate, CanShow, CanDo, Does};
 
 use crate::ending::{exit_test, show_test};
+use crate::rests::Rest;
 use crate::standing::{Standing, begins, begins_document, evaluates};
 use bw_doc::Doc;
 use bw_eval::{Value, take_unit};
@@ -58,7 +58,8 @@ fn put(
     requires sound { IsSound typed.now.service.templates standing.old }
     requires value { IsKept typed.now.service.templates new }
     ensures sound { OnOk result (IsSound typed.now.service.templates standing.new) }
-    ensures state { OnOk result (state standing.new ≡ spec.put typed.now.service scope.now name.now (value new) (state standing.old)) }
+    ensures state { OnOk result (state standing.new ≡
+        spec.put typed.now.service scope.now name.now (value new) (state standing.old)) }
     ensures rests { standing.new.rests ≡ standing.old.rests }
     ensures units { standing.new.units ≡ standing.old.units }
 {
@@ -80,13 +81,8 @@ fn assign<L: Ledger>(
     standing: &mut Standing,
     steps: &mut Steps<L>,
 ) -> Result<Stepped, TurnFault>
-    requires short { HasShort (term expr.now) }
-    requires sound { IsSound typed.now.service.templates standing.old }
-    ensures step { (next : Next) → HasMemory result → spec.does typed.now.service (acts.sets name.now (term expr.now)) (seen point.now) next standing.old.rests (state standing.old) ≡ stepped result (seen point.now) next standing.new }
-    ensures steps { steps.new + standing.new.units ≡ steps.old + standing.old.units }
-    ensures paid { IfOk result (λ _. standing.new.units < standing.old.units) }
-    ensures stops { IfOk result (StopsWell typed.now.service.templates (acts.sets name.now (term expr.now))) }
-    ensures sound { OnOk result (IsSound typed.now.service.templates standing.new) }
+    requires { CanEvaluate typed.now.service (term expr.now) standing.old }
+    ensures { Does typed.now.service (acts.sets name.now (term expr.now)) (seen point.now) standing.old standing.new steps.old steps.new result }
 {
     let new = begins(alloc, typed, expr, standing, steps)?;
     put(typed, &point.scope, name, new, standing)?;
@@ -103,13 +99,8 @@ fn test<L: Ledger>(
     standing: &mut Standing,
     steps: &mut Steps<L>,
 ) -> Result<Stepped, TurnFault>
-    requires short { HasShort (term expr.now) }
-    requires sound { IsSound typed.now.service.templates standing.old }
-    ensures step { (next : Next) → HasMemory result → spec.does typed.now.service (acts.tests (term expr.now)) (seen point.now) next standing.old.rests (state standing.old) ≡ stepped result (seen point.now) next standing.new }
-    ensures steps { steps.new + standing.new.units ≡ steps.old + standing.old.units }
-    ensures paid { IfOk result (λ _. standing.new.units < standing.old.units) }
-    ensures stops { IfOk result (StopsWell typed.now.service.templates (acts.tests (term expr.now))) }
-    ensures sound { OnOk result (IsSound typed.now.service.templates standing.new) }
+    requires { CanEvaluate typed.now.service (term expr.now) standing.old }
+    ensures { Does typed.now.service (acts.tests (term expr.now)) (seen point.now) standing.old standing.new steps.old steps.new result }
 {
     if begins(alloc, typed, expr, standing, steps)?.truth() {
         Ok(Stepped::First)
@@ -128,13 +119,9 @@ fn show<L: Ledger>(
     standing: &mut Standing,
     steps: &mut Steps<L>,
 ) -> Result<Stepped, TurnFault>
-    requires short { HasShort (term page.now) }
-    requires sound { IsSound typed.now.service.templates standing.old }
-    ensures step { (next : Next) (rs : List Received) → HasMemory result → spec.does typed.now.service (acts.shows (term page.now) rs) (seen point.now) next standing.old.rests (state standing.old) ≡ stepped result (seen point.now) next standing.new }
-    ensures steps { steps.new + standing.new.units ≡ steps.old + standing.old.units }
-    ensures paid { IfOk result (λ _. standing.new.units < standing.old.units) }
-    ensures stops { (rs : List Received) → IfOk result (StopsWell typed.now.service.templates (acts.shows (term page.now) rs)) }
-    ensures sound { OnOk result (IsSound typed.now.service.templates standing.new) }
+    requires { CanShow typed.now.service (term page.now) standing.old }
+    ensures { (rs : List Received) →
+        Does typed.now.service (acts.shows (term page.now) rs) (seen point.now) standing.old standing.new steps.old steps.new result }
 {
     let doc = begins_document(alloc, typed, page, standing, steps)?;
     show_test(&doc, standing)?;
@@ -151,13 +138,8 @@ fn exit<L: Ledger>(
     standing: &mut Standing,
     steps: &mut Steps<L>,
 ) -> Result<Stepped, TurnFault>
-    requires short { HasShort (term page.now) }
-    requires sound { IsSound typed.now.service.templates standing.old }
-    ensures step { (next : Next) → HasMemory result → spec.does typed.now.service (acts.exits (term page.now)) (seen point.now) next standing.old.rests (state standing.old) ≡ stepped result (seen point.now) next standing.new }
-    ensures steps { steps.new + standing.new.units ≡ steps.old + standing.old.units }
-    ensures paid { IfOk result (λ _. standing.new.units < standing.old.units) }
-    ensures stops { IfOk result (StopsWell typed.now.service.templates (acts.exits (term page.now))) }
-    ensures sound { OnOk result (IsSound typed.now.service.templates standing.new) }
+    requires { CanShow typed.now.service (term page.now) standing.old }
+    ensures { Does typed.now.service (acts.exits (term page.now)) (seen point.now) standing.old standing.new steps.old steps.new result }
 {
     let doc = begins_document(alloc, typed, page, standing, steps)?;
     exit_test(&doc, &standing.shared)?;
@@ -168,18 +150,20 @@ fn exit<L: Ledger>(
 #[tactic(auto, using(crate::proofs::Tidy::sound_rules))]
 fn go_over<L: Ledger>(
     name: &Name,
-    mut strings: Words,
+    mut strings: Rest,
     standing: &mut Standing,
     steps: &mut Steps<L>,
 ) -> Result<Stepped, TurnFault>
-    ensures step { (x : Step) (next : Next) → HasMemory result → spec.go_over name.now strings x.next next standing.old.rests (state standing.old) ≡ stepped result x next standing.new }
+    ensures step { (x : Step) (next : Next) → HasMemory result →
+        spec.go_over name.now strings x.next next standing.old.rests (state standing.old) ≡ stepped result x next standing.new }
     ensures steps { steps.new + standing.new.units ≡ steps.old + standing.old.units }
+    ensures left { standing.new.units ≤ standing.old.units }
     ensures paid { IfOk result (λ _. standing.new.units < standing.old.units) }
     ensures stops { (templates : List Template) (a : Act) → IfOk result (StopsWell templates a) }
     ensures sound { (templates : List Template) → AreShort strings → IsSound templates standing.old → OnOk result (IsSound templates standing.new) }
 {
     take_unit(&mut standing.units, steps)?;
-    match strings.take_first() {
+    match strings.take_first()? {
         None => Ok(Stepped::Second),
         Some(string) => {
             standing.locals.push(name.copy()?, Value::Str(string))?;
@@ -200,17 +184,12 @@ fn each<L: Ledger>(
     standing: &mut Standing,
     steps: &mut Steps<L>,
 ) -> Result<Stepped, TurnFault>
-    requires short { HasShort (term expr.now) }
-    requires sound { IsSound typed.now.service.templates standing.old }
-    ensures step { (next : Next) → HasMemory result → spec.does typed.now.service (acts.goes_over name.now (term expr.now)) (seen point.now) next standing.old.rests (state standing.old) ≡ stepped result (seen point.now) next standing.new }
-    ensures steps { steps.new + standing.new.units ≡ steps.old + standing.old.units }
-    ensures paid { IfOk result (λ _. standing.new.units < standing.old.units) }
-    ensures stops { IfOk result (StopsWell typed.now.service.templates (acts.goes_over name.now (term expr.now))) }
-    ensures sound { OnOk result (IsSound typed.now.service.templates standing.new) }
+    requires { CanEvaluate typed.now.service (term expr.now) standing.old }
+    ensures { Does typed.now.service (acts.goes_over name.now (term expr.now)) (seen point.now) standing.old standing.new steps.old steps.new result }
 {
     if standing.rests.len() == point.inside as usize {
         let strings = evaluates(alloc, typed, expr, standing, steps)?.into_list(alloc);
-        return go_over(name, strings, standing, steps);
+        return go_over(name, Rest::of(strings), standing, steps);
     }
     let strings = own_rest(alloc, standing);
     go_over(name, strings, standing, steps)
@@ -218,15 +197,16 @@ fn each<L: Ledger>(
 
 /// Takes out the rest of the innermost foreach.
 #[tactic(auto, using(crate::proofs::Tidy::sound_outer))]
-fn own_rest(alloc: Global, standing: &mut Standing) -> Words
+fn own_rest(alloc: Global, standing: &mut Standing) -> Rest
     ensures rest { result ≡ spec.last_rest standing.old.rests }
     ensures rests { standing.new.rests ≡ spec.outer_rests standing.old.rests }
     ensures state { state standing.new ≡ state standing.old }
+    ensures units { standing.new.units ≡ standing.old.units }
     ensures sound { (templates : List Template) → IsSound templates standing.old → AreShort result × IsSound templates standing.new }
 {
     match standing.rests.pop() {
         Some(rest) => rest,
-        None => Words::new(alloc),
+        None => Rest::of(Words::new(alloc)),
     }
 }
 
@@ -238,13 +218,8 @@ pub fn step<L: Ledger>(
     standing: &mut Standing,
     steps: &mut Steps<L>,
 ) -> Result<Stepped, TurnFault>
-    requires short { ActIsShort (act point.now.what) }
-    requires sound { IsSound typed.now.service.templates standing.old }
-    ensures step { (next : Next) → HasMemory result → spec.does typed.now.service (act point.now.what) (seen point.now) next standing.old.rests (state standing.old) ≡ stepped result (seen point.now) next standing.new }
-    ensures steps { steps.new + standing.new.units ≡ steps.old + standing.old.units }
-    ensures paid { IfOk result (λ s. standing.new.units + pays (act point.now.what) s ≤ standing.old.units) }
-    ensures stops { IfOk result (StopsWell typed.now.service.templates (act point.now.what)) }
-    ensures sound { OnOk result (IsSound typed.now.service.templates standing.new) }
+    requires { CanDo typed.now.service (act point.now.what) standing.old }
+    ensures { Does typed.now.service (act point.now.what) (seen point.now) standing.old standing.new steps.old steps.new result }
 {
     match &point.what {
         What::Assign { name, value } => assign(alloc, typed, point, name, value, standing, steps),

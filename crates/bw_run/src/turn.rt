@@ -53,7 +53,8 @@ pub enum Turn {
 /// The turn that stopped like this.
 fn finished(stop: Stop, standing: Standing) -> Turn
     ensures turn { (flow : List Step) → turned flow (Ok result) standing.units ≡ stopped flow (Ok stop) standing }
-    ensures sound { (templates : List Template) (flow : List Step) → IsSoundStop templates flow stop → IsSound templates standing → IsSoundTurn templates flow result }
+    ensures sound { (templates : List Template) (flow : List Step) → IsSoundStop templates flow stop → IsSound templates standing →
+        IsSoundTurn templates flow result }
 {
     let Standing {
         locals,
@@ -87,8 +88,8 @@ fn first_point(flow: &Flow, session: SessionId) -> PointId
 }
 
 /// A session's first turn, from these shared variables: exactly the turn that the meaning gives without inputs, or
-/// `Memory` for want of it. The counter rises by the turn's cost, after `Memory` by at most 100,000. The frame and the
-/// shared variables that it gives are fit.
+/// `Memory` for want of it. The counter rises by the turn's cost, after `Memory` by at most 100,000, and never falls. The
+/// frame and the shared variables that it gives are fit.
 pub fn start<L: Ledger>(
     alloc: Global,
     typed: &Typed,
@@ -102,6 +103,7 @@ pub fn start<L: Ledger>(
     requires shared { AreShared typed.now.service shared.now }
     ensures turn { HasMemory result → IsTurn flow.now.steps result steps.old steps.new (meaning.turn typed.now.service session (values shared.now) []) }
     ensures cost { steps.new ≤ steps.old + 100000 }
+    ensures least { steps.old ≤ steps.new }
     ensures fit { IfOk result (IsFitTurn typed.now.service flow.now.steps) }
 {
     let first = first_point(flow, session);
@@ -130,7 +132,7 @@ fn receives_of(what: &What) -> Option<&Receiveds>
 /// A session's next turn, from the frame at which it waits: exactly what the meaning goes on with from the frame's show,
 /// locals and rests over this form, or `Memory` for want of it. So for each session and all inputs after which it waits
 /// at this frame, it is the session's turn over one input more. The counter rises by the turn's cost, after `Memory` by at
-/// most 100,000. The frame and the shared variables that it gives are fit.
+/// most 100,000, and never falls. The frame and the shared variables that it gives are fit.
 pub fn resume<L: Ledger>(
     alloc: Global,
     typed: &Typed,
@@ -144,9 +146,15 @@ pub fn resume<L: Ledger>(
     requires frame { IsFrame typed.now.service flow.now.steps frame.now }
     requires missing { first_missing (receives_of flow.now.steps frame.now) form.now ≡ None }
     requires shared { AreShared typed.now.service shared.now }
-    ensures turn { HasMemory result → (session : ℕ) → IsOf typed.now.service session (number_at flow.now.steps frame.now.point) → IsTurn flow.now.steps result steps.old steps.new (meaning.go_on typed.now.service session (answered_frame flow.now.steps frame.now form.now shared.now)) }
-    ensures inputs { HasMemory result → (session : ℕ) (first : Map) (inputs : List Input) → StandsFor typed.now.service flow.now.steps frame.now session first inputs → IsTurn flow.now.steps result steps.old steps.new (meaning.turn typed.now.service session first (inputs ++ record { form = form.now; shared = values shared.now } ∷ [])) }
+    ensures turn { HasMemory result → (session : ℕ) → IsOf typed.now.service session (number_at flow.now.steps frame.now.point) →
+        IsTurn flow.now.steps result steps.old steps.new
+        (meaning.go_on typed.now.service session (answered_frame flow.now.steps frame.now form.now shared.now)) }
+    ensures inputs { HasMemory result → (session : ℕ) (first : Map) (inputs : List Input) →
+        StandsFor typed.now.service flow.now.steps frame.now session first inputs →
+        IsTurn flow.now.steps result steps.old steps.new
+        (meaning.turn typed.now.service session first (inputs ++ record { form = form.now; shared = values shared.now } ∷ [])) }
     ensures cost { steps.new ≤ steps.old + 100000 }
+    ensures least { steps.old ≤ steps.new }
     ensures fit { IfOk result (IsFitTurn typed.now.service flow.now.steps) }
 {
     let Some(point) = flow.point(frame.point) else {

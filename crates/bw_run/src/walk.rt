@@ -4,7 +4,8 @@ ghost use Rattle.bw_eval.specs.Evaluations.{HasMemory};
 ghost use Rattle.bw_run.specs.Code.{state, IsSound};
 ghost use Rattle.bw_follow.specs.Laws.{Settles};
 ghost use Rattle.bw_follow.specs.Runs as spec;
-ghost use Rattle.bw_run.specs.Walks.{advanced, stopped, IsInside, IsLess, IsWalkable, AdvancesWell, IsSoundStop};
+ghost use Rattle.bw_flow.specs.Layout.{plan_of};
+ghost use Rattle.bw_run.specs.Walks.{advanced, stopped, IsInside, IsLess, HasKindsAt, AdvancesTo, AdvancesWell, IsSoundStop};
 
 use crate::standing::Standing;
 use crate::step::{Stepped, step};
@@ -62,13 +63,18 @@ fn pass<L: Ledger>(
     steps: &mut Steps<L>,
 ) -> Result<Advance, TurnFault>
     requires inside { at < length flow.now.steps }
-    requires walkable { IsWalkable flow.now.steps }
+    requires flow { flow.now ≡ plan_of typed.now.service }
     requires sound { IsSound typed.now.service.templates standing.old }
-    ensures run { (g : ℕ) → HasMemory result → spec.run typed.now.service flow.now.steps (suc g) at standing.old.rests (state standing.old) ≡ advanced typed.now.service flow.now.steps at g result standing.new }
+    requires kinds { HasKindsAt typed.now.service flow.now.steps at standing.old }
+    ensures run { (g : ℕ) → HasMemory result →
+        spec.run typed.now.service flow.now.steps (suc g) at standing.old.rests (state standing.old) ≡
+        advanced typed.now.service flow.now.steps at g result standing.new }
     ensures stops { IfOk result (AdvancesWell typed.now.service.templates flow.now.steps at) }
     ensures inside { IfOk result (λ a. IsInside flow.now.steps a) }
+    ensures kinds { IfOk result (AdvancesTo typed.now.service flow.now.steps standing.new) }
     ensures less { IfOk result (λ a. IsLess flow.now.steps at standing.old.units standing.new.units a) }
     ensures steps { steps.new + standing.new.units ≡ steps.old + standing.old.units }
+    ensures left { standing.new.units ≤ standing.old.units }
     ensures sound { OnOk result (IsSound typed.now.service.templates standing.new) }
 {
     let Some(point) = flow.point(at) else {
@@ -93,11 +99,15 @@ pub fn walk<L: Ledger>(
     steps: &mut Steps<L>,
 ) -> Result<Stop, TurnFault>
     requires inside { start < length flow.now.steps }
-    requires walkable { IsWalkable flow.now.steps }
+    requires flow { flow.now ≡ plan_of typed.now.service }
     requires sound { IsSound typed.now.service.templates standing.old }
-    ensures run { HasMemory result → Settles (λ g. spec.run typed.now.service flow.now.steps g start standing.old.rests (state standing.old)) (stopped flow.now.steps result standing.new) }
+    requires kinds { HasKindsAt typed.now.service flow.now.steps start standing.old }
+    ensures run { HasMemory result →
+        Settles (λ g. spec.run typed.now.service flow.now.steps g start standing.old.rests (state standing.old))
+        (stopped flow.now.steps result standing.new) }
     ensures stops { IfOk result (IsSoundStop typed.now.service.templates flow.now.steps) }
     ensures steps { steps.new + standing.new.units ≡ steps.old + standing.old.units }
+    ensures left { standing.new.units ≤ standing.old.units }
     ensures sound { OnOk result (IsSound typed.now.service.templates standing.new) }
 {
     let mut at = start;

@@ -24,16 +24,16 @@ use Rattle.bw_sum.specs.Laws.{BelowByMembers, PlugGrows, PlugTextGrows}
 use Rattle.bw_strings.proofs.Members.{below_by_strings}
 use Rattle.bw_sum.proofs.GraphLaws.{plugs, plugs_text, new_are}
 
-or_more : (a b c d : Bool) → (a ≡ true → c ≡ true) → (b ≡ true → d ≡ true) → (a || b) ≡ true → (c || d) ≡ true
+pub or_more : (a b c d : Bool) → (a ≡ true → c ≡ true) → (b ≡ true → d ≡ true) → (a || b) ≡ true → (c || d) ≡ true
 or_more true b c d h k e = subst (λ z. (z || d) ≡ true) (sym (h refl)) refl
 or_more false b true d h k e = refl
 or_more false b false d h k e = k e
 
-and_more : (a b c d : Bool) → (a ≡ true → c ≡ true) → (b ≡ true → d ≡ true) → (a && b) ≡ true → (c && d) ≡ true
+pub and_more : (a b c d : Bool) → (a ≡ true → c ≡ true) → (b ≡ true → d ≡ true) → (a && b) ≡ true → (c && d) ≡ true
 and_more true b c d h k e = subst (λ z. (z && d) ≡ true) (sym (h refl)) (k e)
 and_more false b c d h k e = absurd (false≢true e)
 
-if_more : (t a b c d : Bool) → (a ≡ true → c ≡ true) → (b ≡ true → d ≡ true) → (if t then a else b) ≡ true → (if t then c else d) ≡ true
+pub if_more : (t a b c d : Bool) → (a ≡ true → c ≡ true) → (b ≡ true → d ≡ true) → (if t then a else b) ≡ true → (if t then c else d) ≡ true
 if_more true a b c d h k e = h e
 if_more false a b c d h k e = k e
 

@@ -1,5 +1,5 @@
 -- Laws of summaries.
-use Rattle.std.specs.Prelude.{◌≡◌, ◌↔◌, ◌<◌, ℕ, Bool, true, false, nat_lt, List, length}
+use Rattle.std.specs.Prelude.{◌≡◌, ◌↔◌, ◌<◌, ◌≤◌, ◌^◌, ◌+◌, ℕ, Bool, true, false, nat_lt, List, length}
 use Rattle.bw_lang.specs.declared.service.Service.{Service}
 use Rattle.bw_lang.specs.Documents as doc
 use Rattle.bw_lang.specs.Forest.{Forest}
@@ -11,7 +11,8 @@ use Rattle.bw_sum.specs.Constants.{constant_of}
 use Rattle.bw_sum.specs.Graph as graphs
 use Rattle.bw_sum.specs.Graph.{graph, Same}
 use Rattle.bw_sum.specs.Opening.{has_hole, opens}
-use Rattle.bw_sum.specs.Summaries.{both, plugged, plugged_text, AreAlike, is_below}
+use Rattle.bw_sum.specs.Small.{IsWellFormed, highest_rank}
+use Rattle.bw_sum.specs.Summaries.{both, plugged, plugged_text, AreAlike, is_below, rank_of}
 use Rattle.bw_sum.specs.Templates.{HasKnownGaps, template_items}
 use Rattle.bw_sum.specs.Unfolding.{Covers}
 use Rattle.bw_sum.specs.declared.summary.Summary.{Summary}
@@ -56,6 +57,29 @@ PlugGrows = (b c : Summary) (g : ℕ) (a d : Summary) → AreAlike b c → AreAl
 abbrev pub PlugTextGrows : Type 0
 PlugTextGrows = (b c : Summary) (g : ℕ) (s r : StrSet) → AreAlike b c → strings.AreWellFormed s r → is_below b c ≡ true → strings.is_below s r ≡ true
     → is_below (plugged_text b g s) (plugged_text c g r) ≡ true
+
+-- ---- they keep summaries well formed
+
+-- any two well formed summaries may be compared and joined
+abbrev pub WellFormedAreAlike : Type 0
+WellFormedAreAlike = (a b : Summary) → IsWellFormed a → IsWellFormed b → AreAlike a b
+
+-- the constant of a template, and what operations make of well formed summaries, is well formed
+abbrev pub ConstantIsWellFormed : Type 0
+ConstantIsWellFormed = (n : ℕ) (items : Forest) (gaps : ℕ) → n < 2 ^ 32 → gaps + 3 ≤ 2 ^ 32 → IsWellFormed (constant_of n items gaps)
+
+abbrev pub JoinIsWellFormed : Type 0
+JoinIsWellFormed = (a b : Summary) → IsWellFormed a → IsWellFormed b → IsWellFormed (both a b)
+
+abbrev pub PlugIsWellFormed : Type 0
+PlugIsWellFormed = (b : Summary) (g : ℕ) (a : Summary) → g < 2 ^ 32 → IsWellFormed b → IsWellFormed a → IsWellFormed (plugged b g a)
+
+abbrev pub PlugTextIsWellFormed : Type 0
+PlugTextIsWellFormed = (b : Summary) (g : ℕ) (s : StrSet) → g < 2 ^ 32 → IsWellFormed b → strings.IsWellFormed s → IsWellFormed (plugged_text b g s)
+
+-- so no summary rises for ever
+abbrev pub RankIsBounded : Type 0
+RankIsBounded = (s : Summary) → IsWellFormed s → rank_of s ≤ highest_rank
 
 -- ---- they keep covering
 

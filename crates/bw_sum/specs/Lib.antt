@@ -3,6 +3,7 @@ pub mod LabelLaws
 pub mod Edges
 pub mod Summaries
 pub mod SummaryLaws
+pub mod Small
 pub mod Opening
 pub mod Templates
 pub mod Constants

@@ -1,5 +1,6 @@
 //! Laws of summaries. A law is the contract of an empty function.
 ghost use Rattle.bw_sum.specs.Laws.{ConstantByMembers, JoinByMembers, PlugByMembers, PlugTextByMembers, BelowByMembers, OpensByCount, ReadGapsAreKnown};
+ghost use Rattle.bw_sum.specs.Laws.{WellFormedAreAlike, ConstantIsWellFormed, JoinIsWellFormed, PlugIsWellFormed, PlugTextIsWellFormed, RankIsBounded};
 ghost use Rattle.bw_sum.specs.Laws.{PlugGrows, PlugTextGrows, ConstantCovers, PlugCovers, PlugTextCovers, BelowCovers};
 
 /// What the operations on summaries do to the members of each part.
@@ -21,6 +22,16 @@ pub fn gaps_are_known()
 pub fn plugs_grow()
     ensures plug { PlugGrows }
     ensures plug_text { PlugTextGrows }
+{}
+
+/// Operations keep summaries well formed, and the rank of a well formed summary has a bound.
+pub fn operations_keep_well_formed()
+    ensures alike { WellFormedAreAlike }
+    ensures constant { ConstantIsWellFormed }
+    ensures join { JoinIsWellFormed }
+    ensures plug { PlugIsWellFormed }
+    ensures plug_text { PlugTextIsWellFormed }
+    ensures bound { RankIsBounded }
 {}
 
 /// What a summary covers stays covered: the tree of a template by its constant, documents with their gaps filled by the

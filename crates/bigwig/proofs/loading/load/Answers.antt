@@ -1,6 +1,11 @@
-use Rattle.bigwig.proofs.Loads.{stopped_unread}
+use Rattle.bigwig.specs.Asked.{read, accepted}
+use Rattle.bigwig.proofs.Answering.{asks_next}
+use Rattle.bigwig.proofs.Loads.{unread}
 use Rattle.bigwig.proofs.loading.load.Goals as goal
 
-pub returns-in-Err-clause-stops : goal.returns-in-Err-clause-stops
-returns-in-Err-clause-stops c = stopped_unread c.args.bytes.now c.in-Err.fault c.syntax_line.result c.stop_with.result c.stop_with.ensures.line c.stop_with.ensures.memory
+pub returns-in-Ok-clause-answers : goal.returns-in-Ok-clause-answers
+returns-in-Ok-clause-answers c = asks_next _ (read c.args.bytes.now) accepted c.in-Ok.service c.accept.result c.in-Ok.ensures.read c.accept.ensures.answers
+
+pub returns-in-Err-clause-answers : goal.returns-in-Err-clause-answers
+returns-in-Err-clause-answers c = unread c.args.bytes.now c.in-Err.fault c.syntax_line.result c.refused.result c.refused.ensures.line c.refused.ensures.memory
     c.syntax_line.ensures.line c.syntax_line.ensures.reason c.in-Err.ensures.refused

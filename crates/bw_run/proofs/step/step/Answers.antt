@@ -1,10 +1,9 @@
 use Rattle.std.proofs.Common.{sym, subst}
-use Rattle.std.specs.Prelude.{IfOk}
-use Rattle.bw_flow.specs.View.{act}
-use Rattle.bw_run.specs.Code.{StopsWell}
+use Rattle.bw_flow.specs.View.{act, seen}
+use Rattle.bw_run.specs.Code.{Does}
 use Rattle.bw_run.proofs.step.step.Goals as goal
 
-pub returns-in-Show-clause-stops : goal.returns-in-Show-clause-stops
-returns-in-Show-clause-stops g c =
-    let ts = c.args.typed.now.service.templates in
-    subst (λ w. IfOk c.show.result (StopsWell ts (act w))) (sym c.in-Show.is) (c.show.ensures.stops c.in-Show.receives)
+pub returns-in-Show : goal.returns-in-Show
+returns-in-Show g c =
+    subst (λ w. Does c.args.typed.now.service (act w) (seen c.args.point.now) c.args.standing.now c.show.new.standing c.args.steps.now c.show.new.steps
+    c.show.result) (sym c.in-Show.is) (c.show.ensures c.in-Show.receives)

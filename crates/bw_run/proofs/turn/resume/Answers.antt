@@ -16,9 +16,11 @@ use Rattle.bw_meaning.specs.GoOn.{go_on}
 use Rattle.bw_meaning.specs.States.{units_left}
 use Rattle.bw_eval.specs.Sound.{AreSound}
 use Rattle.bw_follow.specs.Kinds as kinds
+use Rattle.bw_follow.specs.Kinds.{kinds_in}
 use Rattle.bw_follow.specs.Laws.{IsFit, IsOf}
 use Rattle.bw_follow.proofs.Kept.{going_on_keeps_kinds}
 use Rattle.bw_run.specs.Walks.{number_of, number_at}
+use Rattle.bw_run.proofs.Due.{behind_kinds_due}
 use Rattle.bw_run.proofs.Own.{own_session}
 use Rattle.bw_run.proofs.Fits.{fit_turn, going_on_waits, can_walk, names_from}
 use Rattle.bw_run.proofs.Missed.{none_short}
@@ -31,8 +33,16 @@ walk-requires-clause-inside g c =
     subst (λ q. q < length c.args.flow.now.steps) (sym (c.first_of-next.ensures ∙ ap first_of c.as_slice-2.ensures))
     ((can_walk c.args.typed.now c.args.flow.now c.requires.flow).first c.args.frame.now.point (seen c.in-Some.point.now) c.in-Some.ensures)
 
-pub walk-requires-clause-walkable : goal.walk-requires-clause-walkable
-walk-requires-clause-walkable g c = can_walk c.args.typed.now c.args.flow.now c.requires.flow
+pub walk-requires-clause-kinds : goal.walk-requires-clause-kinds
+walk-requires-clause-kinds g c =
+    let f = c.requires.frame in
+    let x = seen c.in-Some.point.now in
+    let e = same_Some x f.point (sym c.in-Some.ensures ∙ f.is) in
+    let h = fields_are x f.point f.page f.fields c.in-Some-receives_of.receives.now e f.acts c.in-Some-receives_of.ensures.1 in
+    behind_kinds_due c.args.typed.now c.args.flow.now c.requires.flow c.first_of-next.result x f.page f.fields c.as_slice.result.now c.args.frame.now
+    c.in_ok-copy.field-0 c.args.shared.now c.in_ok-copy-2.field-0 c.args.form.now c.receive_all.new.standing c.in-Some.ensures
+    (ap (λ u. u.act) e ∙ f.acts) (f.locals.kinds_are ∙ ap (λ u. kinds_in u.scope) (sym e)) c.requires.shared.kinds_are (h ∙ sym c.as_slice.ensures)
+    c.in_ok-copy.ensures c.in_ok-copy-2.ensures c.in_ok-receive_all.ensures.state (c.first_of-next.ensures ∙ ap first_of c.as_slice-2.ensures)
 
 pub returns-in-Err-clause-turn : goal.returns-in-Err-clause-turn
 returns-in-Err-clause-turn g c m session of =

@@ -1,8 +1,8 @@
-use Rattle.std.proofs.Common.{◌≡◌, ◌∙◌, refl}
+use Rattle.std.proofs.Common.{◌≡◌, ◌∙◌, refl, arith}
 use Rattle.std.specs.Prelude.{Ok}
 use Rattle.bw_run.specs.declared.walk.Advance.TheVariants.{To, Waits, Ends}
 use Rattle.bw_run.specs.Code.{IsSound}
-use Rattle.bw_run.specs.Walks.{IsInside}
+use Rattle.bw_run.specs.Walks.{IsInside, AdvancesTo}
 use Rattle.bw_run.proofs.Measures.{follows_here, follows_on, follows_end, fault_end, ok_run, ok_fact, ok_on}
 use Rattle.bw_run.proofs.walk.walk.Goals as goal
 
@@ -11,6 +11,8 @@ walk-init g c = record {
   inside = c.requires.inside;
   follows = follows_here c.args.typed.now.service c.args.flow.now.steps c.args.start c.args.standing.now;
   sound = c.requires.sound;
+  kinds = c.requires.kinds;
+  left = omega arith;
   steps = refl;
 }
 
@@ -29,6 +31,8 @@ walk-preserved g c =
           (ok_run c.args.typed.now.service c.args.flow.now.steps c.walk.at c.walk.standing c.pass.new.standing c.pass.result (To c.in-To.next) e
           c.pass.ensures.run);
       sound = ok_on c.pass.result (To c.in-To.next) (IsSound c.args.typed.now.service.templates c.pass.new.standing) e c.pass.ensures.sound;
+      kinds = ok_fact c.pass.result (To c.in-To.next) (AdvancesTo c.args.typed.now.service c.args.flow.now.steps c.pass.new.standing) e c.pass.ensures.kinds;
+      left = omega (arith, c.pass.ensures.left, c.walk.invariant.left);
       steps = c.pass.ensures.steps ∙ c.walk.invariant.steps;
     }
 

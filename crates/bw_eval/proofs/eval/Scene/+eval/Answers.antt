@@ -1,25 +1,32 @@
 use Rattle.std.proofs.Common.{ap, ◌∙◌, arith}
 use Rattle.std.proofs.lemmas.Grind.{common_steps}
 use Rattle.bw_meaning.specs.Expressions.{fill}
+use Rattle.bw_typed.specs.ShortStrings.{HaveShort}
 use Rattle.bw_lang.specs.Names as names
 use Rattle.bw_lang.specs.Term.{Fillings}
 use Rattle.bw_lang.specs.TermView.{fillings}
 use Rattle.bw_eval.specs.View.{value, values}
-use Rattle.bw_eval.proofs.Fills.{next_at, stops_at, stops_with, pair_short, later_short, pair_size_at_read}
+use Rattle.bw_eval.specs.Bases.{HaveBases}
+use Rattle.bw_eval.proofs.Fills.{next_at, stops_at, stops_with, pairs_from, pair_size_at_read}
 use Rattle.bw_eval.proofs.eval.Scene.+eval.Goals as goal
 
 pub fill-eval-requires : goal.fill-eval-requires
-fill-eval-requires g t c lives within = (
-  grind (arith, common_steps, pair_size_at_read),
-  (
-    within,
-    (
-      pair_short c.as_slice-pair-items.result.now c.loop-pair.pair-index c.pair-item.result c.pair-item.is c.loop-pair-test.true
-          c.loop-pair.invariant.strings_short,
-      (c.requires.locals, c.requires.shared),
-    ),
-  ),
-)
+fill-eval-requires g t c lives within =
+    let items = c.as_slice-pair-items.result.now in let i = c.loop-pair.pair-index in let x = c.pair-item.result in
+    let scene = c.args.self.now in
+    let bases = HaveBases scene.typed.now.service (values scene.locals.now) (values scene.shared.now) in (
+      grind (arith, common_steps, pair_size_at_read),
+      (
+        within,
+        (
+          (pairs_from HaveShort items i x c.pair-item.is c.loop-pair-test.true c.loop-pair.invariant.strings_short).0,
+          (
+            (pairs_from bases items i x c.pair-item.is c.loop-pair-test.true c.loop-pair.invariant.bases).0,
+            (c.requires.locals, c.requires.shared),
+          ),
+        ),
+      ),
+    )
 
 pub fill-returns-in_err-filled-clause-value : goal.fill-returns-in_err-filled-clause-value
 fill-returns-in_err-filled-clause-value g t c =
@@ -45,8 +52,12 @@ fill-loop-pair-preserved g t c = record {
   steps = omega (arith, c.loop-pair.invariant.steps, c.in_ok-v.ensures.steps);
   left = omega (arith, c.loop-pair.invariant.left, c.in_ok-v.ensures.left);
   filled_sound = c.in_ok-filled.ensures.sound c.args.self.now.typed.now.service.templates c.loop-pair.invariant.filled_sound c.in_ok-v.ensures.sound;
-  strings_short = later_short c.as_slice-pair-items.result.now c.loop-pair.pair-index c.pair-item.result c.pair-item.is c.loop-pair-test.true
-      c.loop-pair.invariant.strings_short;
+  filled_document = c.in_ok-filled.ensures.document;
+  strings_short = (pairs_from HaveShort c.as_slice-pair-items.result.now c.loop-pair.pair-index c.pair-item.result c.pair-item.is
+      c.loop-pair-test.true c.loop-pair.invariant.strings_short).1;
+  bases = (pairs_from (HaveBases c.args.self.now.typed.now.service (values c.args.self.now.locals.now) (values c.args.self.now.shared.now))
+      c.as_slice-pair-items.result.now c.loop-pair.pair-index c.pair-item.result c.pair-item.is c.loop-pair-test.true
+      c.loop-pair.invariant.bases).1;
 }
 
 pub eval-returns-in_ok-w-in-Binary-clause-sound : goal.eval-returns-in_ok-w-in-Binary-clause-sound

@@ -1,8 +1,0 @@
--- What an intake takes from its source, where the source tells what is left.
-use Rattle.std.specs.Prelude.{◌≡◌, ℕ, List, ◌++◌}
-use Rattle.std.specs.declared.option.Option.{Option}
-use Rattle.std.specs.Io.KnownBytes.{Consumes}
-
--- the bytes at hand now are those before and then some that the source gave
-abbrev pub Takes : Option (List ℕ) → Option (List ℕ) → List ℕ → List ℕ → Type 0
-Takes before after old new = (taken : List ℕ) × Consumes before after taken × (new ≡ old ++ taken)

@@ -1,0 +1,26 @@
+-- Laws of runs.
+use Rattle.std.specs.Prelude.{◌≡◌, ◌+◌, ℕ, List, ◌++◌, length}
+use Rattle.bw_http.specs.declared.replies.Reply.{Reply}
+use Rattle.bw_lang.specs.declared.service.Service.{Service}
+use Rattle.bw_model.specs.Runs.{At, Turns, Run, wants}
+
+-- messages, and then a run over what follows them, are one run
+abbrev pub RunsGoOn : Type 0
+RunsGoOn =
+    (service : Service) (most more : ℕ) (at mid to : At) (replies others : List Reply) (cost costs : ℕ) →
+    Turns service at replies cost mid → length replies ≡ most → Run service more mid others costs to →
+    Run service (most + more) at (replies ++ others) (cost + costs) to
+
+-- two runs handled the same messages: by the same replies, at the same cost, and with the same world and keys behind them
+pub record AreAlike {service : Service} {most : ℕ} {at to then : At} {replies others : List Reply} {cost costs : ℕ} (one : Run service most at replies cost to)
+    (other : Run service most at others costs then) : Type 0 where
+  pub handled : one.first ≡ other.first
+  pub spent : cost ≡ costs
+  pub world : to.world ≡ then.world
+  pub keys : to.keys ≡ then.keys
+
+-- A stream is answered in one way, unless memory is wanted. How bytes that are no message are refused is left open.
+abbrev pub AnswersOnce : Type 0
+AnswersOnce =
+    (service : Service) (most : ℕ) (at to then : At) (replies others : List Reply) (cost costs : ℕ) (one : Run service most at replies cost to)
+    (other : Run service most at others costs then) → wants replies ≡ 0 → wants others ≡ 0 → AreAlike one other

@@ -1,0 +1,13 @@
+pub mod Asked
+pub mod Begun
+pub mod GoesOn
+pub mod Keeping
+pub mod Live
+pub mod Named
+pub mod Opened
+pub mod Own
+pub mod Posted
+pub mod Received
+pub mod Refusals
+pub mod Refused
+pub mod Standing

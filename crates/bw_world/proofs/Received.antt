@@ -1,0 +1,202 @@
+-- What a show of the flow receives is what its statement receives.
+use Rattle.std.proofs.Common.{◌≡◌, ◌⊎◌, ℕ, zero, suc, ◌+◌, ◌<◌, ◌≤◌, true, false, List, [], ◌++◌, slice_get, refl, ap, sym, ◌∙◌}
+use Rattle.std.proofs.Common.{inl, inr, arith}
+use Rattle.std.specs.Prelude.{if◌then◌else◌}
+use Rattle.std.proofs.lemmas.Bool.{eq-eqb, ne_eqb}
+use Rattle.std.proofs.lemmas.List.{append-nil}
+use Rattle.std.proofs.lemmas.Option.{same_Some}
+use Rattle.bw_lang.specs.declared.service.Service.{Service}
+use Rattle.bw_lang.specs.declared.stmt.Kind.TheVariants as kinds
+use Rattle.bw_lang.specs.declared.stmt.Receive.{Receive}
+use Rattle.bw_lang.specs.Code.{Code, done, declare, assign, if_then, if_else, while_loop, for_each, block, show, exit, numbered}
+use Rattle.bw_lang.specs.Term.{Term}
+use Rattle.bw_flow.specs.declared.point.Local.{Local}
+use Rattle.bw_flow.specs.declared.point.Received.{Received}
+use Rattle.bw_flow.specs.Flows.{is_join}
+use Rattle.bw_flow.specs.Layout.{receives}
+use Rattle.bw_flow.specs.Numbers.{HasNumbers}
+use Rattle.bw_flow.specs.Scopes.{with_local}
+use Rattle.bw_flow.specs.Stands.{IsAt, Lowered}
+use Rattle.bw_flow.specs.Steps.{Act, Step}
+use Rattle.bw_flow.specs.Steps as acts
+use Rattle.bw_follow.specs.Runs.{is_show, fields_of}
+use Rattle.bw_model.specs.Received.{receives_at}
+
+pub split : (a b : ℕ) → (a < b) ⊎ (b ≤ a)
+split a zero = inr (omega arith)
+split zero (suc b) = inl (omega arith)
+split (suc a) (suc b) = by (split a b)
+  where
+    by : (a < b) ⊎ (b ≤ a) → (suc a < suc b) ⊎ (suc b ≤ suc a)
+    by (inl h) = inl (omega (arith, h))
+    by (inr h) = inr (omega (arith, h))
+
+-- what isn't the number of one of the statements
+abbrev IsOutside : ℕ → ℕ → ℕ → Type 0
+IsOutside k n count = (k < n) ⊎ (n + count ≤ k)
+
+-- so it is not of some of them
+less : (k n c m d : ℕ) → n ≤ m → m + d ≤ n + c → IsOutside k n c → IsOutside k m d
+less k n c m d a b (inl h) = inl (omega (arith, h, a))
+less k n c m d a b (inr h) = inr (omega (arith, h, b))
+
+two_none : (rs ss : List Receive) → rs ≡ [] → ss ≡ [] → rs ++ ss ≡ []
+two_none rs ss a b = (λ i. a i ++ ss) ∙ b
+
+first_alone : (rs ss : List Receive) → ss ≡ [] → rs ++ ss ≡ rs
+first_alone rs ss e = (λ i. rs ++ e i) ∙ append-nil rs
+
+outside : (c : Code) (n k : ℕ) → IsOutside k n (numbered c) → receives_at c n k ≡ []
+outside done n k h = refl
+outside (declare w v e rest) n k h = outside rest (n + 1) k (less k n (1 + numbered rest) (n + 1) (numbered rest) (omega arith) (omega arith) h)
+outside (assign w e rest) n k h = outside rest (n + 1) k (less k n (1 + numbered rest) (n + 1) (numbered rest) (omega arith) (omega arith) h)
+outside (if_then t y rest) n k h =
+    let all = numbered (if_then t y rest) in let m = n + 1 + numbered y in
+    two_none _ _ (outside y (n + 1) k (less k n all (n + 1) (numbered y) (omega arith) (omega arith) h))
+    (outside rest m k (less k n all m (numbered rest) (omega arith) (omega arith) h))
+outside (if_else t y z rest) n k h =
+    let all = numbered (if_else t y z rest) in let l = n + 1 + numbered y in let m = l + numbered z in
+    two_none _ _ (outside y (n + 1) k (less k n all (n + 1) (numbered y) (omega arith) (omega arith) h))
+    (two_none _ _ (outside z l k (less k n all l (numbered z) (omega arith) (omega arith) h))
+    (outside rest m k (less k n all m (numbered rest) (omega arith) (omega arith) h)))
+outside (while_loop t b rest) n k h =
+    let all = numbered (while_loop t b rest) in let m = n + 1 + numbered b in
+    two_none _ _ (outside b (n + 1) k (less k n all (n + 1) (numbered b) (omega arith) (omega arith) h))
+    (outside rest m k (less k n all m (numbered rest) (omega arith) (omega arith) h))
+outside (block b rest) n k h =
+    let all = numbered (block b rest) in let m = n + numbered b in
+    two_none _ _ (outside b n k (less k n all n (numbered b) (omega arith) (omega arith) h))
+    (outside rest m k (less k n all m (numbered rest) (omega arith) (omega arith) h))
+outside (for_each w e b rest) n k h =
+    let all = numbered (for_each w e b rest) in let m = n + 1 + numbered b in
+    two_none _ _ (outside b (n + 1) k (less k n all (n + 1) (numbered b) (omega arith) (omega arith) h))
+    (outside rest m k (less k n all m (numbered rest) (omega arith) (omega arith) h))
+outside (show p rs rest) n k h =
+    (λ i. (if ne_eqb n k (differs h) i then rs else []) ++ receives_at rest (n + 1) k)
+    ∙ outside rest (n + 1) k (less k n (1 + numbered rest) (n + 1) (numbered rest) (omega arith) (omega arith) h)
+  where
+    differs : IsOutside k n (1 + numbered rest) → n ≡ k → ⊥
+    differs (inl l) e = absurd (omega (arith, l, e))
+    differs (inr l) e = absurd (omega (arith, l, e))
+outside (exit p rest) n k h = outside rest (n + 1) k (less k n (1 + numbered rest) (n + 1) (numbered rest) (omega arith) (omega arith) h)
+
+no_join : (a : Act) → is_show a ≡ true → is_join a ≡ false
+no_join (acts.sets w e) h = refl
+no_join (acts.tests e) h = refl
+no_join (acts.goes_over w e) h = refl
+no_join (acts.shows e rs) h = refl
+no_join (acts.exits e) h = refl
+no_join acts.joins h = cc
+
+module _ (service : Service) (flow : List Step) (once : HasNumbers flow) (p : ℕ) (x : Step) (page : Term) (fields : List Received) (at : IsAt flow p x)
+    (is : x.act ≡ acts.shows page fields) where
+  shows_it : is_show x.act ≡ true
+  shows_it = ap is_show is
+
+  -- the point of a statement of this number is x
+  same_point : (y : Step) (q : ℕ) → IsAt flow q y → is_join y.act ≡ false → y.number ≡ x.number → x ≡ y
+  same_point y q h j e = let s = once p q x y at h (no_join x.act shows_it) j (sym e) in same_Some x y (sym at ∙ ap (slice_get flow) s ∙ h)
+
+  -- so a statement that is no show has another number
+  another : (y : Step) (q : ℕ) → IsAt flow q y → is_join y.act ≡ false → is_show y.act ≡ false → y.number ≡ x.number → ⊥
+  another y q h j s e = let f : true ≡ false = sym shows_it ∙ ap (λ (z : Step). is_show z.act) (same_point y q h j e) ∙ s in cc
+
+  -- and the number of x is behind it
+  past : (n k : ℕ) → n ≤ k → (n ≡ k → ⊥) → n + 1 ≤ k
+  past n k a f = by (split n k)
+    where
+      by : (n < k) ⊎ (k ≤ n) → n + 1 ≤ k
+      by (inl h) = omega (arith, h)
+      by (inr h) = absurd (f (omega (arith, a, h)))
+
+  -- the fields are those that these statements receive at the number of x
+  abbrev Agree : Code → ℕ → Type 0
+  Agree c n = fields ≡ receives service x.scope (receives_at c n x.number)
+
+  agree_to : (rs ss : List Receive) → ss ≡ rs → fields ≡ receives service x.scope rs → fields ≡ receives service x.scope ss
+  agree_to rs ss e h = h ∙ ap (receives service x.scope) (sym e)
+
+  pub agree : (c : Code) (n : ℕ) (sc : List Local) (d q r : ℕ) → Lowered service flow c n sc d q r → n ≤ x.number → x.number < n + numbered c → Agree c n
+  agree done n sc d q r low a b = absurd (omega (arith, a, b))
+  agree (declare k w e rest) n sc d q r low a b =
+      agree rest (n + 1) (with_local sc w k) d low.0 r low.2 (past n x.number a (another _ q low.1 refl refl)) (omega (arith, b))
+  agree (assign w e rest) n sc d q r low a b = agree rest (n + 1) sc d low.0 r low.2 (past n x.number a (another _ q low.1 refl refl)) (omega (arith, b))
+  agree (exit e rest) n sc d q r low a b = agree rest (n + 1) sc d low.0 r low.2 (past n x.number a (another _ q low.1 refl refl)) (omega (arith, b))
+  agree (show e rs rest) n sc d q r low a b = by (split n x.number) (agree rest (n + 1) sc d low.0 r low.2)
+    where
+      by : (n < x.number) ⊎ (x.number ≤ n) → (n + 1 ≤ x.number → x.number < n + 1 + numbered rest → Agree rest (n + 1)) → Agree (show e rs rest) n
+      by (inl h) later =
+          agree_to (receives_at rest (n + 1) x.number) (receives_at (show e rs rest) n x.number)
+          (λ i. (if ne_eqb n x.number (λ f. omega (arith, h, f)) i then rs else []) ++ receives_at rest (n + 1) x.number)
+          (later (omega (arith, h)) (omega (arith, b)))
+      by (inr h) later =
+          let f : n ≡ x.number = omega (arith, a, h) in
+          let one = same_point _ q low.1 refl f in
+          agree_to rs (receives_at (show e rs rest) n x.number)
+          ((λ i. (if eq-eqb n x.number f i then rs else []) ++ receives_at rest (n + 1) x.number)
+          ∙ first_alone rs _ (outside rest (n + 1) x.number (inl (omega (arith, f)))))
+          (ap fields_of (sym is) ∙ ap (λ (z : Step). fields_of z.act) one ∙ ap (λ (z : Step). receives service z.scope rs) (sym one))
+  agree (if_then t y rest) n sc d q r low a b =
+      by (split x.number (n + 1 + numbered y)) (agree y (n + 1) sc d low.0 low.1 low.5 (past n x.number a (another _ q low.3 refl refl)))
+      (agree rest (n + 1 + numbered y) sc d low.2 r low.6)
+    where
+      by : (x.number < n + 1 + numbered y) ⊎ (n + 1 + numbered y ≤ x.number) → (x.number < n + 1 + numbered y → Agree y (n + 1))
+          → (n + 1 + numbered y ≤ x.number → x.number < n + 1 + numbered y + numbered rest → Agree rest (n + 1 + numbered y)) → Agree (if_then t y rest) n
+      by (inl h) inner later =
+          agree_to _ _ (first_alone (receives_at y (n + 1) x.number) _ (outside rest (n + 1 + numbered y) x.number (inl h))) (inner h)
+      by (inr h) inner later =
+          agree_to _ _ (λ i. outside y (n + 1) x.number (inr (omega (arith, h))) i ++ receives_at rest (n + 1 + numbered y) x.number)
+          (later h (omega (arith, b)))
+  agree (if_else t y z rest) n sc d q r low a b =
+      by (split x.number (n + 1 + numbered y)) (split x.number (n + 1 + numbered y + numbered z))
+      (agree y (n + 1) sc d low.0 low.2 low.6 (past n x.number a (another _ q low.4 refl refl)))
+      (agree z (n + 1 + numbered y) sc d low.1 low.2 low.7) (agree rest (n + 1 + numbered y + numbered z) sc d low.3 r low.8)
+    where
+      by : (x.number < n + 1 + numbered y) ⊎ (n + 1 + numbered y ≤ x.number)
+          → (x.number < n + 1 + numbered y + numbered z) ⊎ (n + 1 + numbered y + numbered z ≤ x.number) → (x.number < n + 1 + numbered y → Agree y (n + 1))
+          → (n + 1 + numbered y ≤ x.number → x.number < n + 1 + numbered y + numbered z → Agree z (n + 1 + numbered y))
+          → (n + 1 + numbered y + numbered z ≤ x.number → x.number < n + 1 + numbered y + numbered z + numbered rest
+          → Agree rest (n + 1 + numbered y + numbered z))
+          → Agree (if_else t y z rest) n
+      by (inl h) g inner other later =
+          agree_to _ _ (first_alone (receives_at y (n + 1) x.number) _ (two_none _ _ (outside z (n + 1 + numbered y) x.number (inl h))
+          (outside rest (n + 1 + numbered y + numbered z) x.number (inl (omega (arith, h)))))) (inner h)
+      by (inr h) (inl g) inner other later =
+          agree_to _ _ ((λ i. outside y (n + 1) x.number (inr (omega (arith, h))) i
+          ++ (receives_at z (n + 1 + numbered y) x.number ++ receives_at rest (n + 1 + numbered y + numbered z) x.number))
+          ∙ first_alone (receives_at z (n + 1 + numbered y) x.number) _ (outside rest (n + 1 + numbered y + numbered z) x.number (inl g))) (other h g)
+      by (inr h) (inr g) inner other later =
+          agree_to _ _ (λ i. outside y (n + 1) x.number (inr (omega (arith, h))) i
+          ++ (outside z (n + 1 + numbered y) x.number (inr g) i ++ receives_at rest (n + 1 + numbered y + numbered z) x.number)) (later g (omega (arith, b)))
+  agree (while_loop t y rest) n sc d q r low a b =
+      by (split x.number (n + 1 + numbered y)) (agree y (n + 1) sc d low.0 q low.3 (past n x.number a (another _ q low.2 refl refl)))
+      (agree rest (n + 1 + numbered y) sc d low.1 r low.4)
+    where
+      by : (x.number < n + 1 + numbered y) ⊎ (n + 1 + numbered y ≤ x.number) → (x.number < n + 1 + numbered y → Agree y (n + 1))
+          → (n + 1 + numbered y ≤ x.number → x.number < n + 1 + numbered y + numbered rest → Agree rest (n + 1 + numbered y)) → Agree (while_loop t y rest) n
+      by (inl h) inner later =
+          agree_to _ _ (first_alone (receives_at y (n + 1) x.number) _ (outside rest (n + 1 + numbered y) x.number (inl h))) (inner h)
+      by (inr h) inner later =
+          agree_to _ _ (λ i. outside y (n + 1) x.number (inr (omega (arith, h))) i ++ receives_at rest (n + 1 + numbered y) x.number)
+          (later h (omega (arith, b)))
+  agree (for_each w e y rest) n sc d q r low a b =
+      by (split x.number (n + 1 + numbered y))
+      (agree y (n + 1) (with_local sc w kinds.Str) (d + 1) low.0 q low.3 (past n x.number a (another _ q low.2 refl refl)))
+      (agree rest (n + 1 + numbered y) sc d low.1 r low.4)
+    where
+      by : (x.number < n + 1 + numbered y) ⊎ (n + 1 + numbered y ≤ x.number) → (x.number < n + 1 + numbered y → Agree y (n + 1))
+          → (n + 1 + numbered y ≤ x.number → x.number < n + 1 + numbered y + numbered rest → Agree rest (n + 1 + numbered y)) → Agree (for_each w e y rest) n
+      by (inl h) inner later =
+          agree_to _ _ (first_alone (receives_at y (n + 1) x.number) _ (outside rest (n + 1 + numbered y) x.number (inl h))) (inner h)
+      by (inr h) inner later =
+          agree_to _ _ (λ i. outside y (n + 1) x.number (inr (omega (arith, h))) i ++ receives_at rest (n + 1 + numbered y) x.number)
+          (later h (omega (arith, b)))
+  agree (block y rest) n sc d q r low a b =
+      by (split x.number (n + numbered y)) (agree y n sc d q low.0 low.1 a) (agree rest (n + numbered y) sc d low.0 r low.2)
+    where
+      by : (x.number < n + numbered y) ⊎ (n + numbered y ≤ x.number) → (x.number < n + numbered y → Agree y n)
+          → (n + numbered y ≤ x.number → x.number < n + numbered y + numbered rest → Agree rest (n + numbered y)) → Agree (block y rest) n
+      by (inl h) inner later =
+          agree_to _ _ (first_alone (receives_at y n x.number) _ (outside rest (n + numbered y) x.number (inl h))) (inner h)
+      by (inr h) inner later =
+          agree_to _ _ (λ i. outside y n x.number (inr h) i ++ receives_at rest (n + numbered y) x.number) (later h (omega (arith, b)))

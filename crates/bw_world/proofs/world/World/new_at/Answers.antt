@@ -1,0 +1,11 @@
+use Rattle.std.proofs.Common.{rules, subst}
+use Rattle.bw_run.specs.Fit.{AreShared}
+use Rattle.bw_types.specs.declared.typed.Typed.{Typed}
+use Rattle.bw_world.proofs.Keeping.{kept_empty}
+use Rattle.bw_world.proofs.world.World.new_at.Goals as goal
+
+pub invariant_of-result : goal.invariant_of-result
+invariant_of-result c =
+    kept_empty c.args.checked.typed c.in_ok-shared.shared
+    (subst (λ (t : Typed). AreShared t.service c.in_ok-shared.shared) c.typed.ensures c.in_ok-shared.ensures.fit) c.args.next c.args.first
+    c.in_ok-live.live _ c.in_ok-live.ensures (search rules)

@@ -1,0 +1,5 @@
+pub mod Changes
+pub mod Kept
+pub mod Plain
+pub mod Seen
+pub mod Stands

@@ -1,0 +1,124 @@
+//! Worlds.
+ghost use Rattle.std.specs.Prelude.{◌≡◌, ◌≤◌, ◌^◌, length, IfOk, IfSome, option_copied};
+ghost use Rattle.bw_model.specs.Sessions.{empty};
+ghost use Rattle.bw_world.specs.Kept.{IsKept, IsSuspended};
+ghost use Rattle.bw_world.specs.Seen.{found};
+ghost use Rattle.bw_world.specs.Stands.{StandsFor};
+
+use crate::checked::Checked;
+use crate::suspended::Suspended;
+use bw_lang::Memory;
+use bw_run::{SharedValues, first_values};
+use lru::LruCache;
+use std::alloc::Global;
+use std::marker::Model;
+use std::num::NonZeroUsize;
+
+/// The live sessions of a service and its shared variables. At most 1,000 sessions are live: where one more begins, the one
+/// that wasn't used for the longest time gives way.
+///
+/// Contracts see the live sessions by their numbers, the most recently used first. Each waits at a show of its own with a
+/// fit frame, and the shared variables are fit.
+#[derive(Drop)]
+pub struct World {
+    pub(crate) checked: Checked,
+    pub(crate) next: u64,
+    pub(crate) first: u32,
+    pub(crate) shared: SharedValues,
+    pub(crate) live: LruCache<u32, Suspended>,
+}
+
+impl Model for World {
+    ghost use Rattle.std.specs.Prelude.{◌≡◌};
+    ghost use Rattle.bw_world.specs.Seen.{Seen};
+    ghost use Rattle.bw_world.specs.Kept.{IsKept};
+
+    ghost Value = { Seen };
+
+    ghost use Rattle.std.specs.Coded.{codes};
+    ghost use Rattle.bw_lang.specs.contracts.service.Service as service;
+    ghost use Rattle.bw_doc.specs.MadeCode.{coded_made};
+
+    ghost coded = { Prim.hlevel (codes, coded_made, service.the_row.coded) };
+
+    ghost view = { λ w. record {
+      service = w.checked.typed.service;
+      shared = w.shared;
+      next = w.next;
+      first = w.first;
+      live = w.live.entries;
+    } };
+
+    ghost invariant = { λ w. (w.live.cap ≡ 1000) × IsKept (record {
+      service = w.checked.typed.service;
+      shared = w.shared;
+      next = w.next;
+      first = w.first;
+      live = w.live.entries;
+    }) };
+}
+
+impl World {
+    /// The world in which nothing was requested yet: no session is live, the shared variables have the values of their
+    /// literals, and the first session gets number 1, its first turn number 1.
+    pub fn new(alloc: Global, checked: Checked) -> Result<World, Memory>
+        ensures service { IfOk result (λ w. w.service ≡ checked.typed.service) }
+        ensures stands { IfOk result (λ w. StandsFor w (empty checked.typed.service)) }
+    {
+        World::new_at(alloc, checked, 1, 1)
+    }
+
+    /// The same, but that the next session gets number `next`, and a first turn the number `first`.
+    pub fn new_at(alloc: Global, checked: Checked, next: u64, first: u32) -> Result<World, Memory>
+        requires next { (1 ≤ next) × (next ≤ 2 ^ 32) }
+        requires first { 1 ≤ first }
+        ensures service { IfOk result (λ w. w.service ≡ checked.typed.service) }
+        ensures stands { IfOk result (λ w. StandsFor w (record (empty checked.typed.service) { next = next; first = first })) }
+    {
+        let shared = first_values(alloc, checked.typed())?;
+        let Some(most) = NonZeroUsize::new(1000) else {
+            unreachable!()
+        };
+        let live = LruCache::new(alloc, most)?;
+        Ok(World {
+            checked,
+            next,
+            first,
+            shared,
+            live,
+        })
+    }
+
+    /// The live session of this number and key, which waits at a show of its own with a fit frame. It takes no memory, and
+    /// doesn't count as a use.
+    pub fn get(&self, number: u32, key: u64) -> Option<&Suspended>
+        ensures found { option_copied result ≡ found number key self.now.live }
+        ensures fit { IfSome result (λ s. IsSuspended self.now.service s.now) }
+        ensures kept { IsKept self.now }
+    {
+        let one = self.live.peek(&number)?;
+        if one.key == key { Some(one) } else { None }
+    }
+
+    /// How many sessions are live: at most 1,000. It takes no memory.
+    pub fn live(&self) -> usize
+        ensures live { result ≡ length self.now.live }
+        ensures few { result ≤ 1000 }
+    {
+        self.live.len()
+    }
+
+    /// The shared variables. It takes no memory.
+    pub fn shared(&self) -> &SharedValues
+        ensures { result.now ≡ self.now.shared }
+    {
+        &self.shared
+    }
+
+    /// The service. It takes no memory.
+    pub fn checked(&self) -> &Checked
+        ensures { result.now.typed.service ≡ self.now.service }
+    {
+        &self.checked
+    }
+}
