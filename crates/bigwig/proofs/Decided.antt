@@ -20,12 +20,12 @@ use Rattle.bw_valid.specs.declared.breach.Breach.{Breach}
 use Rattle.bw_valid.proofs.BreachLaws.{valid_decided}
 use Rattle.bigwig.specs.Asked.{Work, page, page_file, rules, schema, judged, ruled}
 use Rattle.bigwig.specs.Asked.Work.{prints}
-use Rattle.bigwig.specs.Asked.{command, file, read, typed, small, accepted, served, service_file, replayed, work, asked, usage_line}
+use Rattle.bigwig.specs.Asked.{command, file, read, typed, small, accepted, served, service_file, replayed, at_port, work, asked, usage_line}
 use Rattle.bigwig.specs.Commands.{command_of}
 use Rattle.bigwig.specs.Lines.{syntax_line, type_line, points_line, no_file_line, no_page_line, breach_line, schema_line}
 use Rattle.bigwig.specs.Questions.{Said, Question, ◌>>=◌, found, IsDecided, line}
 use Rattle.bigwig.specs.declared.command.Command.{Command}
-use Rattle.bigwig.specs.declared.command.Command.TheVariants.{Replay, Valid}
+use Rattle.bigwig.specs.declared.command.Command.TheVariants.{Replay, Serve, Valid}
 use Rattle.bigwig.specs.declared.status.Status.{Status}
 use Rattle.bigwig.specs.declared.status.Status.TheVariants.{Usage, NoFile, ServiceRefused, SchemaRefused, PageRefused}
 
@@ -158,6 +158,7 @@ judged_decided tree by = record {
 pub work_decided : (disk : Disk) (c : Command) → IsDecided (work disk c)
 work_decided disk (Replay service requests most) =
     then (service_file disk service) (replayed disk requests most) (service_file_decided disk service) (λ tree. then (file disk requests) _ (file_decided disk requests) (λ stream. found_decided _))
+work_decided disk (Serve service port most) = then (service_file disk service) (at_port port most) (service_file_decided disk service) (λ tree. found_decided _)
 work_decided disk (Valid name named) =
     then (page_file disk name) (ruled disk named) (then (file disk name) page (file_decided disk name) page_decided) (λ tree. then (schema disk named) (judged tree) (schema_decided disk named) (judged_decided tree))
 

@@ -1,21 +1,23 @@
 -- Some status is due, and one only.
-use Rattle.std.proofs.Common.{◌≡◌, ◌⊎◌, ℕ, List, Option, None, Some, codes, refl, sym, ap, ◌∙◌, subst, inl, inr}
-use Rattle.bw_lang.specs.Forest.{Forest}
+use Rattle.std.proofs.Common.{◌≡◌, ◌⊎◌, ℕ, List, Option, Some, codes, refl, sym, ◌∙◌, subst, inl, inr}
+use Rattle.bw_lang.specs.declared.service.Service.{Service}
 use Rattle.bw_out.specs.Told.{Disk}
-use Rattle.bigwig.specs.Asked.{Work, rules, schema, ruled, work}
-use Rattle.bigwig.specs.Asked.Work.{prints, replays}
+use Rattle.bigwig.specs.Asked.{Work, asked, work}
+use Rattle.bigwig.specs.Asked.Work.{prints, replays, serves}
 use Rattle.bigwig.specs.Commands.{command_of}
-use Rattle.bigwig.specs.Laws.{IsValidFile, ValidIsDone, Due, SomeStatusIsDue, OneStatusIsDue, ComesWhereDue, DoesItsWork, IsFree}
+use Rattle.bigwig.specs.Laws.{IsValidFile, ValidIsDone, Due, SomeStatusIsDue, OneStatusIsDue, ComesWhereDue, DoesItsWork, DoorFaultsServe, IsFree}
 use Rattle.bw_answer.specs.declared.ends.StreamEnd.{StreamEnd}
 use Rattle.bw_answer.specs.declared.ends.StreamEnd.TheVariants as ends
-use Rattle.bigwig.specs.Outcomes.{Outside, IsDone, IsSaid, status_of}
+use Rattle.bigwig.specs.Outcomes.{Outside, IsDone, IsSaid, IsServing, status_of}
 use Rattle.bigwig.specs.Outcomes.Comes.{said, done, read_fault, no_memory}
+use Rattle.bigwig.specs.Outcomes.IsServing.{no_port, no_line, links_served}
 use Rattle.bigwig.specs.Questions.{Said, line}
 use Rattle.bigwig.specs.declared.command.Command.{Command}
 use Rattle.bigwig.specs.declared.command.Command.TheVariants.{Valid}
 use Rattle.bigwig.specs.declared.status.Status.{Status}
-use Rattle.bigwig.specs.declared.status.Status.TheVariants.{Done, NoFile, SchemaRefused, PageRefused}
+use Rattle.bigwig.specs.declared.status.Status.TheVariants.{Done, ReadFault, WriteFault, DoorFault, Memory}
 use Rattle.bigwig.proofs.Decided.{asked_decided}
+use Rattle.bigwig.proofs.Refusals.{never_said}
 
 pub some_status : SomeStatusIsDue
 some_status words disk = elim (asked_decided words disk).some as (λ _. (status : Status) × Due words disk status) [
@@ -38,11 +40,18 @@ ended_or_fault (ends.Ended n) = inl refl
 ended_or_fault ends.ReadFault = inr (inl refl)
 ended_or_fault ends.WriteFault = inr (inr (inl refl))
 
+serving_or_fault : (tree : Service) (port most : ℕ) (before after : Outside) (status : Status) → IsServing tree port most before after status → (status ≡ Done) ⊎ IsFree status
+serving_or_fault tree port most before after status (no_port e k) = inr (inr (inr (inl e)))
+serving_or_fault tree port most before after status (no_line e a p k) = inr (inr (inl e))
+serving_or_fault tree port most before after status (links_served (inl e) a p l) = inl e
+serving_or_fault tree port most before after status (links_served (inr e) a p l) = inr (inr (inr (inl e)))
+
 -- the work ends with Done, unless there was a fault
 done_or_fault : (work : Work) (before after : Outside) (status : Status) → IsDone work before after status → (status ≡ Done) ⊎ IsFree status
 done_or_fault (prints text) before after status d = said_or_fault _ before after status d
 done_or_fault (replays tree stream most) before after status d =
     subst (λ s. (s ≡ Done) ⊎ IsFree s) (sym d.status_is) (ended_or_fault d.end)
+done_or_fault (serves tree port most) before after status d = serving_or_fault tree port most before after status d
 
 or_fault : (s t u : Status) → (u ≡ t) ⊎ IsFree u → t ≡ s → (u ≡ s) ⊎ IsFree u
 or_fault s t u (inl x) e = inl (x ∙ e)
@@ -52,7 +61,7 @@ pub comes_where_due : ComesWhereDue
 comes_where_due words disk before after s t d (said x p i) = or_fault s x.status t (said_or_fault x before after t i) (one_status words disk x.status s (inl (x, p, refl)) d)
 comes_where_due words disk before after s t d (done w p i) = or_fault s Done t (done_or_fault w before after t i) (one_status words disk Done s (inr (w, p, refl)) d)
 comes_where_due words disk before after s t d (read_fault e k) = inr (inl e)
-comes_where_due words disk before after s t d (no_memory e k) = inr (inr (inr e))
+comes_where_due words disk before after s t d (no_memory e k) = inr (inr (inr (inr e)))
 
 pub does_its_work : DoesItsWork
 does_its_work words disk work before after status g (said x p i) = absurd ((asked_decided words disk).not_both work x g p)
@@ -61,33 +70,38 @@ does_its_work words disk work before after status g (done w p d) =
     let so : IsDone work before after status = subst (λ x. IsDone x before after status) same d in
     elim (done_or_fault work before after status so) as (λ _. ((status ≡ Done) × IsDone work before after status) ⊎ IsFree status) [ inl e ↦ inl (e, so) | inr f ↦ inr f ]
 does_its_work words disk work before after status g (read_fault e k) = inr (inl e)
-does_its_work words disk work before after status g (no_memory e k) = inr (inr (inr e))
+does_its_work words disk work before after status g (no_memory e k) = inr (inr (inr (inr e)))
+
+-- ---- door faults
+
+no_door_fault : (status : Status) → DoorFault ≡ status → (status ≡ Done) ⊎ ((status ≡ ReadFault) ⊎ ((status ≡ WriteFault) ⊎ (status ≡ Memory))) → ⊥
+no_door_fault status e (inl f) = let g : DoorFault ≡ Done = e ∙ f in cc
+no_door_fault status e (inr (inl f)) = let g : DoorFault ≡ ReadFault = e ∙ f in cc
+no_door_fault status e (inr (inr (inl f))) = let g : DoorFault ≡ WriteFault = e ∙ f in cc
+no_door_fault status e (inr (inr (inr f))) = let g : DoorFault ≡ Memory = e ∙ f in cc
+
+stream_status : (end : StreamEnd) → (status_of end ≡ Done) ⊎ ((status_of end ≡ ReadFault) ⊎ ((status_of end ≡ WriteFault) ⊎ (status_of end ≡ Memory)))
+stream_status (ends.Ended n) = inl refl
+stream_status ends.ReadFault = inr (inl refl)
+stream_status ends.WriteFault = inr (inr (inl refl))
+
+abbrev IsServed : Work → Type 0
+IsServed work = (tree : Service) × (port : ℕ) × (most : ℕ) × (work ≡ serves tree port most)
+
+served_work : (work : Work) (before after : Outside) → IsDone work before after DoorFault → IsServed work
+served_work (prints text) before after d = absurd (elim d.prints [ inl x ↦ no_door_fault Done x.0 (inl refl) | inr x ↦ no_door_fault WriteFault x.0 (inr (inr (inl refl))) ])
+served_work (replays tree stream most) before after d = absurd (no_door_fault (status_of d.end) d.status_is (stream_status d.end))
+served_work (serves tree port most) before after d = (tree, port, most, refl)
+
+pub door_faults_serve : DoorFaultsServe
+door_faults_serve words disk before after (said s p i) =
+    absurd (elim i.prints [ inl x ↦ never_said words disk s DoorFault refl p x.0 | inr x ↦ no_door_fault WriteFault x.0 (inr (inr (inl refl))) ])
+door_faults_serve words disk before after (done w p d) =
+    let served = served_work w before after d in (served.0, served.1, served.2, subst (λ x. (asked words disk).gives x) served.3 p)
+door_faults_serve words disk before after (read_fault e k) = absurd (no_door_fault ReadFault e (inr (inl refl)))
+door_faults_serve words disk before after (no_memory e k) = absurd (no_door_fault Memory e (inr (inr (inr refl))))
 
 -- ---- valid
-
-none_some : (o : Option Command) (c : Command) → o ≡ None → o ≡ Some c → ⊥
-none_some o c e f = cc
-
-status_is : (s : Said) (status : Status) (text : List ℕ) → s ≡ record { status = status; text = text } → s.status ≡ status
-status_is s status text e = ap (λ (x : Said). x.status) e
-
-rules_said : (content : List ℕ) (s : Said) → (rules content).says s → Done ≡ s.status → ⊥
-rules_said content s x e = let f = status_is s SchemaRefused _ x.3 in cc
-
-schema_said : (disk : Disk) (named : Option (List ℕ)) (s : Said) → (schema disk named).says s → Done ≡ s.status → ⊥
-schema_said disk None s x e = rules_said _ s x e
-schema_said disk (Some name) s (inl x) e = let f = status_is s NoFile _ x.1 in cc
-schema_said disk (Some name) s (inr x) e = rules_said x.0 s x.2 e
-
-ruled_said : (disk : Disk) (named : Option (List ℕ)) (tree : Forest) (s : Said) → (ruled disk named tree).says s → Done ≡ s.status → ⊥
-ruled_said disk named tree s (inl x) e = schema_said disk named s x e
-ruled_said disk named tree s (inr x) e = let f = status_is s PageRefused _ x.2.2 in cc
-
--- what goes wrong in `valid` isn't done
-valid_said : (disk : Disk) (name : List ℕ) (named : Option (List ℕ)) (s : Said) → (work disk (Valid name named)).says s → Done ≡ s.status → ⊥
-valid_said disk name named s (inl (inl x)) e = let f = status_is s NoFile _ x.1 in cc
-valid_said disk name named s (inl (inr x)) e = let f = status_is s PageRefused _ x.2.1 in cc
-valid_said disk name named s (inr x) e = ruled_said disk named x.0 s x.2 e
 
 same_command : (a b : Command) → Some a ≡ Some b → a ≡ b
 same_command a b e = cc
@@ -104,10 +118,7 @@ valid_given disk name named w g = record {
 }
 
 valid_due : (words : List (List ℕ)) (disk : Disk) (name : List ℕ) (named : Option (List ℕ)) → command_of words ≡ Some (Valid name named) → Due words disk Done → IsValidFile disk name named
-valid_due words disk name named c (inl (s, inl x, e)) = absurd (none_some (command_of words) (Valid name named) x.0 c)
-valid_due words disk name named c (inl (s, inr x, e)) =
-    let same : x.0 ≡ Valid name named = same_command x.0 (Valid name named) (sym x.1 ∙ c) in
-    absurd (valid_said disk name named s (subst (λ k. (work disk k).says s) same x.2) e)
+valid_due words disk name named c (inl (s, x, e)) = absurd (never_said words disk s Done refl x e)
 valid_due words disk name named c (inr (w, x, e)) =
     let same : x.0 ≡ Valid name named = same_command x.0 (Valid name named) (sym x.1 ∙ c) in
     valid_given disk name named w (subst (λ k. (work disk k).gives w) same x.2)

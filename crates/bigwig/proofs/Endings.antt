@@ -1,20 +1,24 @@
 -- What comes of the work, and of the questions before it.
+use Rattle.std.specs.Io.KnownBytes.{Appends}
 use Rattle.std.proofs.Common.{◌≡◌, ◌⊎◌, ℕ, List, [], ◌++◌, Option, None, Some, IfSome, refl, sym, ap, ◌∙◌, subst, inl, inr}
 use Rattle.bw_lang.specs.declared.service.Service.{Service}
 use Rattle.bw_model.specs.Runs.{At}
-use Rattle.bw_model.specs.Sessions.{empty}
+use Rattle.bw_model.specs.Sessions.{World, empty}
+use Rattle.bw_out.specs.Doors.{Returned, Asks}
 use Rattle.bw_out.specs.Told.{Coming, Disk, Finds}
+use Rattle.bw_out.specs.Writes.{AppendsPart}
 use Rattle.bw_world.specs.Seen.{Seen}
 use Rattle.bw_world.specs.Stands.{StandsFor}
 use Rattle.bw_answer.specs.Answers.{Place, IsAt, Answers}
 use Rattle.bw_answer.specs.declared.ends.StreamEnd.{StreamEnd}
-use Rattle.bigwig.specs.Asked.{Work, command, work, asked, file, replayed, usage_line}
-use Rattle.bigwig.specs.Asked.Work.{prints, replays}
+use Rattle.bigwig.specs.Asked.{Work, command, work, asked, file, replayed, at_port, usage_line}
+use Rattle.bigwig.specs.Asked.Work.{prints, replays, serves}
 use Rattle.bigwig.specs.Codes.{status_for}
 use Rattle.bigwig.specs.Commands.{command_of}
-use Rattle.bigwig.specs.Outcomes.{Outside, Comes, Prints, Speaks, Replies, status_of}
+use Rattle.bigwig.specs.Outcomes.{Outside, outside, Comes, Prints, Speaks, Replies, ServesLinks, serving_line, status_of}
 use Rattle.bigwig.specs.Outcomes.Comes.{said, done, read_fault, no_memory}
-use Rattle.bigwig.specs.Questions.{Said, Question, ◌>>=◌, found, IsStop, line}
+use Rattle.bigwig.specs.Outcomes.IsServing.{no_port, no_line, links_served}
+use Rattle.bigwig.specs.Questions.{Said, Question, ◌>>=◌, IsStop, line}
 use Rattle.bigwig.specs.Reports.{IsReported, IsAbsent}
 use Rattle.bigwig.specs.declared.command.Command.{Command}
 use Rattle.bigwig.specs.declared.status.Refusal.{Refusal}
@@ -22,6 +26,7 @@ use Rattle.bigwig.specs.declared.status.Status.{Status}
 use Rattle.bigwig.specs.declared.status.Status.TheVariants as status
 use Rattle.bigwig.specs.declared.stop.Stop.{Stop}
 use Rattle.bigwig.specs.declared.stop.Stop.TheVariants as stop
+use Rattle.bigwig.proofs.Links.{given_so}
 
 -- ---- questions, and what comes of them
 
@@ -54,11 +59,6 @@ pub speaks_replies : (told : Option Disk) (q : Disk → Question Work) (held now
     → IfSome told (λ d. Speaks (q d) held now r) → IfSome told (λ d. Replies (q d) held now keys keys steps steps r)
 speaks_replies None q held now keys steps r s = tt
 speaks_replies (Some d) q held now keys steps r s = λ o. s (record o { keys = keys; steps = steps })
-
-pub replies_comes : (told : Option Disk) (q : Disk → Question Work) (held now : Option (List ℕ)) (keys later : Option Coming) (steps after : ℕ) (r : Status) (o : Outside) → IfSome told (λ d. Replies (q d) held now keys later steps after r)
-    → IfSome told (λ d. Comes (q d) (record o { printed = held; keys = keys; steps = steps }) (record o { printed = now; keys = later; steps = after }) r)
-replies_comes None q held now keys later steps after r o s = tt
-replies_comes (Some d) q held now keys later steps after r o s = s o
 
 -- the question gave a value, and then the next was followed
 pub next_replies : {A : Type 0} (told later_told : Option Disk) (q : Disk → Question A) (next : Disk → A → Question Work) (a : A) (held now : Option (List ℕ)) (keys later : Option Coming) (steps after : ℕ) (r : Status)
@@ -130,19 +130,68 @@ pub of_service : (told : Option Disk) (name : List ℕ) (most : ℕ) (tree seen 
 of_service told name most tree seen held now keys later steps after r e h =
     subst (λ t. IfSome told (λ d. Replies (replayed d name most t) held now keys later steps after r)) e h
 
+-- ---- links
+
+outside_same : (p : Option (List ℕ)) (k : Option Coming) (a : Option ℕ) (c d : Option (List (List ℕ))) (r t : Option (List Returned)) (s : ℕ) → c ≡ d → r ≡ t → outside p k a c r s ≡ outside p k a d t s
+outside_same p k a c d r t s e f = ap (λ x. outside p k a x r s) e ∙ ap (λ x. outside p k a d x s) f
+
+-- the port couldn't be listened on
+pub no_port_comes : (tree : Service) (port most : ℕ) (o : Outside) (asked : Option ℕ) (coming : Option (List (List ℕ))) (returned : Option (List Returned)) → coming ≡ o.coming → returned ≡ o.returned
+    → Comes (at_port port most tree) o (outside o.printed o.keys asked coming returned o.steps) status.DoorFault
+no_port_comes tree port most o asked coming returned e f =
+    done (serves tree port most) refl (no_port refl (outside_same o.printed o.keys asked coming o.coming returned o.returned o.steps e f))
+
+-- the line was printed in a first part
+pub no_line_comes : (tree : Service) (port most : ℕ) (o : Outside) (printed : Option (List ℕ)) (asked : Option ℕ) (coming : Option (List (List ℕ))) (returned : Option (List Returned)) → coming ≡ o.coming → returned ≡ o.returned
+    → Asks asked port → AppendsPart o.printed printed (serving_line port) → Comes (at_port port most tree) o (outside printed o.keys asked coming returned o.steps) status.WriteFault
+no_line_comes tree port most o printed asked coming returned e f a p =
+    done (serves tree port most) refl (no_line refl a p (outside_same printed o.keys asked coming o.coming returned o.returned o.steps e f))
+
+-- links were served
+pub serving_comes : (tree : Service) (seen : Seen) (port most : ℕ) (o after : Outside) (asked : Option ℕ) (coming : Option (List (List ℕ))) (returned : Option (List Returned)) (s : Status) → coming ≡ o.coming → returned ≡ o.returned
+    → seen.service ≡ tree → StandsFor seen (empty tree) → Asks asked port → after.asked ≡ asked → Appends o.printed after.printed (serving_line port) → (s ≡ status.Done) ⊎ (s ≡ status.DoorFault)
+    → ((m : World) → StandsFor seen m → ServesLinks seen.service m most (outside None o.keys asked coming returned o.steps) (record after { printed = None }) s)
+    → Comes (at_port port most tree) o after s
+serving_comes tree seen port most o after asked coming returned s e f by stands asks same line ends gives =
+    let unprinted : Outside = record after { printed = None } in
+    let from = subst (λ t. ServesLinks t (empty tree) most (outside None o.keys asked coming returned o.steps) unprinted s) by (gives (empty tree) stands) in
+    let all : ServesLinks tree (empty tree) most o after s = λ keys k links l given g.
+    let x = from keys k links (e ∙ l) given (f ∙ g) in (x.0, x.1, x.2, given_so tree _ links given x.0 x.1 x.2 unprinted after x.3 refl refl refl refl, x.4, x.5) in
+    done (serves tree port most) refl (links_served ends (subst (λ x. Asks x port) (sym same) asks) line all)
+
+-- the service is the one that the world was made with
+pub of_same_service : (port most : ℕ) (tree seen : Service) (before after : Outside) (s : Status) → seen ≡ tree → Comes (at_port port most seen) before after s → Comes (at_port port most tree) before after s
+of_same_service port most tree seen before after s e h = subst (λ t. Comes (at_port port most t) before after s) e h
+
+-- the service was found, and then its port was served
+pub port_comes : (told : Option Disk) (q : Disk → Question Service) (port most : ℕ) (tree : Service) (before after : Outside) (s : Status) → IfSome told (λ d. (q d).gives tree)
+    → Comes (at_port port most tree) before after s → IfSome told (λ d. Comes (q d >>= at_port port most) before after s)
+port_comes None q port most tree before after s g h = tt
+port_comes (Some d) q port most tree before after s g h = comes_then (q d) (at_port port most) tree before after s g h
+
 -- ---- the words
 
+-- what was only printed, or answered on `out`, is all that comes
+pub speaks_comes : (told : Option Disk) (q : Disk → Question Work) (held now : Option (List ℕ)) (r : Status) (o : Outside)
+    → IfSome told (λ d. Speaks (q d) held now r) → IfSome told (λ d. Comes (q d) (record o { printed = held }) (record o { printed = now }) r)
+speaks_comes None q held now r o s = tt
+speaks_comes (Some d) q held now r o s = s o
+
+pub replies_comes : (told : Option Disk) (q : Disk → Question Work) (held now : Option (List ℕ)) (keys later : Option Coming) (steps after : ℕ) (r : Status) (o : Outside) → IfSome told (λ d. Replies (q d) held now keys later steps after r)
+    → IfSome told (λ d. Comes (q d) (record o { printed = held; keys = keys; steps = steps }) (record o { printed = now; keys = later; steps = after }) r)
+replies_comes None q held now keys later steps after r o s = tt
+replies_comes (Some d) q held now keys later steps after r o s = s o
+
 -- the work is that of this command
-pub of_command : (told : Option Disk) (c d : Command) (held now : Option (List ℕ)) (keys later : Option Coming) (steps after : ℕ) (r : Status) → c ≡ d
-    → IfSome told (λ disk. Replies (work disk d) held now keys later steps after r) → IfSome told (λ disk. Replies (work disk c) held now keys later steps after r)
-of_command told c d held now keys later steps after r e h = subst (λ x. IfSome told (λ disk. Replies (work disk x) held now keys later steps after r)) (sym e) h
+pub of_command : (told : Option Disk) (c d : Command) (before after : Outside) (r : Status) → c ≡ d
+    → IfSome told (λ disk. Comes (work disk d) before after r) → IfSome told (λ disk. Comes (work disk c) before after r)
+of_command told c d before after r e h = subst (λ x. IfSome told (λ disk. Comes (work disk x) before after r)) (sym e) h
 
 -- the words give this command
-pub words_come : (told : Option Disk) (words : List (List ℕ)) (c : Command) (held now : Option (List ℕ)) (keys later : Option Coming) (steps after : ℕ) (r : Status) (o : Outside) → command_of words ≡ Some c
-    → IfSome told (λ disk. Replies (work disk c) held now keys later steps after r)
-    → IfSome told (λ disk. Comes (asked words disk) (record o { printed = held; keys = keys; steps = steps }) (record o { printed = now; keys = later; steps = after }) r)
-words_come None words c held now keys later steps after r o e h = tt
-words_come (Some disk) words c held now keys later steps after r o e h = comes_then (command words) (work disk) c _ _ r e (h o)
+pub words_come : (told : Option Disk) (words : List (List ℕ)) (c : Command) (before after : Outside) (r : Status) → command_of words ≡ Some c
+    → IfSome told (λ disk. Comes (work disk c) before after r) → IfSome told (λ disk. Comes (asked words disk) before after r)
+words_come None words c before after r e h = tt
+words_come (Some disk) words c before after r e h = comes_then (command words) (work disk) c before after r e h
 
 -- the words are refused
 pub usage_comes : (told : Option Disk) (words : List (List ℕ)) (held now : Option (List ℕ)) (r : Status) (o : Outside) → command_of words ≡ None → Prints (record { status = status.Usage; text = usage_line }) held now r

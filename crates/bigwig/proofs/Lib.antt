@@ -5,5 +5,7 @@ pub mod Decided
 pub mod Due
 pub mod Endings
 pub mod Files
+pub mod Links
 pub mod Loads
 pub mod Pages
+pub mod Refusals

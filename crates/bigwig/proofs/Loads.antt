@@ -1,5 +1,5 @@
 -- Services that are loaded, and why others aren't.
-use Rattle.std.proofs.Common.{Vec, Global, ◌≡◌, ◌≢◌, ◌<◌, ◌≤◌, ◌⊎◌, Bool, false, ℕ, List, inl, inr, sym, ap, ◌∙◌, subst, refl, Some, Result, Ok, Err, IfOk, IfErr, take, length, arith}
+use Rattle.std.proofs.Common.{Vec, Global, ◌≡◌, ◌≢◌, ◌<◌, ◌≤◌, ◌⊎◌, ℕ, List, inl, inr, ap, ◌∙◌, subst, refl, Some, Result, Ok, Err, IfOk, IfErr, take, length, arith}
 use Rattle.bw_flow.specs.Layout.{points}
 use Rattle.bw_lang.specs.declared.service.Service.{Service}
 use Rattle.bw_lang.specs.declared.text.Memory.{Memory}

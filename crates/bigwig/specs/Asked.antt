@@ -24,7 +24,7 @@ use Rattle.bigwig.specs.Commands.{command_of}
 use Rattle.bigwig.specs.Lines.{syntax_line, type_line, points_line, no_file_line, no_page_line, breach_line, schema_line}
 use Rattle.bigwig.specs.Questions.{Question, ◌>>=◌, found, line}
 use Rattle.bigwig.specs.declared.command.Command.{Command}
-use Rattle.bigwig.specs.declared.command.Command.TheVariants.{Replay, Valid}
+use Rattle.bigwig.specs.declared.command.Command.TheVariants.{Replay, Serve, Valid}
 use Rattle.bigwig.specs.declared.status.Status.TheVariants.{Usage, NoFile, ServiceRefused, SchemaRefused, PageRefused}
 
 -- what is printed where the words are refused
@@ -78,14 +78,20 @@ served content = read content >>= accepted
 abbrev pub service_file : Disk → List ℕ → Question Service
 service_file disk name = file disk name >>= served
 
--- What is left to do where every question went well: to print; or to answer a stream of at most so many requests.
+-- What is left to do where every question went well: to print; to answer a stream of at most so many requests; or to
+-- serve at most so many links at a port.
 pub data Work : Type 0 where
   prints : List ℕ → Work
   replays : Service → List ℕ → ℕ → Work
+  serves : Service → ℕ → ℕ → Work
 
 -- the request file of a service that is served
 abbrev pub replayed : Disk → List ℕ → ℕ → Service → Question Work
 replayed disk requests most tree = file disk requests >>= (λ stream. found (replays tree stream most))
+
+-- the port of a service that is served
+abbrev pub at_port : ℕ → ℕ → Service → Question Work
+at_port port most tree = found (serves tree port most)
 
 -- which page is the content?
 abbrev pub page : List ℕ → Question Forest
@@ -124,6 +130,7 @@ ruled disk named tree = schema disk named >>= judged tree
 -- the questions of a command, and the work that they lead to
 abbrev pub work : Disk → Command → Question Work
 work disk (Replay service requests most) = service_file disk service >>= replayed disk requests most
+work disk (Serve service port most) = service_file disk service >>= at_port port most
 work disk (Valid name named) = page_file disk name >>= ruled disk named
 
 -- all that the program finds out from its words and its files

@@ -5,7 +5,7 @@ use Rattle.clap.specs.Words.{fault_of}
 use Rattle.bigwig.specs.Numbers.{number_or}
 use Rattle.bigwig.specs.Words.{Written, bigwig, written_by}
 use Rattle.bigwig.specs.declared.command.Command.{Command}
-use Rattle.bigwig.specs.declared.command.Command.TheVariants.{Replay, Valid}
+use Rattle.bigwig.specs.declared.command.Command.TheVariants.{Replay, Serve, Valid}
 
 -- no option is there but the limit
 abbrev pub has_limit_alone : Written → Bool
@@ -18,6 +18,18 @@ replay_of service requests most = None
 
 abbrev pub replay_by : Written → Option Command
 replay_by w = if has_limit_alone w then replay_of w.first w.second (number_or 1 1000000 1000000 w.limit) else None
+
+-- no option is there but the limit and the port
+abbrev pub has_limit_and_port_alone : Written → Bool
+has_limit_and_port_alone w = is_none w.schema && is_none w.workers
+
+-- serve SERVICE
+abbrev pub serve_of : Option (List ℕ) → Option (List ℕ) → Option ℕ → Option ℕ → Option Command
+serve_of (Some service) None (Some port) (Some most) = Some (Serve service port most)
+serve_of service second port most = None
+
+abbrev pub serve_by : Written → Option Command
+serve_by w = if has_limit_and_port_alone w then serve_of w.first w.second (number_or 1 65535 8080 w.port) (number_or 1 1000000 1000000 w.limit) else None
 
 -- no option is there but the schema
 abbrev pub has_schema_alone : Written → Bool
@@ -34,7 +46,9 @@ valid_by w = if has_schema_alone w then valid_of w.first w.second w.schema else 
 -- the command of this name
 abbrev pub named_by : Option (List ℕ) → Written → Option Command
 named_by None w = None
-named_by (Some name) w = if bytes_eq name (codes "replay") then replay_by w else (if bytes_eq name (codes "valid") then valid_by w else None)
+named_by (Some name) w =
+    if bytes_eq name (codes "replay") then replay_by w
+    else (if bytes_eq name (codes "serve") then serve_by w else (if bytes_eq name (codes "valid") then valid_by w else None))
 
 -- the command that is written so
 abbrev pub command_by : Written → Option Command

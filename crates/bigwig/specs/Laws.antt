@@ -1,6 +1,7 @@
 -- Laws of outcomes.
 use Rattle.std.specs.Prelude.{◌≡◌, ◌↔◌, ◌⊎◌, ℕ, List, Option, None, Some}
 use Rattle.bw_lang.specs.Forest.{Forest}
+use Rattle.bw_lang.specs.declared.service.Service.{Service}
 use Rattle.bw_out.specs.Told.{Disk}
 use Rattle.bw_read.specs.Pages.{IsPage}
 use Rattle.bw_schema.specs.BuiltIn.{built_in_root, built_in_rules}
@@ -9,12 +10,13 @@ use Rattle.bw_schema.specs.Validity.{Valid as IsValid}
 use Rattle.bw_schema.specs.declared.default_schema.TheConstants.{BUILT_IN}
 use Rattle.bw_schema.specs.declared.schema.Schema.{Schema}
 use Rattle.bigwig.specs.Asked.{Work, asked, schema}
+use Rattle.bigwig.specs.Asked.Work.{serves}
 use Rattle.bigwig.specs.Commands.{command_of}
 use Rattle.bigwig.specs.Outcomes.{Outside, Comes, IsDone}
 use Rattle.bigwig.specs.Questions.{Said}
 use Rattle.bigwig.specs.declared.command.Command.TheVariants.{Valid}
 use Rattle.bigwig.specs.declared.status.Status.{Status}
-use Rattle.bigwig.specs.declared.status.Status.TheVariants.{Done, ReadFault, WriteFault, Memory}
+use Rattle.bigwig.specs.declared.status.Status.TheVariants.{Done, ReadFault, WriteFault, DoorFault, Memory}
 
 -- the status that is due by the words and the files: that of what is said, or that of work that is done
 abbrev pub Due : List (List ℕ) → Disk → Status → Type 0
@@ -30,7 +32,7 @@ OneStatusIsDue = (words : List (List ℕ)) (disk : Disk) (status other : Status)
 
 -- the status of a fault that is counted, or that of want of memory
 abbrev pub IsFree : Status → Type 0
-IsFree status = (status ≡ ReadFault) ⊎ ((status ≡ WriteFault) ⊎ (status ≡ Memory))
+IsFree status = (status ≡ ReadFault) ⊎ ((status ≡ WriteFault) ⊎ ((status ≡ DoorFault) ⊎ (status ≡ Memory)))
 
 -- the program comes to the status that is due, unless a count rose or there was no memory
 abbrev pub ComesWhereDue : Type 0
@@ -43,6 +45,12 @@ abbrev pub DoesItsWork : Type 0
 DoesItsWork =
     (words : List (List ℕ)) (disk : Disk) (work : Work) (before after : Outside) (status : Status) → (asked words disk).gives work
     → Comes (asked words disk) before after status → ((status ≡ Done) × IsDone work before after status) ⊎ IsFree status
+
+-- the door's fault comes only where a service is served
+abbrev pub DoorFaultsServe : Type 0
+DoorFaultsServe =
+    (words : List (List ℕ)) (disk : Disk) (before after : Outside) → Comes (asked words disk) before after DoorFault
+    → (tree : Service) × (port : ℕ) × (most : ℕ) × (asked words disk).gives (serves tree port most)
 
 -- the file of this name is a page, and it is valid by the schema that is named
 pub record IsValidFile (disk : Disk) (name : List ℕ) (named : Option (List ℕ)) : Type 0 where

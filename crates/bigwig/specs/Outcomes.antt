@@ -1,19 +1,20 @@
 -- What the program comes to: its status, and what is then printed, drawn and given back.
-use Rattle.std.specs.Prelude.{◌≡◌, ◌⊎◌, ℕ, List, Option, Some}
+use Rattle.std.specs.Prelude.{◌≡◌, ◌⊎◌, ◌<◌, ◌≤◌, ℕ, List, [], ◌∷◌, ◌++◌, length, Option, Some, codes, decimal}
 use Rattle.std.specs.Io.KnownBytes.{Appends}
 use Rattle.bw_lang.specs.declared.service.Service.{Service}
 use Rattle.bw_model.specs.Sessions.{World, empty}
-use Rattle.bw_out.specs.Doors.{Returned}
+use Rattle.bw_out.specs.Causes.{Shows}
+use Rattle.bw_out.specs.Doors.{Returned, Asks}
 use Rattle.bw_out.specs.Told.{Coming}
 use Rattle.bw_out.specs.Writes.{AppendsPart}
 use Rattle.bw_answer.specs.Answers.{Place, Course, AreLeft}
 use Rattle.bw_answer.specs.declared.ends.StreamEnd.{StreamEnd}
 use Rattle.bw_answer.specs.declared.ends.StreamEnd.TheVariants as ends
 use Rattle.bigwig.specs.Asked.{Work}
-use Rattle.bigwig.specs.Asked.Work.{prints, replays}
-use Rattle.bigwig.specs.Questions.{Said, Question}
+use Rattle.bigwig.specs.Asked.Work.{prints, replays, serves}
+use Rattle.bigwig.specs.Questions.{Said, Question, line}
 use Rattle.bigwig.specs.declared.status.Status.{Status}
-use Rattle.bigwig.specs.declared.status.Status.TheVariants.{Done, ReadFault, WriteFault, Memory}
+use Rattle.bigwig.specs.declared.status.Status.TheVariants.{Done, ReadFault, WriteFault, DoorFault, Memory}
 
 -- what is seen of the outside: what `out` holds, the keys to come, the port that was asked for, the links to come and
 -- those given back, and the steps so far
@@ -72,10 +73,62 @@ pub record IsReplayed (tree : Service) (stream : List ℕ) (most : ℕ) (before 
       × IsStreamed most tree (record { world = empty tree; keys = keys; steps = before.steps }) stream to before.printed after.printed left end
   pub kept : (after.asked ≡ before.asked) × (after.coming ≡ before.coming) × (after.returned ≡ before.returned)
 
+-- A link that had these bytes was answered and given back: by a run of at most one message, and a fault on it is what
+-- its counts show.
+pub record IsServed (service : Service) (from : Between) (bytes : List ℕ) (back : Returned) (to : Between) : Type 0 where
+  pub end : StreamEnd
+  pub streamed : IsStreamed 1 service from bytes to (Some []) back.written back.unread end
+  pub read_fault : Shows (end ≡ ends.ReadFault) 0 back.read_faults
+  pub write_fault : Shows (end ≡ ends.WriteFault) 0 back.write_faults
+
+-- links were given back, each one served, in the order in which they came and over one world; the rest is to come
+abbrev pub AreServed : Service → Between → List (List ℕ) → List Returned → Between → List (List ℕ) → Type 0
+AreServed service from links [] to rest = (to ≡ from) × (rest ≡ links)
+AreServed service from links (back ∷ backs) to rest =
+    (bytes : List ℕ) × (more : List (List ℕ)) × (mid : Between) × (links ≡ bytes ∷ more) × IsServed service from bytes back mid
+    × AreServed service mid more backs to rest
+
+-- these links were served and given back behind those of before, and this is left of the door and the keys
+pub record AreGivenBack (service : Service) (from : Between) (links : List (List ℕ)) (given backs : List Returned) (rest : List (List ℕ)) (to : Between)
+    (after : Outside) : Type 0 where
+  pub served : AreServed service from links backs to rest
+  pub returned : after.returned ≡ Some (given ++ backs)
+  pub coming : after.coming ≡ Some rest
+  pub keys : after.keys ≡ Some to.keys
+  pub steps : after.steps ≡ to.steps
+
+-- after the links that were given back all was done, since no link is to come or there were as many as may be; or fewer
+-- were given back, and the door failed
+abbrev pub IsOver : ℕ → List Returned → List (List ℕ) → Status → Type 0
+IsOver most backs rest status =
+    ((status ≡ Done) × ((rest ≡ []) ⊎ (length backs ≡ most))) ⊎ ((status ≡ DoorFault) × (length backs < most))
+
+-- at most so many links were served from this model world on, where the keys and the door tell
+abbrev pub ServesLinks : Service → World → ℕ → Outside → Outside → Status → Type 0
+ServesLinks service world most before after status =
+    (keys : Coming) → before.keys ≡ Some keys → (links : List (List ℕ)) → before.coming ≡ Some links → (given : List Returned) → before.returned ≡ Some given
+    → (backs : List Returned) × (rest : List (List ℕ)) × (to : Between)
+    × AreGivenBack service (record { world = world; keys = keys; steps = before.steps }) links given backs rest to after
+    × (length backs ≤ most) × IsOver most backs rest status
+
+abbrev pub serving_line : ℕ → List ℕ
+serving_line port = codes "serving " ++ line (decimal port)
+
+-- The port couldn't be listened on, and nothing else has changed; or it was asked for and the line that says so was
+-- printed in a first part; or the whole line was, and then links were served from the world in which nothing was
+-- requested yet.
+pub data IsServing (tree : Service) (port most : ℕ) (before after : Outside) (status : Status) : Type 0 where
+  no_port : status ≡ DoorFault → after ≡ record before { asked = after.asked } → IsServing tree port most before after status
+  no_line : status ≡ WriteFault → Asks after.asked port → AppendsPart before.printed after.printed (serving_line port)
+      → after ≡ record before { asked = after.asked; printed = after.printed } → IsServing tree port most before after status
+  links_served : (status ≡ Done) ⊎ (status ≡ DoorFault) → Asks after.asked port → Appends before.printed after.printed (serving_line port)
+      → ServesLinks tree (empty tree) most before after status → IsServing tree port most before after status
+
 -- what comes of the work
 abbrev pub IsDone : Work → Outside → Outside → Status → Type 0
 IsDone (prints text) before after status = IsSaid (record { status = Done; text = text }) before after status
 IsDone (replays tree stream most) before after status = IsReplayed tree stream most before after status
+IsDone (serves tree port most) before after status = IsServing tree port most before after status
 
 -- What comes of the questions. What is said is printed; or the work is done; or, after a read fault or for want of
 -- memory, nothing has changed.

@@ -1,14 +1,16 @@
 //! Laws of outcomes.
-ghost use Rattle.bigwig.specs.Laws.{SomeStatusIsDue, OneStatusIsDue, ComesWhereDue, DoesItsWork, ValidIsDone, BuiltInReads, BuiltInIsMeant, BuiltInIsNotRefused};
+ghost use Rattle.bigwig.specs.Laws.{SomeStatusIsDue, OneStatusIsDue, ComesWhereDue, DoesItsWork, DoorFaultsServe, ValidIsDone};
+ghost use Rattle.bigwig.specs.Laws.{BuiltInReads, BuiltInIsMeant, BuiltInIsNotRefused};
 
 /// By all words and files some status is due, and one only; the program ends with it, counted faults and want of
-/// memory aside. Where every question goes well, the work is done. `valid` is done exactly where the page and the schema
-/// read and the page is valid.
+/// memory aside. Where every question goes well, the work is done. The door's fault comes only where a service is served.
+/// `valid` is done exactly where the page and the schema read and the page is valid.
 pub fn one_outcome()
     ensures some { SomeStatusIsDue }
     ensures one { OneStatusIsDue }
     ensures comes { ComesWhereDue }
     ensures complete { DoesItsWork }
+    ensures door_fault { DoorFaultsServe }
     ensures valid { ValidIsDone }
 {}
 

@@ -9,6 +9,7 @@ mod loading;
 mod numbers;
 mod program;
 mod report;
+mod serving;
 mod status;
 mod stop;
 mod words;

@@ -1,5 +1,5 @@
 //! The numbers of options.
-ghost use Rattle.std.specs.Prelude.{◌≡◌, ℕ, ◌≤◌, length, true};
+ghost use Rattle.std.specs.Prelude.{◌≡◌, ℕ, ◌≤◌, IfSome, length, true};
 ghost use Rattle.std.specs.List.{list_all};
 ghost use Rattle.std.specs.Char.{is_ascii_digit};
 ghost use Rattle.std.specs.Str.Parse.{digits_value};
@@ -33,7 +33,8 @@ fn value(digits: &[u8]) -> u64
 
 /// The number that a text is, from `least` to `most`.
 pub fn number_in(least: u32, most: u32, text: &str) -> Option<u32>
-    ensures { result ≡ spec.number_in least most text.now }
+    ensures is { result ≡ spec.number_in least most text.now }
+    ensures bound { IfSome result (λ n. n ≤ most) }
 {
     let bytes = text.as_bytes();
     if !is_number(bytes) {

@@ -14,6 +14,7 @@ use crate::command::{Command, read_words};
 use crate::judging::load_valid;
 use crate::loading::{load_service, no_file};
 use crate::report::{print_line, report};
+use crate::serving::serve_command;
 use crate::status::Status;
 use crate::words::WordsFault;
 use bw_answer::{StreamEnd, answer};
@@ -28,19 +29,20 @@ use std::sync::ledger::Ledger;
 const USAGE: &[u8] =
     b"usage: bigwig check SERVICE | replay SERVICE REQUESTS | serve SERVICE | valid PAGE | make N";
 
-/// Does all that the program does: reads the words of the command line and the files that they name, and prints on
-/// `out`. Memory is taken from `alloc`. `door` and the pulse are not used by the commands that are built, so `DoorFault`
-/// doesn't come by now.
+/// Does all that the program does: reads the words of the command line and the files that they name, prints on `out`,
+/// and serves the links of `door`. Memory is taken from `alloc`. The pulse is not used by the commands that are built.
 ///
-/// Where the files tell what they have, what is printed, drawn and spent is what comes of the questions that the words
-/// ask of the files (`asked`): what is said is printed with its status, or the work is done. The work of `replay` is
-/// one run of the meaning's world over the stream: the bytes answered are those of the service's meaning of each
-/// session's own submissions, and of the shared variables in request order. A request that is refused, spent or fails
-/// changes no session and no shared variable.
+/// Where the files tell what they have, what is printed, drawn, given back and spent is what comes of the questions that
+/// the words ask of the files (`asked`): what is said is printed with its status, or the work is done. The work of
+/// `replay` is one run of the meaning's world over the stream: the bytes answered are those of the service's meaning of
+/// each session's own submissions, and of the shared variables in request order. A request that is refused, spent or
+/// fails changes no session and no shared variable. The work of `serve` is the same over one world, with one request on
+/// each link: each link that comes is given back in its turn, after a fault too, and holds what the run answers.
 ///
 /// `Usage` comes only where the words are refused, and `ReadFault`, `WriteFault` and `DoorFault` exactly where the count
-/// of `files`, `out` or `door` rose in this call; after the first two each request before the fault was answered whole.
-/// `Memory` comes, with nothing printed, only before the first request.
+/// of `files`, `out` or `door` rose in this call; a fault on a link is none of these and ends that link alone. After a
+/// `ReadFault` or a `WriteFault` of `replay` each request before the fault was answered whole. `Memory` comes, with
+/// nothing printed and no link taken, only before the first request.
 pub fn run<F: Files, D: Door, K: Keys, W: Sink, P: Pulse, L: Ledger>(
     alloc: Global,
     words: &Words,
@@ -61,26 +63,29 @@ pub fn run<F: Files, D: Door, K: Keys, W: Sink, P: Pulse, L: Ledger>(
     ensures door_fault { Shows (result ≡ Status.DoorFault) (D.faults door.old) (D.faults door.new) }
 {
     match read_words(alloc, words) {
-        Ok(command) => obey(alloc, &command, files, keys, out, steps),
+        Ok(command) => obey(alloc, &command, files, door, keys, out, steps),
         Err(WordsFault::Refused) => print_line(out, Status::Usage, USAGE),
         Err(WordsFault::Memory) => Status::Memory,
     }
 }
 
 /// Does what a command asks for.
-fn obey<F: Files, K: Keys, W: Sink, L: Ledger>(
+fn obey<F: Files, D: Door, K: Keys, W: Sink, L: Ledger>(
     alloc: Global,
     command: &Command,
     files: &mut F,
+    door: &mut D,
     keys: &mut K,
     out: &mut W,
     steps: &mut Steps<L>,
 ) -> Status
-    ensures comes { IfSome (F.told files.old) (λ disk. Replies (work disk command.now) (W.held out.old) (W.held out.new)
-        (K.coming keys.old) (K.coming keys.new) steps.old steps.new result) }
-    ensures others { (result ≢ Status.Usage) × (result ≢ Status.DoorFault) }
+    ensures comes { IfSome (F.told files.old) (λ disk. Comes (work disk command.now)
+        (outside (W.held out.old) (K.coming keys.old) (D.asked door.old) (D.coming door.old) (D.returned door.old) steps.old)
+        (outside (W.held out.new) (K.coming keys.new) (D.asked door.new) (D.coming door.new) (D.returned door.new) steps.new) result) }
+    ensures not_usage { result ≢ Status.Usage }
     ensures read_fault { Shows (result ≡ Status.ReadFault) (F.faults files.old) (F.faults files.new) }
     ensures write_fault { Shows (result ≡ Status.WriteFault) (W.write_faults out.old) (W.write_faults out.new) }
+    ensures door_fault { Shows (result ≡ Status.DoorFault) (D.faults door.old) (D.faults door.new) }
 {
     match command {
         Command::Replay {
@@ -88,6 +93,11 @@ fn obey<F: Files, K: Keys, W: Sink, L: Ledger>(
             requests,
             most,
         } => replay_command(alloc, service, requests, *most, files, keys, out, steps),
+        Command::Serve {
+            service,
+            port,
+            most,
+        } => serve_command(alloc, service, *port, *most, files, door, keys, out, steps),
         Command::Valid { page, schema } => valid_command(alloc, page, schema, files, out),
     }
 }

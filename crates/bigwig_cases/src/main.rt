@@ -1,7 +1,10 @@
-//! Worked examples of the whole program, kept as data: runs over files, keys and an output in memory, and reads and
-//! writes that are interrupted. `case_files` says how the files are written.
+//! Worked examples of the whole program, kept as data: runs over files, keys, an output and a door in memory, and
+//! reads and writes that are interrupted. `case_files` says how the files are written.
 #![tactic(auto)]
 
+mod door;
+mod files;
+mod links;
 mod retries;
 mod runs;
 
@@ -16,6 +19,8 @@ enum Trial {
     Runs,
     /// Runs of the whole program over requests that interleave sessions.
     Worlds,
+    /// Runs of the whole program that serve links.
+    Serves,
     /// Runs of the whole program by services that are the names of the cases.
     Services,
     /// Reads and writes that are interrupted.
@@ -27,6 +32,7 @@ impl Kind for Trial {
         match self {
             Trial::Runs => "run.cases",
             Trial::Worlds => "world.cases",
+            Trial::Serves => "serve.cases",
             Trial::Services => "services.cases",
             Trial::Retries => "retries.cases",
         }
@@ -34,7 +40,7 @@ impl Kind for Trial {
 
     fn try_case(self, alloc: Global, texts: &Texts<'_>, case: &Case<'_>) -> Result<Verdict, Fault> {
         match self {
-            Trial::Runs | Trial::Worlds => runs::try_case(alloc, texts, case),
+            Trial::Runs | Trial::Worlds | Trial::Serves => runs::try_case(alloc, texts, case),
             Trial::Services => runs::try_service(alloc, case),
             Trial::Retries => retries::try_case(alloc, case),
         }
@@ -44,6 +50,12 @@ impl Kind for Trial {
 fn main(rt: HostRuntime) -> ExitCode {
     try_files(
         &rt,
-        &[Trial::Runs, Trial::Worlds, Trial::Services, Trial::Retries],
+        &[
+            Trial::Runs,
+            Trial::Worlds,
+            Trial::Serves,
+            Trial::Services,
+            Trial::Retries,
+        ],
     )
 }

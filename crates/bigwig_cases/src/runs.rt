@@ -8,17 +8,25 @@
 //! - `room N`, `write_piece N`, `failing_writes N ..`: of standard output, how many bytes it has room for, how many
 //!   one write takes at most, and the numbers of the writes that fail; 65,536, any number, and none
 //! - `keys N ..`: the keys to come, no two alike and none 0; 11, 12 and 13
+//! - `link PARTS`: a link to come, whose client sends this
+//! - `link_read_piece N`, `link_failing_reads N ..`, `link_room N`, `link_write_piece N`, `link_failing_writes N ..`: the
+//!   same of that link as of files and of standard output
+//! - `failing_listens N ..`, `failing_nexts N ..`: the numbers of the calls of the door that fail; none
 //!
 //! and wants, by `status N`, `drawn N` and `output PARTS`, the exit code, how many keys are drawn, and all that is
-//! printed; 0, 0 and nothing.
+//! printed; 0, 0 and nothing. It wants, by `port N`, that this port is asked for, and none where there is no such line;
+//! and, by a line `holds PARTS` for each link that is given back, what that link then holds.
 //!
 //! A case of a service has the service's text for its name, and is run over no request. Its line `line TEXT` is the
 //! line that is printed, with code 3; where there is none, nothing is printed.
 ghost use Rattle.std.specs.Prelude.{◌≡◌, ◌<◌};
 
+use crate::door::CaseDoor;
+use crate::files::CaseFile;
+use crate::links::{CaseLink, held_by, in_memory};
 use bigwig::run;
 use bw_lang::{Memory, Text, Words};
-use bw_out::{Keys, MemDoor, MemFile, MemFiles, MemKeys, MemSink, Quiet, Steps};
+use bw_out::{Keys, MemDoor, MemFiles, MemKeys, MemSink, Quiet, Steps};
 use case_files::{Case, Fault, Line, Texts, Verdict, escaped};
 use std::alloc::{AllocError, Global};
 use std::marker::Brand;
@@ -28,21 +36,15 @@ use std::sync::ledger::{Blank, Ledger};
 /// The room of standard output.
 const ROOM: usize = 65_536;
 
-/// A file of a case.
-#[derive(Drop)]
-struct CaseFile<'a> {
-    name: &'a str,
-    content: Vec<u8>,
-    piece: NonZeroUsize,
-    failing_reads: Vec<u64>,
-}
-
-/// What comes of a run: the exit code, how many keys were drawn, and what was printed.
+/// What comes of a run: the exit code, how many keys were drawn, what was printed, the port that was asked for, and what
+/// each link that was given back holds.
 #[derive(Drop)]
 struct Outcome {
     status: u8,
     drawn: usize,
     output: Vec<u8>,
+    port: Option<u16>,
+    links: Vec<Vec<u8>>,
 }
 
 /// A run, and what is wanted of it.
@@ -55,6 +57,9 @@ struct RunCase<'a> {
     write_piece: NonZeroUsize,
     failing_writes: Vec<u64>,
     keys: Vec<u64>,
+    links: Vec<CaseLink>,
+    failing_listens: Vec<u64>,
+    failing_nexts: Vec<u64>,
     wanted: Outcome,
 }
 
@@ -92,48 +97,6 @@ fn words_of(alloc: Global, text: &str) -> Result<Words, Memory> {
     Ok(words)
 }
 
-impl<'a> CaseFile<'a> {
-    /// The file of `NAME PARTS`.
-    fn of(alloc: Global, texts: &Texts<'_>, definition: &'a str) -> Result<CaseFile<'a>, Fault> {
-        let (name, parts) = definition.split_once(' ').unwrap_or((definition, ""));
-        Ok(CaseFile {
-            name,
-            content: texts.join(alloc, parts)?,
-            piece: NonZeroUsize::MAX,
-            failing_reads: Vec::new(alloc),
-        })
-    }
-
-    /// The file of this name with this content.
-    fn with(alloc: Global, name: &'a str, content: &str) -> Result<CaseFile<'a>, Fault> {
-        Ok(CaseFile {
-            name,
-            content: content.as_bytes().to_vec(alloc)?,
-            piece: NonZeroUsize::MAX,
-            failing_reads: Vec::new(alloc),
-        })
-    }
-
-    /// Takes the next line, which says how the file is read.
-    fn take(&mut self, alloc: Global, line: Line<'a>) -> Result<(), Fault> {
-        match line.key {
-            "read_piece" => self.piece = line.value.parse()?,
-            "failing_reads" => self.failing_reads = line.numbers(alloc)?,
-            _ => return Err(Fault::Malformed),
-        }
-        Ok(())
-    }
-
-    fn in_memory(&self) -> MemFile<'_> {
-        MemFile {
-            name: self.name,
-            content: &self.content,
-            piece: self.piece.get(),
-            failing: &self.failing_reads,
-        }
-    }
-}
-
 impl Outcome {
     /// A service is refused by this line.
     fn refusal(alloc: Global, line: &str) -> Result<Outcome, Fault> {
@@ -143,6 +106,8 @@ impl Outcome {
             status: 3,
             drawn: 0,
             output,
+            port: None,
+            links: Vec::new(alloc),
         })
     }
 
@@ -150,7 +115,15 @@ impl Outcome {
         let status = self.status;
         let drawn = self.drawn;
         let output = escaped(alloc, &self.output)?;
-        format!(in alloc; "status {status}, drawn {drawn}, output \"{output}\"")
+        let port = self.port.unwrap_or(0);
+        let mut shown = format!(in alloc;
+            "status {status}, drawn {drawn}, output \"{output}\", port {port}"
+        )?;
+        for held in &self.links {
+            let held = escaped(alloc, held)?;
+            shown.push_str(&format!(in alloc; ", link \"{held}\"")?)?;
+        }
+        Ok(shown)
     }
 }
 
@@ -165,10 +138,15 @@ impl<'a> RunCase<'a> {
             write_piece: NonZeroUsize::MAX,
             failing_writes: Vec::new(alloc),
             keys: vec![in alloc; 11, 12, 13]?,
+            links: Vec::new(alloc),
+            failing_listens: Vec::new(alloc),
+            failing_nexts: Vec::new(alloc),
             wanted: Outcome {
                 status: 0,
                 drawn: 0,
                 output: Vec::new(alloc),
+                port: None,
+                links: Vec::new(alloc),
             },
         })
     }
@@ -183,15 +161,33 @@ impl<'a> RunCase<'a> {
             "write_piece" => self.write_piece = line.value.parse()?,
             "failing_writes" => self.failing_writes = line.numbers(alloc)?,
             "keys" => self.keys = line.numbers(alloc)?,
+            "link" => self
+                .links
+                .push(CaseLink::of(alloc, texts.join(alloc, line.value)?))?,
+            "failing_listens" => self.failing_listens = line.numbers(alloc)?,
+            "failing_nexts" => self.failing_nexts = line.numbers(alloc)?,
             "status" => self.wanted.status = line.value.parse()?,
             "drawn" => self.wanted.drawn = line.value.parse()?,
             "output" => self.wanted.output = texts.join(alloc, line.value)?,
-            _ => match self.files.last_mut() {
-                Some(file) => file.take(alloc, line)?,
-                None => return Err(Fault::Malformed),
-            },
+            "port" => self.wanted.port = Some(line.value.parse()?),
+            "holds" => self.wanted.links.push(texts.join(alloc, line.value)?)?,
+            _ => self.take_detail(alloc, line)?,
         }
         Ok(())
+    }
+
+    /// Takes the next line, which says how the last link or the last file is read or written.
+    fn take_detail(&mut self, alloc: Global, line: Line<'a>) -> Result<(), Fault> {
+        if line.key.starts_with("link_") {
+            return match self.links.last_mut() {
+                Some(link) => link.take(alloc, line),
+                None => Err(Fault::Malformed),
+            };
+        }
+        match self.files.last_mut() {
+            Some(file) => file.take(alloc, line),
+            None => Err(Fault::Malformed),
+        }
     }
 }
 
@@ -209,7 +205,11 @@ fn outcome_of(alloc: Global, case: &RunCase<'_>) -> Result<Outcome, Fault> {
         case.write_piece.get(),
         &case.failing_writes,
     )?;
-    let mut door = MemDoor::new(alloc, Vec::new(alloc))?;
+    let mut door = CaseDoor::new(
+        MemDoor::new(alloc, in_memory(alloc, &case.links)?)?,
+        &case.failing_listens,
+        &case.failing_nexts,
+    );
     // A copy, so that the copying of words is tried as well.
     let words = case.words.copy()?;
     let status = counted::<Brand>(
@@ -225,6 +225,8 @@ fn outcome_of(alloc: Global, case: &RunCase<'_>) -> Result<Outcome, Fault> {
         status,
         drawn: drawn_of(&case.keys, keys.draw()),
         output: Vec::from_slice(alloc, out.bytes())?,
+        port: door.port(),
+        links: held_by(alloc, door.returned())?,
     })
 }
 
@@ -233,7 +235,7 @@ fn counted<L: Ledger>(
     alloc: Global,
     words: &Words,
     files: &mut MemFiles<'_>,
-    door: &mut MemDoor<'_>,
+    door: &mut CaseDoor<'_>,
     keys: &mut MemKeys<'_>,
     out: &mut MemSink<'_>,
     blank: Blank,

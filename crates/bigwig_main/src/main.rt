@@ -1,4 +1,4 @@
-//! The program: it makes the real files, standard output and session keys, hands them to `run`, and ends with the
+//! The program: it makes the real files, door, standard output and session keys, hands them to `run`, and ends with the
 //! code of its status.
 #![tactic(auto)]
 
@@ -6,7 +6,8 @@ ghost use Rattle.std.specs.Prelude.{◌≡◌, ◌<◌};
 
 use bigwig::{Status, run};
 use bw_lang::{Memory, Text, Words};
-use bw_out::{DiskFiles, MemDoor, Quiet, RandomKeys, Steps, Writing};
+use bw_out::{DiskFiles, Quiet, RandomKeys, Steps, Writing};
+use bw_tcp::TcpDoor;
 use rand_chacha::ChaCha20Rng;
 use std::alloc::Global;
 use std::io::ErrorKind;
@@ -62,9 +63,7 @@ fn counted<L: Ledger>(
     requires some { 0 < blank.parts }
 {
     let alloc: Global = rt.alloc();
-    let Ok(mut door) = MemDoor::new(alloc, Vec::new(alloc)) else {
-        return Status::Memory;
-    };
+    let mut door = TcpDoor::new(&rt);
     let mut steps: Steps<L> = Steps::new(blank);
     let mut out = Writing::new(io::writer(&rt));
     let mut files = DiskFiles::new(&rt);

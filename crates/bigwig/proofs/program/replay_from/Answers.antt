@@ -1,4 +1,4 @@
-use Rattle.std.proofs.Common.{refl, inl, inr}
+use Rattle.std.proofs.Common.{refl, inl}
 use Rattle.bw_answer.specs.Answers.{between}
 use Rattle.bigwig.specs.Asked.{file, replayed}
 use Rattle.bigwig.specs.Asked.Work.{replays}

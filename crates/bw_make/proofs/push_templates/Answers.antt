@@ -1,0 +1,6 @@
+use Rattle.bw_make.specs.Made.{template_line}
+use Rattle.bw_make.proofs.Lines.{goes_on}
+use Rattle.bw_make.proofs.push_templates.Goals as goal
+
+pub loop-page-preserved : goal.loop-page-preserved
+loop-page-preserved c = goes_on template_line _ _ _ _ _ c.loop-page-test.true c.in_ok-push_template.ensures c.loop-page.invariant

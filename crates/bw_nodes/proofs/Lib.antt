@@ -1,0 +1,4 @@
+pub mod Bools
+pub mod Growing
+pub mod Members
+pub mod Wrapped

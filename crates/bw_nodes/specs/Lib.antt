@@ -1,0 +1,4 @@
+pub mod Templates
+pub mod Nodes
+pub mod Fits
+pub mod Parts

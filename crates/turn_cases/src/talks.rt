@@ -1,0 +1,225 @@
+//! Cases of turns.
+ghost use Rattle.std.specs.Prelude.{◌≡◌, ◌<◌, IfOk, OnOk};
+ghost use Rattle.bw_flow.specs.Layout.{plan_of};
+ghost use Rattle.bw_run.specs.Fit.{IsFitTurn};
+ghost use Rattle.turn_cases.specs.Fit.{IsFit};
+
+use crate::said::{say_fault, say_missing, say_page, say_shared};
+use bw_flow::{Flow, lower};
+use bw_lang::{Submission, Text, TurnFault};
+use bw_out::Steps;
+use bw_run::{Frame, SharedValues, Turn, first_values, missing, resume, start};
+use bw_syntax::read_service;
+use bw_types::{Typed, resolve};
+use case_files::{Case, Fault, Texts, Verdict};
+use std::alloc::{AllocError, Global};
+use std::marker::Brand;
+use std::str;
+use std::sync::ledger::{Blank, Ledger};
+
+/// The shared variables of now, where sessions wait, and what was said of the turns so far.
+#[derive(Drop)]
+pub struct Talk {
+    pub shared: SharedValues,
+    pub waiting: Vec<Frame>,
+    said: String,
+}
+
+/// Tries the turns of a service.
+pub fn try_case(alloc: Global, texts: &Texts<'_>, case: &Case<'_>) -> Result<Verdict, Fault> {
+    let got = got(alloc, texts, case)?;
+    Ok(Verdict::of(wanted(alloc, case)?, got))
+}
+
+/// What comes of the turns of a case.
+fn got(alloc: Global, texts: &Texts<'_>, case: &Case<'_>) -> Result<String, Fault> {
+    let typed = typed_service(alloc, texts, case)?;
+    got_of(alloc, texts, case, &typed)
+}
+
+fn got_of(
+    alloc: Global,
+    texts: &Texts<'_>,
+    case: &Case<'_>,
+    typed: &Typed,
+) -> Result<String, Fault> {
+    let flow = lowered(alloc, typed)?;
+    got_over(alloc, texts, case, typed, &flow)
+}
+
+/// The same, where the service has this flow.
+fn got_over(
+    alloc: Global,
+    texts: &Texts<'_>,
+    case: &Case<'_>,
+    typed: &Typed,
+    flow: &Flow,
+) -> Result<String, Fault>
+    requires { flow.now ≡ plan_of typed.now.service }
+{
+    counted::<Brand>(alloc, texts, case, typed, flow, Blank::new(1))
+}
+
+/// The service of a case, which has to be well typed.
+fn typed_service(alloc: Global, texts: &Texts<'_>, case: &Case<'_>) -> Result<Typed, Fault> {
+    let Some(line) = case.lines.first() else {
+        return Err(Fault::Malformed);
+    };
+    let text = texts.join(alloc, line.value)?;
+    let Ok(service) = read_service(alloc, &text) else {
+        return Err(Fault::Malformed);
+    };
+    resolve(alloc, service).map_err(|_| Fault::Malformed)
+}
+
+/// Its flow.
+fn lowered(alloc: Global, typed: &Typed) -> Result<Flow, Fault>
+    ensures { IfOk result (λ f. f ≡ plan_of typed.now.service) }
+{
+    match lower(alloc, typed) {
+        Ok(flow) => Ok(flow),
+        Err(_) => Err(Fault::Malformed),
+    }
+}
+
+/// The lines that say what is wanted.
+fn wanted(alloc: Global, case: &Case<'_>) -> Result<String, AllocError> {
+    let mut wanted = String::new(alloc);
+    for line in &case.lines {
+        if !matches!(line.key, "service" | "start" | "field" | "answer") {
+            if !wanted.is_empty() {
+                wanted.push_str("; ")?;
+            }
+            wanted.push_str(line.text)?;
+        }
+    }
+    Ok(wanted)
+}
+
+/// Gives the turns of a case, with a count of steps that nobody reads, and answers what is to be said of them.
+#[tactic(auto, using(crate::proofs::Waiting::waiting_rules))]
+fn counted<L: Ledger>(
+    alloc: Global,
+    texts: &Texts<'_>,
+    case: &Case<'_>,
+    typed: &Typed,
+    flow: &Flow,
+    blank: Blank,
+) -> Result<String, Fault>
+    requires flow { flow.now ≡ plan_of typed.now.service }
+    requires name { blank.name ≡ L.name }
+    requires parts { blank.parts ≡ L.parts }
+    requires some { 0 < blank.parts }
+{
+    let mut steps: Steps<L> = Steps::new(blank);
+    let mut form = Submission::new(alloc);
+    let mut talk = Talk {
+        shared: first_values(alloc, typed)?,
+        waiting: Vec::new(alloc),
+        said: String::new(alloc),
+    };
+    for line in &case.lines {
+        match line.key {
+            "start" => begin(alloc, typed, flow, line.value, &mut talk, &mut steps)?,
+            "field" => add_field(alloc, texts, line.value, &mut form)?,
+            "answer" => {
+                answer(alloc, typed, flow, line.value, &form, &mut talk, &mut steps)?;
+                form = Submission::new(alloc);
+            }
+            _ => {}
+        }
+    }
+    Ok(talk.said)
+}
+
+/// Puts `NAME PARTS` into a form.
+fn add_field(
+    alloc: Global,
+    texts: &Texts<'_>,
+    field: &str,
+    form: &mut Submission,
+) -> Result<(), Fault> {
+    let (name, parts) = field.split_once(' ').ok_or(Fault::Malformed)?;
+    let bytes = texts.join(alloc, parts)?;
+    match str::from_utf8(&bytes) {
+        Ok(value) => form.push(Text::of(alloc, name)?, Text::of(alloc, value)?)?,
+        Err(_) => return Err(Fault::Malformed),
+    }
+    Ok(())
+}
+
+/// The first turn of the session of that name.
+fn begin<L: Ledger>(
+    alloc: Global,
+    typed: &Typed,
+    flow: &Flow,
+    name: &str,
+    talk: &mut Talk,
+    steps: &mut Steps<L>,
+) -> Result<(), Fault>
+    requires flow { flow.now ≡ plan_of typed.now.service }
+    requires fit { IsFit typed.now.service flow.now.steps talk.old }
+    ensures { OnOk result (IsFit typed.now.service flow.now.steps talk.new) }
+{
+    let session = typed.session(name).ok_or(Fault::Malformed)?;
+    if session.number() as usize >= typed.service().sessions.as_slice().len() {
+        return Err(Fault::Malformed);
+    }
+    let turn = start(alloc, typed, flow, session, &talk.shared, steps);
+    end(typed, flow, turn, talk)
+}
+
+/// The turn over this form from where the turn of that number waits.
+#[tactic(auto, using(crate::proofs::Waiting::waiting_rules))]
+fn answer<L: Ledger>(
+    alloc: Global,
+    typed: &Typed,
+    flow: &Flow,
+    number: &str,
+    form: &Submission,
+    talk: &mut Talk,
+    steps: &mut Steps<L>,
+) -> Result<(), Fault>
+    requires flow { flow.now ≡ plan_of typed.now.service }
+    requires fit { IsFit typed.now.service flow.now.steps talk.old }
+    ensures { OnOk result (IsFit typed.now.service flow.now.steps talk.new) }
+{
+    let place = number.parse::<usize>()?.saturating_sub(1);
+    let Some(frame) = talk.waiting.get(place) else {
+        return Err(Fault::Malformed);
+    };
+    if let Some(fault) = missing(flow, frame, form) {
+        say_missing(&mut talk.said, typed, fault)?;
+        return Ok(());
+    }
+    let turn = resume(alloc, typed, flow, frame, form, &talk.shared, steps);
+    end(typed, flow, turn, talk)
+}
+
+/// Says what a turn comes to, and takes it.
+#[tactic(auto, using(crate::proofs::Waiting::waiting_rules))]
+fn end(
+    typed: &Typed,
+    flow: &Flow,
+    turn: Result<Turn, TurnFault>,
+    talk: &mut Talk,
+) -> Result<(), Fault>
+    requires turn { IfOk turn (IsFitTurn typed.now.service flow.now.steps) }
+    requires fit { IsFit typed.now.service flow.now.steps talk.old }
+    ensures { OnOk result (IsFit typed.now.service flow.now.steps talk.new) }
+{
+    match turn {
+        Err(fault) => say_fault(&mut talk.said, fault)?,
+        Ok(Turn::Shown(frame, doc, shared)) => {
+            say_page(&mut talk.said, "shown", typed, &doc)?;
+            talk.waiting.push(frame)?;
+            talk.shared = shared;
+        }
+        Ok(Turn::Exited(doc, shared)) => {
+            say_page(&mut talk.said, "ended", typed, &doc)?;
+            talk.shared = shared;
+        }
+    }
+    say_shared(&mut talk.said, typed, &talk.shared)?;
+    Ok(())
+}
