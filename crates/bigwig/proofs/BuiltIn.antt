@@ -9,7 +9,7 @@ use Rattle.std.proofs.lemmas.Str.Ascii.{IsAscii-nil, IsAscii-cons}
 use Rattle.bw_schema.proofs.Schemas.{short_step, read_is, one_schema, not_both}
 use Rattle.bw_schema.proofs.Spelled.{both}
 use Rattle.bw_schema.specs.BuiltIn.{built_in_root, built_in_rules}
-use Rattle.bw_schema.specs.Reading.{read_said, line_with, names_line, rare_line}
+use Rattle.bw_schema.specs.Steps.Reading.{read_said, line_with, names_line, rare_line}
 use Rattle.bw_schema.specs.Words.{said}
 use Rattle.bw_schema.specs.declared.default_schema.TheConstants.{BUILT_IN}
 use Rattle.bigwig.specs.Laws.{BuiltInReads, BuiltInIsMeant, BuiltInIsNotRefused}

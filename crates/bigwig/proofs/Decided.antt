@@ -3,7 +3,7 @@ use Rattle.std.proofs.Common.{◌≡◌, ◌⊎◌, codes, ℕ, List, [], ◌∷
 use Rattle.std.proofs.Math.Path.{to_path_p}
 use Rattle.std.proofs.lemmas.Bool.{cases_lt}
 use Rattle.bw_flow.specs.Layout.{points}
-use Rattle.bw_lang.specs.Forest.{Forest}
+use Rattle.bw_lang.specs.Document.Forest.{Forest}
 use Rattle.bw_lang.specs.declared.service.Service.{Service}
 use Rattle.bw_out.specs.Told.{Disk}
 use Rattle.bw_read.proofs.Decided.{one_page, page_or_none}

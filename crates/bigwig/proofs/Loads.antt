@@ -3,8 +3,8 @@ use Rattle.std.proofs.Common.{Vec, Global, ◌≡◌, ◌≢◌, ◌<◌, ◌≤
 use Rattle.bw_flow.specs.Layout.{points}
 use Rattle.bw_lang.specs.declared.service.Service.{Service}
 use Rattle.bw_lang.specs.declared.text.Memory.{Memory}
-use Rattle.bw_lang.specs.Reads.{Reads}
-use Rattle.bw_syntax.specs.Refusals.{Refuses}
+use Rattle.bw_lang.specs.Service.Reads.{Reads}
+use Rattle.bw_syntax.specs.Refusals.{IsServiceRefused}
 use Rattle.bw_syntax.specs.declared.fault.SyntaxFault.{SyntaxFault}
 use Rattle.bw_syntax.specs.declared.fault.SyntaxFault.TheVariants as reading
 use Rattle.bw_syntax.proofs.OneAnswer.{one_reason_each}
@@ -25,12 +25,12 @@ use Rattle.bigwig.proofs.Files.{take_short, refused_all}
 read_all : (n : ℕ) (content : List ℕ) (tree : Service) → n ≡ 1048577 → Reads (take n content) tree → Reads content tree
 read_all n content tree h r = let short : length (take n content) < n = omega (arith, r.drafted.text.short) in subst (λ b. Reads b tree) (take_short n content short) r
 
-too_long : (n : ℕ) (bytes : List ℕ) → n ≡ 1048577 → n ≤ length bytes → Refuses bytes reading.TooLong
+too_long : (n : ℕ) (bytes : List ℕ) → n ≡ 1048577 → n ≤ length bytes → IsServiceRefused bytes reading.TooLong
 too_long n bytes h le = omega arith
 
-refused_front : (n : ℕ) (content : List ℕ) (fault : SyntaxFault) → n ≡ 1048577 → Refuses (take n content) fault → fault ≢ reading.Memory → Refuses content fault
+refused_front : (n : ℕ) (content : List ℕ) (fault : SyntaxFault) → n ≡ 1048577 → IsServiceRefused (take n content) fault → fault ≢ reading.Memory → IsServiceRefused content fault
 refused_front n content fault h r some =
-    refused_all Refuses reading.TooLong fault n content (λ bytes le. too_long n bytes h le) (λ long r. one_reason_each (take n content) reading.TooLong fault long r (λ e. cc) some) r
+    refused_all IsServiceRefused reading.TooLong fault n content (λ bytes le. too_long n bytes h le) (λ long r. one_reason_each (take n content) reading.TooLong fault long r (λ e. cc) some) r
 
 pub served_all : {B : Type 0} (seen : B → Service) (n : ℕ) (content : List ℕ) (r : Result B Stop) → n ≡ 1048577 → IsAnswer seen (served (take n content)) r → IsAnswer seen (served content) r
 served_all seen n content (Ok x) h a = (a.0, read_all n content a.0 h a.1, a.2)
@@ -44,7 +44,7 @@ served_all seen n content (Err stop.Memory) h a = tt
 -- ---- why a service isn't served
 
 pub unread : (content : List ℕ) (fault : SyntaxFault) (line : Result (Vec ℕ Global) Memory) (s : Stop) → IfOk line (λ l. s ≡ stop.Says refusals.Service l) → IfErr line (λ e. s ≡ stop.Memory)
-    → IfOk line (λ l. l.items ≡ syntax_line fault) → IfOk line (λ l. fault ≢ reading.Memory) → Refuses content fault → IsStop (served content) s
+    → IfOk line (λ l. l.items ≡ syntax_line fault) → IfOk line (λ l. fault ≢ reading.Memory) → IsServiceRefused content fault → IsStop (served content) s
 unread content fault (Ok l) s is none tells some r =
     stops_first (read content) accepted s (stopped_with (read content) refusals.Service (syntax_line fault) (Ok l) s is none tells (fault, r, some, refl))
 unread content fault (Err e) s is none tells some r = stops_first (read content) accepted s (stopped_with (read content) refusals.Service (syntax_line fault) (Err e) s is none tt tt)

@@ -1,11 +1,11 @@
 -- Pages and schemas that are loaded, and why others aren't.
 use Rattle.std.proofs.Common.{Vec, Global, ◌≡◌, ◌≢◌, ◌<◌, ◌≤◌, ℕ, List, sym, subst, refl, None, Some, Result, Ok, Err, IfOk, IfErr, IfSome, take, length, arith}
 use Rattle.std.specs.declared.option.Option.{Option}
-use Rattle.bw_lang.specs.Forest.{Forest}
+use Rattle.bw_lang.specs.Document.Forest.{Forest}
 use Rattle.bw_lang.specs.declared.text.Memory.{Memory}
 use Rattle.bw_out.specs.Told.{Disk}
 use Rattle.bw_read.specs.Pages.{IsPage}
-use Rattle.bw_schema.specs.Reads.{Reads, IsRefused}
+use Rattle.bw_schema.specs.Reads.{Reads, IsSchemaRefused}
 use Rattle.bw_schema.specs.declared.default_schema.TheConstants.{BUILT_IN}
 use Rattle.bw_schema.specs.declared.fault.SchemaFault.{SchemaFault}
 use Rattle.bw_schema.specs.declared.fault.SchemaFault.TheVariants as fault
@@ -47,12 +47,12 @@ no_page content (Err e) s is none tells absent = stopped_with (page content) ref
 rules_so : (n : ℕ) (content root : List ℕ) (elements : List Rule) → n ≡ 1048577 → Reads (take n content) root elements → Reads content root elements
 rules_so n content root elements h r = let short : length (take n content) < n = omega (arith, r.short) in subst (λ b. Reads b root elements) (take_short n content short) r
 
-too_long : (n : ℕ) (bytes : List ℕ) → n ≡ 1048577 → n ≤ length bytes → IsRefused bytes fault.TooLong
+too_long : (n : ℕ) (bytes : List ℕ) → n ≡ 1048577 → n ≤ length bytes → IsSchemaRefused bytes fault.TooLong
 too_long n bytes h le = omega arith
 
-refused_front : (n : ℕ) (content : List ℕ) (e : SchemaFault) → n ≡ 1048577 → IsRefused (take n content) e → e ≢ fault.Memory → IsRefused content e
+refused_front : (n : ℕ) (content : List ℕ) (e : SchemaFault) → n ≡ 1048577 → IsSchemaRefused (take n content) e → e ≢ fault.Memory → IsSchemaRefused content e
 refused_front n content e h r some =
-    refused_all IsRefused fault.TooLong e n content (λ bytes le. too_long n bytes h le) (λ long r. one_reason (take n content) fault.TooLong e (λ x. cc) some long r) r
+    refused_all IsSchemaRefused fault.TooLong e n content (λ bytes le. too_long n bytes h le) (λ long r. one_reason (take n content) fault.TooLong e (λ x. cc) some long r) r
 
 pub rules_all : {B : Type 0} (seen : B → Schema) (n : ℕ) (content : List ℕ) (r : Result B Stop) → n ≡ 1048577 → IsAnswer seen (rules (take n content)) r → IsAnswer seen (rules content) r
 rules_all seen n content (Ok x) h a = rules_so n content (seen x).root (seen x).elements h a
@@ -61,7 +61,7 @@ rules_all seen n content (Err stop.ReadFault) h a = tt
 rules_all seen n content (Err stop.Memory) h a = tt
 
 pub unread : (content : List ℕ) (e : SchemaFault) (line : Result (Vec ℕ Global) Memory) (s : Stop) → IfOk line (λ l. s ≡ stop.Says refusals.Schema l) → IfErr line (λ e. s ≡ stop.Memory)
-    → IfOk line (λ l. l.items ≡ schema_line e) → IfOk line (λ l. e ≢ fault.Memory) → IsRefused content e → IsStop (rules content) s
+    → IfOk line (λ l. l.items ≡ schema_line e) → IfOk line (λ l. e ≢ fault.Memory) → IsSchemaRefused content e → IsStop (rules content) s
 unread content e (Ok l) s is none tells some r = stopped_with (rules content) refusals.Schema (schema_line e) (Ok l) s is none tells (e, r, some, refl)
 unread content e (Err x) s is none tells some r = stopped_with (rules content) refusals.Schema (schema_line e) (Err x) s is none tt tt
 

@@ -1,19 +1,19 @@
 -- The questions of each command, in their order. A later command, option or file is one line more.
 use Rattle.std.specs.Prelude.{◌≡◌, ◌≢◌, ◌≤◌, ◌<◌, ℕ, List, Option, None, Some, codes}
 use Rattle.bw_flow.specs.Layout.{points}
-use Rattle.bw_lang.specs.Forest.{Forest}
-use Rattle.bw_lang.specs.Reads.{Reads}
+use Rattle.bw_lang.specs.Document.Forest.{Forest}
+use Rattle.bw_lang.specs.Service.Reads.{Reads}
 use Rattle.bw_lang.specs.declared.service.Service.{Service}
 use Rattle.bw_out.specs.Told.{Disk}
 use Rattle.bw_read.specs.Pages.{IsPage}
-use Rattle.bw_schema.specs.Reads.{IsRefused}
+use Rattle.bw_schema.specs.Reads.{IsSchemaRefused}
 use Rattle.bw_schema.specs.Reads.{Reads as ReadsSchema}
 use Rattle.bw_schema.specs.Validity.{Valid as IsValid}
 use Rattle.bw_schema.specs.declared.default_schema.TheConstants.{BUILT_IN}
 use Rattle.bw_schema.specs.declared.fault.SchemaFault.{SchemaFault}
 use Rattle.bw_schema.specs.declared.fault.SchemaFault.TheVariants as schemas
 use Rattle.bw_schema.specs.declared.schema.Schema.{Schema}
-use Rattle.bw_syntax.specs.Refusals.{Refuses}
+use Rattle.bw_syntax.specs.Refusals.{IsServiceRefused}
 use Rattle.bw_syntax.specs.declared.fault.SyntaxFault.{SyntaxFault}
 use Rattle.bw_syntax.specs.declared.fault.SyntaxFault.TheVariants as reading
 use Rattle.bw_types.specs.Faults.{IsWellTyped, first_fault}
@@ -49,7 +49,7 @@ file disk name = record {
 abbrev pub read : List ℕ → Question Service
 read content = record {
   gives = λ tree. Reads content tree;
-  says = λ said. (fault : SyntaxFault) × Refuses content fault × (fault ≢ reading.Memory) × (said ≡ record { status = ServiceRefused; text = line (syntax_line fault) });
+  says = λ said. (fault : SyntaxFault) × IsServiceRefused content fault × (fault ≢ reading.Memory) × (said ≡ record { status = ServiceRefused; text = line (syntax_line fault) });
 }
 
 -- is it well typed?
@@ -108,7 +108,7 @@ page_file disk name = file disk name >>= page
 abbrev pub rules : List ℕ → Question Schema
 rules content = record {
   gives = λ schema. ReadsSchema content schema.root schema.elements;
-  says = λ said. (fault : SchemaFault) × IsRefused content fault × (fault ≢ schemas.Memory) × (said ≡ record { status = SchemaRefused; text = line (schema_line fault) });
+  says = λ said. (fault : SchemaFault) × IsSchemaRefused content fault × (fault ≢ schemas.Memory) × (said ≡ record { status = SchemaRefused; text = line (schema_line fault) });
 }
 
 -- the schema of a file, or that of the built-in text where none is named

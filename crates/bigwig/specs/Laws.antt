@@ -1,6 +1,6 @@
 -- Laws of outcomes.
 use Rattle.std.specs.Prelude.{◌≡◌, ◌↔◌, ◌⊎◌, ℕ, List, Option, None, Some}
-use Rattle.bw_lang.specs.Forest.{Forest}
+use Rattle.bw_lang.specs.Document.Forest.{Forest}
 use Rattle.bw_lang.specs.declared.service.Service.{Service}
 use Rattle.bw_out.specs.Told.{Disk}
 use Rattle.bw_read.specs.Pages.{IsPage}

@@ -1,6 +1,6 @@
 //! Whether a page is valid: the page file is read first, then the schema.
 ghost use Rattle.std.specs.Prelude.{◌≡◌, ◌<◌, ◌^◌, codes, IfOk, IfSome, IsErrOf, Some};
-ghost use Rattle.bw_lang.specs.Documents.{elements};
+ghost use Rattle.bw_lang.specs.Document.Documents.{elements};
 ghost use Rattle.bw_out.specs.Causes.{Shows};
 ghost use Rattle.bigwig.specs.Asked.{page, page_file, rules, schema, judged, ruled, work};
 ghost use Rattle.bigwig.specs.Asked.Work.{prints};

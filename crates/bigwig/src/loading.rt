@@ -1,6 +1,6 @@
 //! What the files give: the service.
 ghost use Rattle.std.specs.Prelude.{◌≡◌, ◌≢◌, List, ℕ, IfOk, IfErr, IfSome, IsErrOf, take, Some};
-ghost use Rattle.bw_lang.specs.Reads.{IsReadable};
+ghost use Rattle.bw_lang.specs.Service.Reads.{IsReadable};
 ghost use Rattle.bw_out.specs.Causes.{Shows};
 ghost use Rattle.bigwig.specs.Asked.{file, service_file, served, accepted, small};
 ghost use Rattle.bigwig.specs.Questions.{IsAnswer, IsStop};

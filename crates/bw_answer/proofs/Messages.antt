@@ -9,7 +9,7 @@ use Rattle.bw_http.specs.declared.replies.Reply.TheVariants as replies
 use Rattle.bw_http.specs.declared.request.ReadOutcome.{ReadOutcome}
 use Rattle.bw_http.specs.declared.request.ReadOutcome.TheVariants as outcomes
 use Rattle.bw_http.specs.declared.request.Request.{Request}
-use Rattle.bw_lang.specs.Names.{with_names}
+use Rattle.bw_lang.specs.Table.Names.{with_names}
 use Rattle.bw_lang.specs.declared.service.Service.{Service}
 use Rattle.bw_model.specs.Runs.{At, Turn, Stops, refusal, want, wants, answer_of}
 use Rattle.bw_model.specs.Runs.Turn.{request, no_memory}
@@ -22,7 +22,7 @@ use Rattle.bw_types.specs.Fields.{field_names}
 use Rattle.bw_world.specs.Seen.{Seen}
 use Rattle.bw_world.specs.Stands.{StandsFor, Ends, Handles}
 use Rattle.bw_answer.specs.Answers.{Place, IsAt, AreLeft, bytes_by}
-use Rattle.bw_answer.specs.Turns.{Takes, Goes, without_request}
+use Rattle.bw_answer.specs.Steps.Turns.{Takes, Goes, without_request}
 use Rattle.bw_answer.specs.declared.outcomes.Taken.{Taken}
 use Rattle.bw_answer.specs.declared.outcomes.Taken.TheVariants as takens
 use Rattle.bw_answer.specs.declared.outcomes.Next.TheVariants as nexts

@@ -4,7 +4,7 @@ use Rattle.std.specs.Io.KnownBytes.{Appends}
 use Rattle.bw_http.specs.Messages.{IsShort}
 use Rattle.bw_http.specs.Replies.{bytes_of}
 use Rattle.bw_http.specs.declared.replies.Reply.{Reply}
-use Rattle.bw_lang.specs.Names.{with_names}
+use Rattle.bw_lang.specs.Table.Names.{with_names}
 use Rattle.bw_lang.specs.declared.service.Service.{Service}
 use Rattle.bw_model.specs.Runs.{At, Turns, Run, wants, answer_of}
 use Rattle.bw_out.specs.declared.outside.Channel.{Ghosts}

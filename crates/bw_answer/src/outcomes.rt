@@ -1,6 +1,6 @@
 //! What comes of reading a message.
 ghost use Rattle.std.specs.Prelude.{◌≡◌};
-ghost use Rattle.bw_answer.specs.Turns as spec;
+ghost use Rattle.bw_answer.specs.Steps.Turns as spec;
 
 use bw_http::{ReadOutcome, Reply};
 

@@ -1,12 +1,12 @@
 //! Streams of requests, and their answers.
 ghost use Rattle.std.specs.Prelude.{◌≡◌, ◌≤◌, []};
-ghost use Rattle.bw_lang.specs.Names.{with_names};
+ghost use Rattle.bw_lang.specs.Table.Names.{with_names};
 ghost use Rattle.bw_out.specs.Causes.{Shows};
 ghost use Rattle.bw_out.specs.Sends as sends;
 ghost use Rattle.bw_types.specs.Fields.{field_names};
 ghost use Rattle.bw_model.specs.Runs.{want};
 ghost use Rattle.bw_answer.specs.Answers.{Answers, place};
-ghost use Rattle.bw_answer.specs.Turns.{Takes, AreFit, Goes, IsFew};
+ghost use Rattle.bw_answer.specs.Steps.Turns.{Takes, AreFit, Goes, IsFew};
 
 use crate::ends::StreamEnd;
 use crate::outcomes::{Next, Taken, without_request};

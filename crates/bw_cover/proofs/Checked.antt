@@ -9,14 +9,14 @@ use Rattle.bw_lang.specs.declared.service.Service.{Service}
 use Rattle.bw_lang.specs.declared.service.Session.{Session}
 use Rattle.bw_lang.specs.declared.service.Shared.{Shared}
 use Rattle.bw_lang.specs.declared.stmt.Kind.{Kind}
-use Rattle.bw_lang.specs.Code.{Code, done, declare, assign, if_then, if_else, while_loop, block, for_each, show, exit, numbered}
-use Rattle.bw_lang.specs.CodeNames.{local_names}
-use Rattle.bw_lang.specs.Names.{same, number, beside}
-use Rattle.bw_lang.specs.Term.{Term}
+use Rattle.bw_lang.specs.Service.Code.{Code, done, declare, assign, if_then, if_else, while_loop, block, for_each, show, exit, numbered}
+use Rattle.bw_lang.specs.Service.CodeNames.{local_names}
+use Rattle.bw_lang.specs.Table.Names.{same, name_number, beside}
+use Rattle.bw_lang.specs.Service.Term.{Term}
 use Rattle.bw_meaning.specs.GoOn.{body_of}
-use Rattle.bw_lang.specs.Numbers.{first_number}
+use Rattle.bw_lang.specs.Service.Numbers.{first_number}
 use Rattle.bw_types.specs.Gaps.{template_uses}
-use Rattle.bw_types.specs.Scopes.{Scope, no_locals, template_kind, shared_kinds, with_local, behind, is_among, template_names, behind_each}
+use Rattle.bw_types.specs.Scopes.{Scope, no_locals, template_kind, shared_kinds, with_local, scope_behind, is_among, template_names, behind_each}
 use Rattle.bw_types.specs.Typing.{HasKind, IsTypedCode, IsTypedSession, IsTypedService}
 use Rattle.bw_sum.specs.Graph.{Graph, constant, IsBelow}
 use Rattle.bw_sum.specs.Templates.{template_items}
@@ -59,7 +59,7 @@ template_of service w kind e = by_test (is_among w (template_names service)) ref
   where
     by_test : (b : Bool) → is_among w (template_names service) ≡ b → (if b then Some kinds.Html else None) ≡ Some kind → IsOf kind (template_known service w)
     by_test true t k = subst (λ x. IsOf x (template_known service w)) (some_is kinds.Html kind k)
-        (is_html (is_among w (template_names service)) (constant (template_items service) (is_gap service) (number (template_names service) w)) t)
+        (is_html (is_among w (template_names service)) (constant (template_items service) (is_gap service) (name_number (template_names service) w)) t)
     by_test false t k = cc
 
 module _ {K : Type 0} (service : Service) (f : Facts K) (one : AllPairs (λ x y. x.0 ≡ y.0 → x.1 ≡ y.1) (template_uses service.templates))
@@ -118,21 +118,21 @@ module _ (service : Service) (f : Facts Spot) (one : AllPairs (λ x y. x.0 ≡ y
       (((at n scope sc e t.0.0 s.0 a k.0 t.0.2).1, r.0), r.1)
   typed_code (if_then b y rest) n scope sc a t s k sh =
       let p = typed_code y (n + 1) scope sc a t.1 s.2 k.1 sh.0 in
-      let r = typed_code rest (n + 1 + numbered y) (behind scope y) sc a t.2 s.3 k.2 sh.1 in
+      let r = typed_code rest (n + 1 + numbered y) (scope_behind scope y) sc a t.2 s.3 k.2 sh.1 in
       (((at n scope sc b kinds.Bool s.0 a k.0 t.0).1, p.0, r.0), (p.1, r.1))
   typed_code (if_else b y z rest) n scope sc a t s k sh =
       let j = n + 1 + numbered y in
       let p = typed_code y (n + 1) scope sc a t.1 s.2 k.1 sh.0 in
-      let q = typed_code z j (behind scope y) sc a t.2 s.3 k.2 sh.1 in
-      let r = typed_code rest (j + numbered z) (behind (behind scope y) z) sc a t.3 s.4 k.3 sh.2 in
+      let q = typed_code z j (scope_behind scope y) sc a t.2 s.3 k.2 sh.1 in
+      let r = typed_code rest (j + numbered z) (scope_behind (scope_behind scope y) z) sc a t.3 s.4 k.3 sh.2 in
       (((at n scope sc b kinds.Bool s.0 a k.0 t.0).1, p.0, q.0, r.0), (p.1, q.1, r.1))
   typed_code (while_loop b c rest) n scope sc a t s k sh =
       let p = typed_code c (n + 1) scope sc a t.1 s.1 k.1 sh.0 in
-      let r = typed_code rest (n + 1 + numbered c) (behind scope c) sc a t.2 s.2 k.2 sh.1 in
+      let r = typed_code rest (n + 1 + numbered c) (scope_behind scope c) sc a t.2 s.2 k.2 sh.1 in
       (((at n scope sc b kinds.Bool s.0 a k.0 t.0).1, p.0, r.0), (p.1, r.1))
   typed_code (block c rest) n scope sc a t s k sh =
       let p = typed_code c n scope sc a t.0 s.0 k.0 sh.0 in
-      let r = typed_code rest (n + numbered c) (behind scope c) sc a t.1 s.1 k.1 sh.1 in
+      let r = typed_code rest (n + numbered c) (scope_behind scope c) sc a t.1 s.1 k.1 sh.1 in
       ((p.0, r.0), (p.1, r.1))
   typed_code (for_each w e c rest) n scope sc a t s k sh =
       let p = typed_code c (n + 1) (with_local scope w kinds.Str) (sc ++ w ∷ []) (agree_next scope sc w kinds.Str a) t.2 s.1 k.1 sh.0 in

@@ -1,7 +1,7 @@
 -- The edges lead where the points of the flow lead: by induction on the statements.
 use Rattle.std.proofs.Common.{◌≡◌, ℕ, ◌+◌, List, [], ◌∷◌, ◌++◌, Option, Some, None, refl, sym, ap, ◌∙◌, append_assoc}
 use Rattle.bw_lang.specs.declared.service.Session.{Session}
-use Rattle.bw_lang.specs.Code.{Code, done, declare, assign, if_then, if_else, while_loop, block, for_each, show, exit, numbered}
+use Rattle.bw_lang.specs.Service.Code.{Code, done, declare, assign, if_then, if_else, while_loop, block, for_each, show, exit, numbered}
 use Rattle.bw_flow.specs.Leads as leads
 use Rattle.bw_flow.proofs.Leads.{leads_agree}
 use Rattle.bw_cover.specs.EdgeLaws.{point_of, between, ends, EdgesAreLeads, EdgesAreNexts}

@@ -2,8 +2,8 @@ use Rattle.std.proofs.Common.{◌≡◌, ℕ, zero, suc, Bool, true, false, List
 use Rattle.std.specs.Prelude.{◌≢◌, ◌||◌, ◌&&◌, ◌==◌, if◌then◌else◌, codes, option_map}
 use Rattle.std.proofs.lemmas.Bool.{false≢true, eqb-true, eq-eqb}
 use Rattle.std.specs.List.{AllPairs}
-use Rattle.bw_lang.specs.Term.{name}
-use Rattle.bw_lang.specs.Names.{same}
+use Rattle.bw_lang.specs.Service.Term.{name}
+use Rattle.bw_lang.specs.Table.Names.{same}
 use Rattle.bw_sum.specs.Graph.{Graph, constant, plugged, plugged_text, IsBelow}
 use Rattle.bw_sum.specs.Opening.{has_hole}
 use Rattle.bw_sum.specs.Templates.{template_items}

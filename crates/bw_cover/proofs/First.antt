@@ -6,8 +6,8 @@ use Rattle.bw_lang.specs.declared.service.Literal.{Literal}
 use Rattle.bw_lang.specs.declared.service.Literal.TheVariants as literals
 use Rattle.bw_lang.specs.declared.service.Service.{Service}
 use Rattle.bw_lang.specs.declared.service.Shared.{Shared}
-use Rattle.bw_lang.specs.Forest.{none}
-use Rattle.bw_lang.specs.Names.{same, beside}
+use Rattle.bw_lang.specs.Document.Forest.{none}
+use Rattle.bw_lang.specs.Table.Names.{same, beside}
 use Rattle.bw_meaning.specs.Values.{Value, Values, document, constant as document_at, literal_value, first_values}
 use Rattle.bw_types.specs.Scopes.{is_among}
 use Rattle.bw_cover.specs.Abstracts.{covers, Below}

@@ -4,8 +4,8 @@ use Rattle.std.specs.Prelude.{◌||◌, if◌then◌else◌, is_some}
 use Rattle.bw_lang.specs.declared.service.Service.{Service}
 use Rattle.bw_lang.specs.declared.stmt.Kind.{Kind}
 use Rattle.bw_lang.specs.declared.stmt.Kind.TheVariants as kinds
-use Rattle.bw_lang.specs.Names.{same, beside}
-use Rattle.bw_lang.specs.Term.{Term}
+use Rattle.bw_lang.specs.Table.Names.{same, beside}
+use Rattle.bw_lang.specs.Service.Term.{Term}
 use Rattle.bw_lang.proofs.Small.{readable_is_woven}
 use Rattle.bw_types.specs.Scopes.{is_among}
 use Rattle.bw_types.specs.Typing.{IsTypedService}

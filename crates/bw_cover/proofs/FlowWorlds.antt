@@ -5,8 +5,8 @@ use Rattle.std.specs.List.{AllPairs}
 use Rattle.std.proofs.lemmas.List.Sums.{sum_by-cons}
 use Rattle.bw_lang.specs.declared.service.Service.{Service}
 use Rattle.bw_lang.specs.declared.service.Session.{Session}
-use Rattle.bw_lang.specs.Code.{Code, done, numbered}
-use Rattle.bw_lang.specs.CodeNames.{local_names}
+use Rattle.bw_lang.specs.Service.Code.{Code, done, numbered}
+use Rattle.bw_lang.specs.Service.CodeNames.{local_names}
 use Rattle.bw_flow.specs.Layout.{plan_of}
 use Rattle.bw_flow.specs.Stands.{Lowered, AllLowered}
 use Rattle.bw_flow.specs.Steps.{Step}

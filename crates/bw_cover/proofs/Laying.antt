@@ -5,12 +5,12 @@ use Rattle.std.specs.List.{AllPairs}
 use Rattle.std.proofs.lemmas.Bool.{false≢true, or_parts}
 use Rattle.std.proofs.lemmas.List.Folds.{list_any-append, list_any_none}
 use Rattle.bw_lang.specs.declared.service.Service.{Service}
-use Rattle.bw_lang.specs.Code.{Code, done, declare, assign, if_then, if_else, while_loop, block, for_each, show, exit, numbered}
-use Rattle.bw_lang.specs.CodeNames.{local_names}
-use Rattle.bw_lang.specs.Names.{same}
-use Rattle.bw_lang.specs.Term.{Term}
+use Rattle.bw_lang.specs.Service.Code.{Code, done, declare, assign, if_then, if_else, while_loop, block, for_each, show, exit, numbered}
+use Rattle.bw_lang.specs.Service.CodeNames.{local_names}
+use Rattle.bw_lang.specs.Table.Names.{same}
+use Rattle.bw_lang.specs.Service.Term.{Term}
 use Rattle.bw_meaning.specs.GoOn.{body_of}
-use Rattle.bw_lang.specs.Numbers.{first_number}
+use Rattle.bw_lang.specs.Service.Numbers.{first_number}
 use Rattle.bw_meaning.specs.Statements.{declared}
 use Rattle.bw_cover.specs.Abstracts.{EachPair, IsNotLacked, IsPlug}
 use Rattle.bw_cover.specs.Facts.{keeps, Facts, look, Edge, edge, EachLeads, IsPoint, Apart, Laid}

@@ -8,8 +8,8 @@ use Rattle.bw_lang.specs.declared.service.Service.{Service}
 use Rattle.bw_lang.specs.declared.service.Shared.{Shared}
 use Rattle.bw_lang.specs.declared.stmt.Kind.{Kind}
 use Rattle.bw_lang.specs.declared.stmt.Receive.{Receive}
-use Rattle.bw_lang.specs.Names.{same, beside}
-use Rattle.bw_lang.specs.Term.{Term}
+use Rattle.bw_lang.specs.Table.Names.{same, beside}
+use Rattle.bw_lang.specs.Service.Term.{Term}
 use Rattle.bw_types.specs.Gaps.{template_uses}
 use Rattle.bw_types.specs.Scopes.{Scope, shared_kinds, variable_kind, is_among}
 use Rattle.bw_types.specs.Typing.{IsReceived}

@@ -7,7 +7,7 @@ use Rattle.bw_lang.specs.declared.service.Literal.{Literal}
 use Rattle.bw_lang.specs.declared.service.Service.{Service}
 use Rattle.bw_lang.specs.declared.service.Shared.{Shared}
 use Rattle.bw_lang.specs.declared.stmt.Kind.{Kind}
-use Rattle.bw_lang.specs.Names.{same}
+use Rattle.bw_lang.specs.Table.Names.{same}
 use Rattle.bw_types.specs.Scopes.{shared_kind}
 use Rattle.bw_types.specs.Faults.{literal_kind}
 use Rattle.bw_cover.specs.Abstracts.{Nothing, Strings}

@@ -6,8 +6,8 @@ use Rattle.std.specs.Option.{option_or}
 use Rattle.std.proofs.lemmas.Bool.{false≢true}
 use Rattle.bw_lang.specs.declared.service.Service.{Service}
 use Rattle.bw_lang.specs.declared.stmt.Receive.{Receive}
-use Rattle.bw_lang.specs.Names.{same, beside}
-use Rattle.bw_lang.specs.Submissions.{values_of}
+use Rattle.bw_lang.specs.Table.Names.{same, beside}
+use Rattle.bw_lang.specs.Service.Submissions.{values_of}
 use Rattle.bw_meaning.specs.Forms.{received_value}
 use Rattle.bw_meaning.specs.States.{Form, State}
 use Rattle.bw_meaning.specs.Statements.{variable, store, received}

@@ -6,8 +6,8 @@ use Rattle.bw_lang.specs.declared.expr.Op.{Op}
 use Rattle.bw_lang.specs.declared.expr.Op.TheVariants.{Or, And, Eq, Ne, Lt, Le, Gt, Ge, Add, Sub, Mul, Div, Rem}
 use Rattle.bw_lang.specs.declared.service.Service.{Service}
 use Rattle.bw_lang.specs.declared.stmt.Receive.{Receive}
-use Rattle.bw_lang.specs.Names.{same, number}
-use Rattle.bw_lang.specs.Term.{Term, int, truth, string, name, paren, not as negated, neg, binary, call, plug, nothing, Fillings, no_more, filling}
+use Rattle.bw_lang.specs.Table.Names.{same, name_number}
+use Rattle.bw_lang.specs.Service.Term.{Term, int, truth, string, name, paren, not as negated, neg, binary, call, plug, nothing, Fillings, no_more, filling}
 use Rattle.bw_sum.specs.Graph.{Graph, plugged, plugged_text, IsBelow}
 use Rattle.bw_cover.specs.Abstracts.{Abstract, Nothing, Strings, Html, Below, plugged_by, summed_by, combined_by, called_by, known, known_filled}
 use Rattle.bw_cover.specs.Facts.{received_by, receives_by}
@@ -200,5 +200,5 @@ module _ (service : Service) (one other : List ℕ → Abstract) (h : (w : List 
     filled_more : (ps : Fillings) (a b : Abstract) → Below a b → Below (known_filled service one ps a) (known_filled service other ps b)
     filled_more no_more a b k = k
     filled_more (filling g e ps) a b k =
-        filled_more ps (plugged_by a (number service.gaps g) (known service one e)) (plugged_by b (number service.gaps g) (known service other e))
-        (plugged_by_more a b (number service.gaps g) (known service one e) (known service other e) k (known_more e))
+        filled_more ps (plugged_by a (name_number service.gaps g) (known service one e)) (plugged_by b (name_number service.gaps g) (known service other e))
+        (plugged_by_more a b (name_number service.gaps g) (known service one e) (known service other e) k (known_more e))

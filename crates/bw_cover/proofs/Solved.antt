@@ -8,8 +8,8 @@ use Rattle.bw_lang.specs.declared.service.Service.{Service}
 use Rattle.bw_lang.specs.declared.service.Session.{Session}
 use Rattle.bw_lang.specs.declared.service.Shared.{Shared}
 use Rattle.bw_lang.specs.declared.stmt.Receive.{Receive}
-use Rattle.bw_lang.specs.Code.{done, numbered}
-use Rattle.bw_lang.specs.Names.{same}
+use Rattle.bw_lang.specs.Service.Code.{done, numbered}
+use Rattle.bw_lang.specs.Table.Names.{same}
 use Rattle.bw_cover.specs.Abstracts.{Abstract, any, Below, known}
 use Rattle.bw_cover.specs.Facts.{What, keeps, sets, brings, takes, Facts, is_shared, template_known, look, received_by, receives_by, own, left, Adds}
 use Rattle.bw_cover.specs.Facts.{Edge, EachLeads}

@@ -7,14 +7,14 @@ use Rattle.std.proofs.lemmas.List.Elements.{All-weaker, All-nil}
 use Rattle.bw_lang.specs.declared.service.Service.{Service}
 use Rattle.bw_lang.specs.declared.service.Session.{Session}
 use Rattle.bw_lang.specs.declared.stmt.Kind.{Kind}
-use Rattle.bw_lang.specs.Code.{Code, done, declare, assign, if_then, if_else, while_loop, block, for_each, show, exit, numbered}
-use Rattle.bw_lang.specs.CodeNames.{local_names}
-use Rattle.bw_lang.specs.Names.{beside}
-use Rattle.bw_lang.specs.Reads.{IsReadable}
+use Rattle.bw_lang.specs.Service.Code.{Code, done, declare, assign, if_then, if_else, while_loop, block, for_each, show, exit, numbered}
+use Rattle.bw_lang.specs.Service.CodeNames.{local_names}
+use Rattle.bw_lang.specs.Table.Names.{beside}
+use Rattle.bw_lang.specs.Service.Reads.{IsReadable}
 use Rattle.bw_lang.proofs.Small.{readable_is_woven}
 use Rattle.bw_meaning.specs.GoOn.{body_of}
-use Rattle.bw_lang.specs.Numbers.{first_number}
-use Rattle.bw_types.specs.Scopes.{Scope, no_locals, declared_names, with_local, behind, behind_each}
+use Rattle.bw_lang.specs.Service.Numbers.{first_number}
+use Rattle.bw_types.specs.Scopes.{Scope, no_locals, declared_names, with_local, scope_behind, behind_each}
 use Rattle.bw_types.specs.Typing.{IsTypedCode}
 use Rattle.bw_types.specs.Faults.{IsWellTyped}
 use Rattle.bw_types.proofs.Differing.{none_differ}
@@ -47,21 +47,21 @@ module _ (sees : Spot → Scope) where
     subst (LocalsAreOf f (statement n)) s.0 (h (statement n)),
     cells_of f h y (n + 1) scope s.2,
     cells_of f h rest (n + 1 + numbered y)
-        (behind scope y) s.3,
+        (scope_behind scope y) s.3,
   )
   cells_of f h (if_else t y z rest) n scope s = (
     subst (LocalsAreOf f (statement n)) s.0 (h (statement n)),
     cells_of f h y (n + 1) scope s.2,
-    cells_of f h z (n + 1 + numbered y) (behind scope y) s.3,
-    cells_of f h rest (n + 1 + numbered y + numbered z) (behind (behind scope y) z) s.4,
+    cells_of f h z (n + 1 + numbered y) (scope_behind scope y) s.3,
+    cells_of f h rest (n + 1 + numbered y + numbered z) (scope_behind (scope_behind scope y) z) s.4,
   )
   cells_of f h (while_loop t b rest) n scope s = (
     subst (LocalsAreOf f (statement n)) s.0 (h (statement n)),
     cells_of f h b (n + 1) scope s.1,
     cells_of f h rest (n + 1 + numbered b)
-        (behind scope b) s.2,
+        (scope_behind scope b) s.2,
   )
-  cells_of f h (block b rest) n scope s = (cells_of f h b n scope s.0, cells_of f h rest (n + numbered b) (behind scope b) s.1)
+  cells_of f h (block b rest) n scope s = (cells_of f h b n scope s.0, cells_of f h rest (n + numbered b) (scope_behind scope b) s.1)
   cells_of f h (for_each w e b rest) n scope s = (
     subst (LocalsAreOf f (statement n)) s.0 (h (statement n)),
     cells_of f h b (n + 1) (with_local scope w kinds.Str) s.1,

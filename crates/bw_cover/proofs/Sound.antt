@@ -1,6 +1,6 @@
 -- The laws, from the layout of the tree's own points.
 use Rattle.bw_meaning.specs.GoOn.{body_of}
-use Rattle.bw_lang.specs.Numbers.{first_number}
+use Rattle.bw_lang.specs.Service.Numbers.{first_number}
 use Rattle.bw_cover.specs.Spots.{out, starts}
 use Rattle.bw_cover.specs.Sound.{TurnIsCovered, GoingOnIsCovered, TurnPlugsAreOpen, GoingOnPlugsAreOpen}
 use Rattle.bw_cover.proofs.Laying.{laid_session}

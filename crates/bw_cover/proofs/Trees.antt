@@ -6,12 +6,12 @@ use Rattle.std.proofs.lemmas.List.Sums.{sum_by-cons}
 use Rattle.bw_lang.specs.declared.service.Service.{Service}
 use Rattle.bw_lang.specs.declared.service.Session.{Session}
 use Rattle.bw_lang.specs.declared.stmt.Kind.{Kind}
-use Rattle.bw_lang.specs.Code.{Code, done, declare, assign, if_then, if_else, while_loop, block, for_each, show, exit, numbered}
-use Rattle.bw_lang.specs.Names.{beside}
-use Rattle.bw_lang.specs.Term.{Term}
+use Rattle.bw_lang.specs.Service.Code.{Code, done, declare, assign, if_then, if_else, while_loop, block, for_each, show, exit, numbered}
+use Rattle.bw_lang.specs.Table.Names.{beside}
+use Rattle.bw_lang.specs.Service.Term.{Term}
 use Rattle.bw_meaning.specs.GoOn.{body_of}
-use Rattle.bw_lang.specs.Numbers.{first_number}
-use Rattle.bw_types.specs.Scopes.{Scope, no_locals, with_local, behind, is_among, behind_each}
+use Rattle.bw_lang.specs.Service.Numbers.{first_number}
+use Rattle.bw_types.specs.Scopes.{Scope, no_locals, with_local, scope_behind, is_among, behind_each}
 use Rattle.bw_cover.specs.Abstracts.{known}
 use Rattle.bw_cover.specs.Facts.{Facts, look}
 use Rattle.bw_cover.specs.Kinds.{Shows, summary_of}
@@ -50,12 +50,12 @@ module _ (info : ℕ → Place) where
   Found done n scope = Unit {0}
   Found (declare kind w e rest) n scope = (info n ≡ place scope e false) × Found rest (n + 1) (with_local scope w kind)
   Found (assign w e rest) n scope = (info n ≡ place scope e false) × Found rest (n + 1) scope
-  Found (if_then t y rest) n scope = (info n ≡ place scope t false) × Found y (n + 1) scope × Found rest (n + 1 + numbered y) (behind scope y)
+  Found (if_then t y rest) n scope = (info n ≡ place scope t false) × Found y (n + 1) scope × Found rest (n + 1 + numbered y) (scope_behind scope y)
   Found (if_else t y z rest) n scope =
-      (info n ≡ place scope t false) × Found y (n + 1) scope × Found z (n + 1 + numbered y) (behind scope y)
-      × Found rest (n + 1 + numbered y + numbered z) (behind (behind scope y) z)
-  Found (while_loop t b rest) n scope = (info n ≡ place scope t false) × Found b (n + 1) scope × Found rest (n + 1 + numbered b) (behind scope b)
-  Found (block b rest) n scope = Found b n scope × Found rest (n + numbered b) (behind scope b)
+      (info n ≡ place scope t false) × Found y (n + 1) scope × Found z (n + 1 + numbered y) (scope_behind scope y)
+      × Found rest (n + 1 + numbered y + numbered z) (scope_behind (scope_behind scope y) z)
+  Found (while_loop t b rest) n scope = (info n ≡ place scope t false) × Found b (n + 1) scope × Found rest (n + 1 + numbered b) (scope_behind scope b)
+  Found (block b rest) n scope = Found b n scope × Found rest (n + numbered b) (scope_behind scope b)
   Found (for_each w e b rest) n scope = (info n ≡ place scope e false) × Found b (n + 1) (with_local scope w kinds.Str)
       × Found rest (n + 1 + numbered b) (behind_each scope w b)
   Found (show p rs rest) n scope = (info n ≡ place scope p false) × Found rest (n + 1) scope
@@ -86,13 +86,13 @@ module _ (info : ℕ → Place) where
   )
   found (block b rest) n scope h =
       let m = n + numbered b in
-      let r = behind scope b in (
+      let r = scope_behind scope b in (
         found b n scope (λ k le lt. h k le (omega arith) ∙ below k m (place_in b n scope k) (place_in rest m r k) lt),
         found rest m r (λ k le lt. h k (omega arith) (omega arith) ∙ above k m (place_in b n scope k) (place_in rest m r k) le),
       )
   found (if_then t y rest) n scope h =
       let m = n + 1 + numbered y in
-      let r = behind scope y in
+      let r = scope_behind scope y in
       let i = place scope t false in
       let o = λ (k : ℕ). if nat_lt k m then place_in y (n + 1) scope k else place_in rest m r k in (
         h n (omega arith) (omega arith) ∙ at n i (o n),
@@ -103,7 +103,7 @@ module _ (info : ℕ → Place) where
       )
   found (while_loop t y rest) n scope h =
       let m = n + 1 + numbered y in
-      let r = behind scope y in
+      let r = scope_behind scope y in
       let i = place scope t false in
       let o = λ (k : ℕ). if nat_lt k m then place_in y (n + 1) scope k else place_in rest m r k in (
         h n (omega arith) (omega arith) ∙ at n i (o n),
@@ -126,8 +126,8 @@ module _ (info : ℕ → Place) where
   found (if_else t y z rest) n scope h =
       let j = n + 1 + numbered y in
       let m = j + numbered z in
-      let s = behind scope y in
-      let r = behind (behind scope y) z in
+      let s = scope_behind scope y in
+      let r = scope_behind (scope_behind scope y) z in
       let i = place scope t false in
       let u = λ (k : ℕ). if nat_lt k m then place_in z j s k else place_in rest m r k in
       let o = λ (k : ℕ). if nat_lt k j then place_in y (n + 1) scope k else u k in (
@@ -169,16 +169,16 @@ module _ (service : Service) (c : Cells Spot) where
   sees (declare kind w e rest) n scope h = (ap (λ x. x.scope) h.0, sees rest (n + 1) (with_local scope w kind) h.1)
   sees (assign w e rest) n scope h = (ap (λ x. x.scope) h.0, sees rest (n + 1) scope h.1)
   sees (if_then t y rest) n scope h =
-      (ap (λ x. x.scope) h.0, ap (λ x. x.scope) h.0, sees y (n + 1) scope h.1, sees rest (n + 1 + numbered y) (behind scope y) h.2)
+      (ap (λ x. x.scope) h.0, ap (λ x. x.scope) h.0, sees y (n + 1) scope h.1, sees rest (n + 1 + numbered y) (scope_behind scope y) h.2)
   sees (if_else t y z rest) n scope h = (
     ap (λ x. x.scope) h.0,
     ap (λ x. x.scope) h.0,
     sees y (n + 1) scope h.1,
-    sees z (n + 1 + numbered y) (behind scope y) h.2,
-    sees rest (n + 1 + numbered y + numbered z) (behind (behind scope y) z) h.3,
+    sees z (n + 1 + numbered y) (scope_behind scope y) h.2,
+    sees rest (n + 1 + numbered y + numbered z) (scope_behind (scope_behind scope y) z) h.3,
   )
-  sees (while_loop t b rest) n scope h = (ap (λ x. x.scope) h.0, sees b (n + 1) scope h.1, sees rest (n + 1 + numbered b) (behind scope b) h.2)
-  sees (block b rest) n scope h = (sees b n scope h.0, sees rest (n + numbered b) (behind scope b) h.1)
+  sees (while_loop t b rest) n scope h = (ap (λ x. x.scope) h.0, sees b (n + 1) scope h.1, sees rest (n + 1 + numbered b) (scope_behind scope b) h.2)
+  sees (block b rest) n scope h = (sees b n scope h.0, sees rest (n + numbered b) (scope_behind scope b) h.1)
   sees (for_each w e b rest) n scope h =
       (ap (λ x. x.scope) h.0, sees b (n + 1) (with_local scope w kinds.Str) h.1, sees rest (n + 1 + numbered b) (behind_each scope w b) h.2)
   sees (show p rs rest) n scope h = (ap (λ x. x.scope) h.0, sees rest (n + 1) scope h.1)
@@ -191,16 +191,16 @@ module _ (service : Service) (c : Cells Spot) where
   scoped done n scope h = tt
   scoped (declare kind w e rest) n scope h = (ap order h.0, scoped rest (n + 1) (with_local scope w kind) h.1)
   scoped (assign w e rest) n scope h = (ap order h.0, scoped rest (n + 1) scope h.1)
-  scoped (if_then t y rest) n scope h = (ap order h.0, ap order h.0, scoped y (n + 1) scope h.1, scoped rest (n + 1 + numbered y) (behind scope y) h.2)
+  scoped (if_then t y rest) n scope h = (ap order h.0, ap order h.0, scoped y (n + 1) scope h.1, scoped rest (n + 1 + numbered y) (scope_behind scope y) h.2)
   scoped (if_else t y z rest) n scope h = (
     ap order h.0,
     ap order h.0,
     scoped y (n + 1) scope h.1,
-    scoped z (n + 1 + numbered y) (behind scope y) h.2,
-    scoped rest (n + 1 + numbered y + numbered z) (behind (behind scope y) z) h.3,
+    scoped z (n + 1 + numbered y) (scope_behind scope y) h.2,
+    scoped rest (n + 1 + numbered y + numbered z) (scope_behind (scope_behind scope y) z) h.3,
   )
-  scoped (while_loop t b rest) n scope h = (ap order h.0, scoped b (n + 1) scope h.1, scoped rest (n + 1 + numbered b) (behind scope b) h.2)
-  scoped (block b rest) n scope h = (scoped b n scope h.0, scoped rest (n + numbered b) (behind scope b) h.1)
+  scoped (while_loop t b rest) n scope h = (ap order h.0, scoped b (n + 1) scope h.1, scoped rest (n + 1 + numbered b) (scope_behind scope b) h.2)
+  scoped (block b rest) n scope h = (scoped b n scope h.0, scoped rest (n + numbered b) (scope_behind scope b) h.1)
   scoped (for_each w e b rest) n scope h =
       (ap order h.0, scoped b (n + 1) (with_local scope w kinds.Str) h.1, scoped rest (n + 1 + numbered b) (behind_each scope w b) h.2)
   scoped (show p rs rest) n scope h = (ap order h.0, scoped rest (n + 1) scope h.1)
@@ -214,15 +214,15 @@ module _ (service : Service) (c : Cells Spot) where
   shows done n scope h = tt
   shows (declare kind w e rest) n scope h = shows rest (n + 1) (with_local scope w kind) h.1
   shows (assign w e rest) n scope h = shows rest (n + 1) scope h.1
-  shows (if_then t y rest) n scope h = (shows y (n + 1) scope h.1, shows rest (n + 1 + numbered y) (behind scope y) h.2)
+  shows (if_then t y rest) n scope h = (shows y (n + 1) scope h.1, shows rest (n + 1 + numbered y) (scope_behind scope y) h.2)
   shows (if_else t y z rest) n scope h = (
     shows y (n + 1) scope h.1,
-    shows z (n + 1 + numbered y) (behind scope y) h.2,
+    shows z (n + 1 + numbered y) (scope_behind scope y) h.2,
     shows rest (n + 1 + numbered y + numbered z)
-        (behind (behind scope y) z) h.3,
+        (scope_behind (scope_behind scope y) z) h.3,
   )
-  shows (while_loop t b rest) n scope h = (shows b (n + 1) scope h.1, shows rest (n + 1 + numbered b) (behind scope b) h.2)
-  shows (block b rest) n scope h = (shows b n scope h.0, shows rest (n + numbered b) (behind scope b) h.1)
+  shows (while_loop t b rest) n scope h = (shows b (n + 1) scope h.1, shows rest (n + 1 + numbered b) (scope_behind scope b) h.2)
+  shows (block b rest) n scope h = (shows b n scope h.0, shows rest (n + numbered b) (scope_behind scope b) h.1)
   shows (for_each w e b rest) n scope h = (shows b (n + 1) (with_local scope w kinds.Str) h.1, shows rest (n + 1 + numbered b) (behind_each scope w b) h.2)
   shows (show p rs rest) n scope h = (shown_as n scope p false h.0, refl, shows rest (n + 1) scope h.1)
   shows (exit p rest) n scope h = (shown_as n scope p true h.0, ap (λ x. x.exits) h.0, shows rest (n + 1) scope h.1)

@@ -3,10 +3,10 @@ use Rattle.std.proofs.Common.{◌≡◌, ℕ, ◌+◌, List, [], ◌∷◌, ◌+
 use Rattle.std.specs.Prelude.{◌==◌, nat_lt, if◌then◌else◌}
 use Rattle.std.proofs.lemmas.Bool.{eqb-true}
 use Rattle.bw_lang.specs.declared.service.Service.{Service}
-use Rattle.bw_lang.specs.Code.{Code, done, declare, assign, if_then, if_else, while_loop, block, for_each, show, exit, numbered}
-use Rattle.bw_lang.specs.Names.{beside}
-use Rattle.bw_meaning.specs.GoOn.{with_rest, behind, body_of, turn, go_on}
-use Rattle.bw_lang.specs.Numbers.{first_number}
+use Rattle.bw_lang.specs.Service.Code.{Code, done, declare, assign, if_then, if_else, while_loop, block, for_each, show, exit, numbered}
+use Rattle.bw_lang.specs.Table.Names.{beside}
+use Rattle.bw_meaning.specs.GoOn.{with_rest, go_on_behind, body_of, turn, go_on}
+use Rattle.bw_lang.specs.Service.Numbers.{first_number}
 use Rattle.bw_meaning.specs.Operators.{truth_of, list_of, document_of}
 use Rattle.bw_meaning.specs.Pages.{show_fault, exit_fault}
 use Rattle.bw_meaning.specs.States.{Rests, Input, State, Outcome, Went, Shown, Exited, Failed, Answered, budget}
@@ -157,14 +157,14 @@ module _ {K : Type 0} (service : Service) (f : Facts K) where
 
   pub behind_good : (c : Code) (n around : ℕ) (sc : List (List ℕ)) (p q : K) (a : Answered) → CoversLocals service f (f.place a.at) a.locals
       → CoversShared service f a.input.shared → CoversInputs service f a.later
-      → Laid service f c n sc p q → Good service f q (after c sc) (behind service c n around a) (plugs_behind service c n around a)
+      → Laid service f c n sc p q → Good service f q (after c sc) (go_on_behind service c n around a) (plugs_behind service c n around a)
   behind_good done n around sc p q a cl cs ci h = (tt, tt)
   behind_good (declare kind w e rest) n around sc p q a cl cs ci (r, pt, fresh, ld, h) = behind_good rest (n + 1) around (sc ++ w ∷ []) r q a cl cs ci h
   behind_good (assign w e rest) n around sc p q a cl cs ci (r, pt, ld, h) = behind_good rest (n + 1) around sc r q a cl cs ci h
   behind_good (exit e rest) n around sc p q a cl cs ci (r, pt, k, x, h) = behind_good rest (n + 1) around sc r q a cl cs ci h
   behind_good (show e rs rest) n around sc p q a cl cs ci (r, pt, k, pl, lr, h) =
       let st = taken rs a.locals a.input a.later in
-      good_if service f q (after rest sc) (a.at == n) (exec service rest (n + 1) around st) (behind service rest (n + 1) around a)
+      good_if service f q (after rest sc) (a.at == n) (exec service rest (n + 1) around st) (go_on_behind service rest (n + 1) around a)
       (plugs service rest (n + 1) around st) (plugs_behind service rest (n + 1) around a)
       (λ e. exec_good rest (n + 1) around sc r q st h
       (taken_good service f p r sc rs a.locals a.input a.later pt.scope
@@ -172,22 +172,22 @@ module _ {K : Type 0} (service : Service) (f : Facts K) where
       (λ _. behind_good rest (n + 1) around sc r q a cl cs ci h)
   behind_good (block b rest) n around sc p q a cl cs ci (r, ab, hb, h) =
       let m = n + numbered b in
-      let o = leave (declared b) (behind service b n around a) in
+      let o = leave (declared b) (go_on_behind service b n around a) in
       let ps = plugs_behind service b n around a in
-      good_if service f q (after rest sc) (nat_lt a.at m) (then_do o (exec service rest m around)) (behind service rest m around a)
+      good_if service f q (after rest sc) (nat_lt a.at m) (then_do o (exec service rest m around)) (go_on_behind service rest m around a)
       (ps ++ on_end o (plugs service rest m around)) (plugs_behind service rest m around a)
       (λ _. good_then service f r q sc (after rest sc) o ps (exec service rest m around) (plugs service rest m around)
-      (good_leave service f r sc b (behind service b n around a) ps ab (behind_good b n around sc p r a cl cs ci hb))
+      (good_leave service f r sc b (go_on_behind service b n around a) ps ab (behind_good b n around sc p r a cl cs ci hb))
       (λ st1 c1. exec_good rest m around sc r q st1 h c1))
       (λ _. behind_good rest m around sc r q a cl cs ci h)
   behind_good (if_then t y rest) n around sc p q a cl cs ci (b, j, r, pt, sj, ay, lb, lj, lr, hy, h) =
       let m = n + 1 + numbered y in
-      let o = leave (declared y) (behind service y (n + 1) around a) in
+      let o = leave (declared y) (go_on_behind service y (n + 1) around a) in
       let ps = plugs_behind service y (n + 1) around a in
-      good_if service f q (after rest sc) (nat_lt a.at m) (then_do o (exec service rest m around)) (behind service rest m around a)
+      good_if service f q (after rest sc) (nat_lt a.at m) (then_do o (exec service rest m around)) (go_on_behind service rest m around a)
       (ps ++ on_end o (plugs service rest m around)) (plugs_behind service rest m around a)
       (λ _.
-      let g = good_leave service f j sc y (behind service y (n + 1) around a) ps ay (behind_good y (n + 1) around sc b j a cl cs ci hy) in
+      let g = good_leave service f j sc y (go_on_behind service y (n + 1) around a) ps ay (behind_good y (n + 1) around sc b j a cl cs ci hy) in
       good_then service f r q sc (after rest sc) o ps (exec service rest m around) (plugs service rest m around) (fine_kept service f j r sc o sj lr g.0, g.1)
       (λ st1 c1. exec_good rest m around sc r q st1 h c1))
       (λ _. behind_good rest m around sc r q a cl cs ci h)
@@ -196,20 +196,20 @@ module _ {K : Type 0} (service : Service) (f : Facts K) where
       let m = k + numbered z in
       let next = exec service rest m around in
       let more = plugs service rest m around in
-      let one = leave (declared y) (behind service y (n + 1) around a) in
+      let one = leave (declared y) (go_on_behind service y (n + 1) around a) in
       let ps = plugs_behind service y (n + 1) around a in
-      let other = leave (declared z) (behind service z k around a) in
+      let other = leave (declared z) (go_on_behind service z k around a) in
       let qs = plugs_behind service z k around a in
-      good_if service f q (after rest sc) (nat_lt a.at k) (then_do one next) (if nat_lt a.at m then then_do other next else behind service rest m around a)
+      good_if service f q (after rest sc) (nat_lt a.at k) (then_do one next) (if nat_lt a.at m then then_do other next else go_on_behind service rest m around a)
       (ps ++ on_end one more) (if nat_lt a.at m then qs ++ on_end other more else plugs_behind service rest m around a)
       (λ _.
-      let g = good_leave service f j sc y (behind service y (n + 1) around a) ps ay (behind_good y (n + 1) around sc b j a cl cs ci hy) in
+      let g = good_leave service f j sc y (go_on_behind service y (n + 1) around a) ps ay (behind_good y (n + 1) around sc b j a cl cs ci hy) in
       good_then service f r q sc (after rest sc) one ps next more (fine_kept service f j r sc one sj lr g.0, g.1)
       (λ st1 c1. exec_good rest m around sc r q st1 h c1))
-      (λ _. good_if service f q (after rest sc) (nat_lt a.at m) (then_do other next) (behind service rest m around a) (qs ++ on_end other more)
+      (λ _. good_if service f q (after rest sc) (nat_lt a.at m) (then_do other next) (go_on_behind service rest m around a) (qs ++ on_end other more)
       (plugs_behind service rest m around a)
       (λ _.
-      let g = good_leave service f j sc z (behind service z k around a) qs az (behind_good z k around sc d j a cl cs ci hz) in
+      let g = good_leave service f j sc z (go_on_behind service z k around a) qs az (behind_good z k around sc d j a cl cs ci hz) in
       good_then service f r q sc (after rest sc) other qs next more (fine_kept service f j r sc other sj lr g.0, g.1)
       (λ st1 c1. exec_good rest m around sc r q st1 h c1))
       (λ _. behind_good rest m around sc r q a cl cs ci h))
@@ -217,12 +217,12 @@ module _ {K : Type 0} (service : Service) (f : Facts K) where
       let m = n + 1 + numbered b in
       let loop = exec service (while_loop t b rest) n around in
       let more = plugs service (while_loop t b rest) n around in
-      let o = leave (declared b) (behind service b (n + 1) around a) in
+      let o = leave (declared b) (go_on_behind service b (n + 1) around a) in
       let ps = plugs_behind service b (n + 1) around a in
-      good_if service f q (after rest sc) (nat_lt a.at m) (then_do o loop) (behind service rest m around a) (ps ++ on_end o more)
+      good_if service f q (after rest sc) (nat_lt a.at m) (then_do o loop) (go_on_behind service rest m around a) (ps ++ on_end o more)
       (plugs_behind service rest m around a)
       (λ _. good_then service f p q sc (after rest sc) o ps loop more
-      (good_leave service f p sc b (behind service b (n + 1) around a) ps ab (behind_good b (n + 1) around sc y p a cl cs ci hb))
+      (good_leave service f p sc b (go_on_behind service b (n + 1) around a) ps ab (behind_good b (n + 1) around sc y p a cl cs ci hb))
       (λ st1 c1. exec_good (while_loop t b rest) n around sc p q st1 (y, r, pt, ab, ly, lr, hb, h) c1))
       (λ _. behind_good rest m around sc r q a cl cs ci h)
   behind_good (for_each w e b rest) n around sc p q a cl cs ci (y, r, pt, ab, ly, lr, hb, h) =
@@ -231,17 +231,17 @@ module _ {K : Type 0} (service : Service) (f : Facts K) where
       let body = λ (vs : List (List ℕ)) (st : State). exec service b (n + 1) (around + list_weight vs) st in
       let inside = λ (vs : List (List ℕ)) (st : State). plugs service b (n + 1) (around + list_weight vs) st in
       let turn = λ (vs : List (List ℕ)) (inner : Rests). leave names
-      (add_rest vs (behind service b (n + 1) (around + list_weight vs) (record a { rests = inner }))) in
+      (add_rest vs (go_on_behind service b (n + 1) (around + list_weight vs) (record a { rests = inner }))) in
       let made = λ (vs : List (List ℕ)) (inner : Rests). plugs_behind service b (n + 1) (around + list_weight vs) (record a { rests = inner }) in
       let go = λ (vs : List (List ℕ)) (inner : Rests). then_do (turn vs inner) (each vs w names body) in
       let ps = λ (vs : List (List ℕ)) (inner : Rests). made vs inner ++ on_end (turn vs inner) (each_plugs vs w names body inside) in
-      good_if service f q (after rest sc) (nat_lt a.at m) (then_do (with_rest a.rests go) (exec service rest m around)) (behind service rest m around a)
+      good_if service f q (after rest sc) (nat_lt a.at m) (then_do (with_rest a.rests go) (exec service rest m around)) (go_on_behind service rest m around a)
       (rest_plugs a.rests ps ++ on_end (with_rest a.rests go) (plugs service rest m around)) (plugs_behind service rest m around a)
       (λ _. good_then service f r q sc (after rest sc) (with_rest a.rests go) (rest_plugs a.rests ps) (exec service rest m around)
       (plugs service rest m around)
       (good_rests r sc a.rests go ps (λ vs inner.
       good_then service f p r sc sc (turn vs inner) (made vs inner) (each vs w names body) (each_plugs vs w names body inside)
-      (good_inner service f p sc w b vs (behind service b (n + 1) (around + list_weight vs) (record a { rests = inner })) (made vs inner) ab
+      (good_inner service f p sc w b vs (go_on_behind service b (n + 1) (around + list_weight vs) (record a { rests = inner })) (made vs inner) ab
       (behind_good b (n + 1) (around + list_weight vs) (sc ++ w ∷ []) y p (record a { rests = inner }) cl cs ci hb))
       (λ st2 c2. foreach_good vs w b n around sc p y r st2 pt.scope ab ly lr hb c2)))
       (λ st1 c1. exec_good rest m around sc r q st1 h c1))

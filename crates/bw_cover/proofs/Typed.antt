@@ -14,11 +14,11 @@ use Rattle.bw_lang.specs.declared.items.AttrValue.TheVariants.{Fixed, Hole}
 use Rattle.bw_lang.specs.declared.service.Service.{Service}
 use Rattle.bw_lang.specs.declared.service.Template.{Template}
 use Rattle.bw_lang.specs.declared.stmt.Kind.{Kind}
-use Rattle.bw_lang.specs.Documents.{is_hole}
-use Rattle.bw_lang.specs.Forest.{Forest, none, text, gap, element}
-use Rattle.bw_lang.specs.Wrappers.{show_wrapper, exit_wrapper}
-use Rattle.bw_lang.specs.Names.{same, number}
-use Rattle.bw_lang.specs.Term.{Term, int, truth, string, name, paren, not as negated, neg, binary, call, plug, nothing, Fillings, no_more, filling}
+use Rattle.bw_lang.specs.Document.Documents.{is_hole}
+use Rattle.bw_lang.specs.Document.Forest.{Forest, none, text, gap, element}
+use Rattle.bw_lang.specs.Document.Wrappers.{show_wrapper, exit_wrapper}
+use Rattle.bw_lang.specs.Table.Names.{same, name_number}
+use Rattle.bw_lang.specs.Service.Term.{Term, int, truth, string, name, paren, not as negated, neg, binary, call, plug, nothing, Fillings, no_more, filling}
 use Rattle.bw_types.specs.declared.fault.GapKind.{GapKind}
 use Rattle.bw_types.specs.declared.fault.GapKind.TheVariants.{Content, Attribute}
 use Rattle.bw_types.specs.ExpressionFaults.{op_sort, fun_takes, fun_gives}
@@ -150,42 +150,42 @@ module _ (service : Service) (one : AllPairs (λ x y. x.0 ≡ y.0 → x.1 ≡ y.
 
   -- one pair
   plug_of : (a e : Abstract) (w : List ℕ) (g : GapKind) (kind : Kind) → IsOf kinds.Html a → IsOf kind e → kind_of_gap service w ≡ Some g → Fits g kind
-      → IsOf kinds.Html (plugged_by a (number service.gaps w) e) × IsPlug service a (number service.gaps w) e
+      → IsOf kinds.Html (plugged_by a (name_number service.gaps w) e) × IsPlug service a (name_number service.gaps w) e
   plug_of Nothing e w g kind h k q t = absurd h
   plug_of (Strings S) e w g kind h k q t = absurd h
   plug_of (Html B) e w g kind h k q t = by_kind g t q
     where
       n : ℕ
-      n = number service.gaps w
+      n = name_number service.gaps w
 
-      is_there : (g : GapKind) → kind_of_gap service w ≡ Some g → is_gap service (number service.gaps w) ≡ true
-      is_there g q = lt-ltb (number service.gaps w) (length service.gaps) (there w g q)
+      is_there : (g : GapKind) → kind_of_gap service w ≡ Some g → is_gap service (name_number service.gaps w) ≡ true
+      is_there g q = lt-ltb (name_number service.gaps w) (length service.gaps) (there w g q)
 
-      of_string : (e : Abstract) → IsOf kinds.Str e → is_gap service (number service.gaps w) ≡ true
-          → IsOf kinds.Html (plugged_by (Html B) (number service.gaps w) e) × IsPlug service (Html B) (number service.gaps w) e
+      of_string : (e : Abstract) → IsOf kinds.Str e → is_gap service (name_number service.gaps w) ≡ true
+          → IsOf kinds.Html (plugged_by (Html B) (name_number service.gaps w) e) × IsPlug service (Html B) (name_number service.gaps w) e
       of_string Nothing h i = absurd h
       of_string (Strings S) h i = (tt, i)
       of_string (Html A) h i = absurd h
 
-      of_document : (e : Abstract) → IsOf kinds.Html e → is_gap service (number service.gaps w) ≡ true
-          → attribute_in (number service.gaps w) (template_uses service.templates) ≡ false
-          → IsOf kinds.Html (plugged_by (Html B) (number service.gaps w) e) × IsPlug service (Html B) (number service.gaps w) e
+      of_document : (e : Abstract) → IsOf kinds.Html e → is_gap service (name_number service.gaps w) ≡ true
+          → attribute_in (name_number service.gaps w) (template_uses service.templates) ≡ false
+          → IsOf kinds.Html (plugged_by (Html B) (name_number service.gaps w) e) × IsPlug service (Html B) (name_number service.gaps w) e
       of_document Nothing h i c = absurd h
       of_document (Strings S) h i c = absurd h
       of_document (Html A) h i c = (
         tt,
         (
           i,
-          λ m. no_hole (length service.gaps) (number service.gaps w) service.templates m
-              (ltb-true (number service.gaps w) (length service.gaps) i) c,
+          λ m. no_hole (length service.gaps) (name_number service.gaps w) service.templates m
+              (ltb-true (name_number service.gaps w) (length service.gaps) i) c,
         ),
       )
 
-      by_kind : (g : GapKind) → Fits g kind → kind_of_gap service w ≡ Some g → IsOf kinds.Html (plugged_by (Html B) (number service.gaps w) e)
-          × IsPlug service (Html B) (number service.gaps w) e
+      by_kind : (g : GapKind) → Fits g kind → kind_of_gap service w ≡ Some g → IsOf kinds.Html (plugged_by (Html B) (name_number service.gaps w) e)
+          × IsPlug service (Html B) (name_number service.gaps w) e
       by_kind Content (inl s) q = of_string e (subst (λ x. IsOf x e) s k) (is_there Content q)
       by_kind Content (inr s) q =
-          of_document e (subst (λ x. IsOf x e) s k) (is_there Content q) (all_content (template_uses service.templates) (number service.gaps w) one q)
+          of_document e (subst (λ x. IsOf x e) s k) (is_there Content q) (all_content (template_uses service.templates) (name_number service.gaps w) one q)
       by_kind Attribute s q = of_string e (subst (λ x. IsOf x e) s k) (is_there Attribute q)
 
   mutual
@@ -214,5 +214,5 @@ module _ (service : Service) (one : AllPairs (λ x y. x.0 ≡ y.0 → x.1 ≡ y.
     typed_filled (filling w e ps) a k h =
         let v = typed_known e h.0.1 h.0.3 in
         let one = plug_of a (known service at e) w h.0.0 h.0.1 k v.0 h.0.2 h.0.4 in
-        let r = typed_filled ps (plugged_by a (number service.gaps w) (known service at e)) one.0 h.1 in
+        let r = typed_filled ps (plugged_by a (name_number service.gaps w) (known service at e)) one.0 h.1 in
         (r.0, (one.1, v.1, r.1))

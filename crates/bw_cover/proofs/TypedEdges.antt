@@ -10,12 +10,12 @@ use Rattle.bw_lang.specs.declared.service.Service.{Service}
 use Rattle.bw_lang.specs.declared.service.Session.{Session}
 use Rattle.bw_lang.specs.declared.stmt.Kind.{Kind}
 use Rattle.bw_lang.specs.declared.stmt.Receive.{Receive}
-use Rattle.bw_lang.specs.Code.{Code, done, declare, assign, if_then, if_else, while_loop, block, for_each, show, exit, numbered}
-use Rattle.bw_lang.specs.CodeNames.{local_names}
-use Rattle.bw_lang.specs.Names.{same, beside}
-use Rattle.bw_lang.specs.Order.{IsWoven}
+use Rattle.bw_lang.specs.Service.Code.{Code, done, declare, assign, if_then, if_else, while_loop, block, for_each, show, exit, numbered}
+use Rattle.bw_lang.specs.Service.CodeNames.{local_names}
+use Rattle.bw_lang.specs.Table.Names.{same, beside}
+use Rattle.bw_lang.specs.Service.Order.{IsWoven}
 use Rattle.bw_meaning.specs.Statements.{declared}
-use Rattle.bw_types.specs.Scopes.{Scope, no_locals, shared_kinds, with_local, behind, is_among, behind_each}
+use Rattle.bw_types.specs.Scopes.{Scope, no_locals, shared_kinds, with_local, scope_behind, is_among, behind_each}
 use Rattle.bw_types.specs.Typing.{IsReceived, IsTypedCode, IsNew}
 use Rattle.bw_flow.proofs.Names.{matches_nothing, new_at}
 use Rattle.bw_cover.specs.Facts.{What, keeps, sets, brings, takes, Edge, edge}
@@ -112,7 +112,7 @@ module _ (service : Service) (woven : IsWoven service) (sees : Spot → Scope) w
       let ff = fresh_append scope.locals (local_names b) (local_names rest) f in
       let r = starts rest (n + numbered b) q in
       start_behind b n scope (starts rest (n + numbered b) q) s.0 ff.0
-      (behind_still (starts rest (n + numbered b) q) b scope.locals ff.0 (start_behind rest (n + numbered b) (behind scope b) q s.1 ff.1 h))
+      (behind_still (starts rest (n + numbered b) q) b scope.locals ff.0 (start_behind rest (n + numbered b) (scope_behind scope b) q s.1 ff.1 h))
   start_behind (for_each w e b rest) n scope q s f h = at_point (statement n) scope s.0
   start_behind (show p rs rest) n scope q s f h = at_point (statement n) scope s.0
   start_behind (exit p rest) n scope q s f h = at_point (statement n) scope s.0
@@ -174,8 +174,8 @@ module _ (service : Service) (woven : IsWoven service) (sees : Spot → Scope) w
           from (statement n) (meeting n) scope keeps s.0 join,
           typed_append (edges y (n + 1) (meeting n)) (edge (meeting n) keeps (starts rest m q) ∷ edges rest m q)
               (typed_edges y (n + 1) scope (meeting n) dd.0 ff.0 t.1 s.2 inner) (
-                from (meeting n) (starts rest m q) scope keeps s.1 (start_behind rest m (behind scope y) q s.3 ff.1 h),
-                typed_edges rest m (behind scope y) q dd.1 ff.1 t.2 s.3 h,
+                from (meeting n) (starts rest m q) scope keeps s.1 (start_behind rest m (scope_behind scope y) q s.3 ff.1 h),
+                typed_edges rest m (scope_behind scope y) q dd.1 ff.1 t.2 s.3 h,
               ),
         ),
       )
@@ -191,13 +191,13 @@ module _ (service : Service) (woven : IsWoven service) (sees : Spot → Scope) w
       let iz = behind_still (meeting n) z scope.locals fe.0 join in (
         from (statement n) (starts y (n + 1) (meeting n)) scope keeps s.0 (start_behind y (n + 1) scope (meeting n) s.2 ff.0 iy),
         (
-          from (statement n) (starts z j (meeting n)) scope keeps s.0 (start_behind z j (behind scope y) (meeting n) s.3 fe.0 iz),
+          from (statement n) (starts z j (meeting n)) scope keeps s.0 (start_behind z j (scope_behind scope y) (meeting n) s.3 fe.0 iz),
           typed_append (edges y (n + 1) (meeting n)) (edges z j (meeting n) ++ edge (meeting n) keeps (starts rest m q) ∷ edges rest m q)
               (typed_edges y (n + 1) scope (meeting n) dd.0 ff.0 t.1 s.2 iy)
               (typed_append (edges z j (meeting n)) (edge (meeting n) keeps (starts rest m q) ∷ edges rest m q)
-              (typed_edges z j (behind scope y) (meeting n) de.0 fe.0 t.2 s.3 iz) (
-                from (meeting n) (starts rest m q) scope keeps s.1 (start_behind rest m (behind (behind scope y) z) q s.4 fe.1 h),
-                typed_edges rest m (behind (behind scope y) z) q de.1 fe.1 t.3 s.4 h,
+              (typed_edges z j (scope_behind scope y) (meeting n) de.0 fe.0 t.2 s.3 iz) (
+                from (meeting n) (starts rest m q) scope keeps s.1 (start_behind rest m (scope_behind (scope_behind scope y) z) q s.4 fe.1 h),
+                typed_edges rest m (scope_behind (scope_behind scope y) z) q de.1 fe.1 t.3 s.4 h,
               )),
         ),
       )
@@ -208,19 +208,19 @@ module _ (service : Service) (woven : IsWoven service) (sees : Spot → Scope) w
       let inner = behind_still (statement n) b scope.locals ff.0 (at_point (statement n) scope s.0) in (
         from (statement n) (starts b (n + 1) (statement n)) scope keeps s.0 (start_behind b (n + 1) scope (statement n) s.1 ff.0 inner),
         (
-          from (statement n) (starts rest m q) scope keeps s.0 (start_behind rest m (behind scope b) q s.2 ff.1 h),
+          from (statement n) (starts rest m q) scope keeps s.0 (start_behind rest m (scope_behind scope b) q s.2 ff.1 h),
           typed_append (edges b (n + 1) (statement n)) (edges rest m q) (typed_edges b (n + 1) scope (statement n) dd.0 ff.0 t.1 s.1 inner)
-              (typed_edges rest m (behind scope b) q dd.1 ff.1 t.2 s.2 h),
+              (typed_edges rest m (scope_behind scope b) q dd.1 ff.1 t.2 s.2 h),
         ),
       )
   typed_edges (block b rest) n scope q d f t s h =
       let m = n + numbered b in
       let dd = distinct_append (local_names b) (local_names rest) d in
       let ff = fresh_append scope.locals (local_names b) (local_names rest) f in
-      let r = start_behind rest m (behind scope b) q s.1 ff.1 h in
+      let r = start_behind rest m (scope_behind scope b) q s.1 ff.1 h in
       typed_append (edges b n (starts rest m q)) (edges rest m q)
       (typed_edges b n scope (starts rest m q) dd.0 ff.0 t.0 s.0 (behind_still (starts rest m q) b scope.locals ff.0 r))
-      (typed_edges rest m (behind scope b) q dd.1 ff.1 t.1 s.1 h)
+      (typed_edges rest m (scope_behind scope b) q dd.1 ff.1 t.1 s.1 h)
   typed_edges (for_each w e b rest) n scope q d f t s h =
       let m = n + 1 + numbered b in
       let own = with_local scope w kinds.Str in

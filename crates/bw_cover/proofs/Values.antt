@@ -8,11 +8,11 @@ use Rattle.bw_lang.specs.declared.measure.Measure.{Measure}
 use Rattle.bw_lang.specs.declared.measure.MeasureFault.{MeasureFault}
 use Rattle.bw_lang.specs.declared.service.Service.{Service}
 use Rattle.bw_lang.specs.declared.turn.TurnFault.TheVariants.{StringTooLong}
-use Rattle.bw_lang.specs.Documents.{count}
-use Rattle.bw_lang.specs.Forest.{Forest}
-use Rattle.bw_lang.specs.Measures.{text_measure, plugged as measured, tested}
-use Rattle.bw_lang.specs.Names.{same, beside}
-use Rattle.bw_lang.specs.Term.{Term, int, truth, string, name, paren, not as negated, neg, binary, call, plug, nothing, Fillings, no_more, filling}
+use Rattle.bw_lang.specs.Document.Documents.{count}
+use Rattle.bw_lang.specs.Document.Forest.{Forest}
+use Rattle.bw_lang.specs.Document.Measures.{text_measure, plugged as measured, tested}
+use Rattle.bw_lang.specs.Table.Names.{same, beside}
+use Rattle.bw_lang.specs.Service.Term.{Term, int, truth, string, name, paren, not as negated, neg, binary, call, plug, nothing, Fillings, no_more, filling}
 use Rattle.bw_meaning.specs.Expressions.{Evaluated, Gives, Faults, paid, and_then, given, named, eval, fill}
 use Rattle.bw_meaning.specs.Operators.{number_of, truth_of, text_of, document_of, held, joined, sum, decides, combined, called, with_tree, filled}
 use Rattle.bw_meaning.specs.Values.{Value, Values, number, truth_value, text, document, list}
@@ -29,8 +29,8 @@ use Rattle.bw_cover.specs.Covered.{AreOpen}
 use Rattle.bw_cover.proofs.Names.{same_self}
 use Rattle.std.specs.Prelude as std
 use Rattle.bw_lang.specs.declared.expr.Fun.TheVariants as funs
-use Rattle.bw_lang.specs.Documents as doc
-use Rattle.bw_lang.specs.Names as names
+use Rattle.bw_lang.specs.Document.Documents as doc
+use Rattle.bw_lang.specs.Table.Names as names
 
 -- what is covered is covered by all that is known less
 pub covers_below : (service : Service) (a b : Abstract) (v : Value) → Below a b → covers service a v → covers service b v
@@ -215,7 +215,7 @@ module _ (service : Service) where
           → Evaluates service (known_filled service at ps a) (fill service l s ps d u) (plugs_by service l s ps d u)
       fill_good no_more a d u c g p = (c, tt)
       fill_good (filling h e ps) a d u c g p =
-          let n = names.number service.gaps h in
+          let n = names.name_number service.gaps h in
           let b = plugged_by a n (known service at e) in
           let go = λ (v : Value) (u1 : ℕ). and_then (given (filled n v (document_of d)) u1) (λ d1 u2. fill service l s ps d1 u2) in
           let rest = λ (v : Value) (u1 : ℕ). on_value (given (filled n v (document_of d)) u1) (λ d1 u2. plugs_by service l s ps d1 u2) in

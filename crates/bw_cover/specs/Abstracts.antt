@@ -4,9 +4,9 @@ use Rattle.bw_lang.specs.declared.expr.Fun.{Fun}
 use Rattle.bw_lang.specs.declared.expr.Op.{Op}
 use Rattle.bw_lang.specs.declared.expr.Op.TheVariants.{Or, And, Eq, Ne, Lt, Le, Gt, Ge, Add, Sub, Mul, Div, Rem}
 use Rattle.bw_lang.specs.declared.service.Service.{Service}
-use Rattle.bw_lang.specs.Forest.{Forest}
-use Rattle.bw_lang.specs.Names.{same, number}
-use Rattle.bw_lang.specs.Term.{Term, int, truth, string, name, paren, not, neg, binary, call, plug, nothing, Fillings, no_more, filling}
+use Rattle.bw_lang.specs.Document.Forest.{Forest}
+use Rattle.bw_lang.specs.Table.Names.{same, name_number}
+use Rattle.bw_lang.specs.Service.Term.{Term, int, truth, string, name, paren, not, neg, binary, call, plug, nothing, Fillings, no_more, filling}
 use Rattle.bw_meaning.specs.Values.{Value}
 use Rattle.bw_sum.specs.Templates.{template_items}
 use Rattle.bw_sum.specs.Graph.{Graph, plugged, plugged_text, IsBelow}
@@ -114,7 +114,7 @@ abbrev mutual
   -- of a base with these pairs, one after the other
   pub known_filled : Service → (List ℕ → Abstract) → Fillings → Abstract → Abstract
   known_filled service look no_more a = a
-  known_filled service look (filling g e ps) a = known_filled service look ps (plugged_by a (number service.gaps g) (known service look e))
+  known_filled service look (filling g e ps) a = known_filled service look ps (plugged_by a (name_number service.gaps g) (known service look e))
 
 -- Holds at each pair of each plug in an expression, of what is known of the base at that pair, the gap's number, and what
 -- is known of what fills it.
@@ -135,8 +135,8 @@ abbrev mutual
   pub EachFilling : (Abstract → ℕ → Abstract → Type 0) → Service → (List ℕ → Abstract) → Fillings → Abstract → Type 0
   EachFilling P service look no_more a = Unit {0}
   EachFilling P service look (filling g e ps) a =
-      P a (number service.gaps g) (known service look e) × EachPair P service look e
-      × EachFilling P service look ps (plugged_by a (number service.gaps g) (known service look e))
+      P a (name_number service.gaps g) (known service look e) × EachPair P service look e
+      × EachFilling P service look ps (plugged_by a (name_number service.gaps g) (known service look e))
 
 -- there is no gap fault: the base doesn't lack the gap
 abbrev pub IsNotLacked : Abstract → ℕ → Abstract → Type 0

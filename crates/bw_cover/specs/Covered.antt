@@ -2,8 +2,8 @@
 use Rattle.std.specs.Prelude.{◌≡◌, ◌≤◌, ℕ, true, List, is_some, Some}
 use Rattle.std.specs.List.{AllByRecursion}
 use Rattle.bw_lang.specs.declared.service.Service.{Service}
-use Rattle.bw_lang.specs.Documents.{count}
-use Rattle.bw_lang.specs.Names.{beside}
+use Rattle.bw_lang.specs.Document.Documents.{count}
+use Rattle.bw_lang.specs.Table.Names.{beside}
 use Rattle.bw_meaning.specs.States.{Input, Outcome, Went, Shown, Exited, Failed}
 use Rattle.bw_meaning.specs.Values.{Document, Value, Values}
 use Rattle.bw_cover.specs.Abstracts.{CoversTree, covers}

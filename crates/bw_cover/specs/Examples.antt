@@ -1,9 +1,9 @@
 -- Worked examples: which plugs turns make, and facts that accept a service.
 use Rattle.std.specs.Prelude.{◌≡◌, ℕ, Bool, true, false, ◌&&◌, not, ◌==◌, if◌then◌else◌, List, [], ◌∷◌, codes, map}
-use Rattle.bw_lang.specs.Code.{Code, done, exit}
-use Rattle.bw_lang.specs.Documents.{count}
-use Rattle.bw_lang.specs.Names.{same}
-use Rattle.bw_lang.specs.Term.{name, string, plug, no_more, filling}
+use Rattle.bw_lang.specs.Service.Code.{Code, done, exit}
+use Rattle.bw_lang.specs.Document.Documents.{count}
+use Rattle.bw_lang.specs.Table.Names.{same}
+use Rattle.bw_lang.specs.Service.Term.{name, string, plug, no_more, filling}
 use Rattle.bw_lang.specs.declared.service.Service.{Service}
 use Rattle.bw_meaning.specs.Samples.{of_session, shared, two, sent}
 use Rattle.bw_meaning.specs.TurnExamples.{picks, adds_row, shows_row}

@@ -5,9 +5,9 @@ use Rattle.bw_lang.specs.declared.service.Literal.{Literal}
 use Rattle.bw_lang.specs.declared.service.Literal.TheVariants as literals
 use Rattle.bw_lang.specs.declared.service.Service.{Service}
 use Rattle.bw_lang.specs.declared.stmt.Receive.{Receive}
-use Rattle.bw_lang.specs.Code.{Code, done, declare, assign, if_then, if_else, while_loop, block, for_each, show, exit, numbered}
-use Rattle.bw_lang.specs.Names.{same, number}
-use Rattle.bw_lang.specs.Term.{Term}
+use Rattle.bw_lang.specs.Service.Code.{Code, done, declare, assign, if_then, if_else, while_loop, block, for_each, show, exit, numbered}
+use Rattle.bw_lang.specs.Table.Names.{same, name_number}
+use Rattle.bw_lang.specs.Service.Term.{Term}
 use Rattle.bw_meaning.specs.Statements.{declared}
 use Rattle.bw_sum.specs.Graph.{Graph, constant}
 use Rattle.bw_types.specs.Scopes.{is_among, template_names}
@@ -41,7 +41,7 @@ is_shared service w = is_among w (map (λ v. v.name) service.shared)
 -- of a template its constant; nothing of a name that stands for nothing
 abbrev pub template_known : Service → List ℕ → Abstract
 template_known service w =
-    if is_among w (template_names service) then Html (constant (template_items service) (is_gap service) (number (template_names service) w)) else Nothing
+    if is_among w (template_names service) then Html (constant (template_items service) (is_gap service) (name_number (template_names service) w)) else Nothing
 
 -- of a shared variable's literal
 abbrev pub literal_known : Service → Literal → Abstract

@@ -2,7 +2,7 @@
 use Rattle.std.specs.Prelude.{ℕ}
 use Rattle.bw_http.specs.declared.request.Request.{Request}
 use Rattle.bw_lang.specs.declared.service.Service.{Service}
-use Rattle.bw_lang.specs.Reads.{IsReadable}
+use Rattle.bw_lang.specs.Service.Reads.{IsReadable}
 use Rattle.bw_model.specs.Sessions.{World}
 use Rattle.bw_model.specs.Steps.{step}
 use Rattle.bw_types.specs.Faults.{IsWellTyped}

@@ -4,10 +4,10 @@ use Rattle.std.specs.List.{AllByRecursion, AllPairs}
 use Rattle.bw_lang.specs.declared.service.Service.{Service}
 use Rattle.bw_lang.specs.declared.service.Shared.{Shared}
 use Rattle.bw_lang.specs.declared.stmt.Receive.{Receive}
-use Rattle.bw_lang.specs.CodeNames.{local_names}
-use Rattle.bw_lang.specs.Term.{Term}
+use Rattle.bw_lang.specs.Service.CodeNames.{local_names}
+use Rattle.bw_lang.specs.Service.Term.{Term}
 use Rattle.bw_meaning.specs.GoOn.{body_of, turn, go_on}
-use Rattle.bw_lang.specs.Numbers.{first_number}
+use Rattle.bw_lang.specs.Service.Numbers.{first_number}
 use Rattle.bw_meaning.specs.States.{Input, Answered}
 use Rattle.bw_meaning.specs.Values.{Values, first_values}
 use Rattle.bw_flow.specs.declared.point.Local.{Local}

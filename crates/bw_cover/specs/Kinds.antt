@@ -4,16 +4,16 @@ use Rattle.std.specs.List.{All, AllByRecursion, AllPairs}
 use Rattle.bw_lang.specs.declared.service.Service.{Service}
 use Rattle.bw_lang.specs.declared.service.Shared.{Shared}
 use Rattle.bw_lang.specs.declared.stmt.Kind.{Kind}
-use Rattle.bw_lang.specs.Code.{Code, done, declare, assign, if_then, if_else, while_loop, block, for_each, show, exit, numbered}
-use Rattle.bw_lang.specs.CodeNames.{local_names}
-use Rattle.bw_lang.specs.Names.{number, beside}
-use Rattle.bw_lang.specs.Order.{IsWoven}
-use Rattle.bw_lang.specs.Term.{Term}
+use Rattle.bw_lang.specs.Service.Code.{Code, done, declare, assign, if_then, if_else, while_loop, block, for_each, show, exit, numbered}
+use Rattle.bw_lang.specs.Service.CodeNames.{local_names}
+use Rattle.bw_lang.specs.Table.Names.{name_number, beside}
+use Rattle.bw_lang.specs.Service.Order.{IsWoven}
+use Rattle.bw_lang.specs.Service.Term.{Term}
 use Rattle.bw_meaning.specs.GoOn.{body_of}
-use Rattle.bw_lang.specs.Numbers.{first_number}
+use Rattle.bw_lang.specs.Service.Numbers.{first_number}
 use Rattle.bw_types.specs.declared.fault.GapKind.{GapKind}
 use Rattle.bw_types.specs.Gaps.{kind_of_gap}
-use Rattle.bw_types.specs.Scopes.{Scope, no_locals, shared_kinds, with_local, behind, is_among, behind_each}
+use Rattle.bw_types.specs.Scopes.{Scope, no_locals, shared_kinds, with_local, scope_behind, is_among, behind_each}
 use Rattle.bw_types.specs.Typing.{HasKind, IsTypedService}
 use Rattle.bw_sum.specs.Graph.{Graph}
 use Rattle.bw_cover.specs.Abstracts.{Abstract, Nothing, Strings, Html, known, EachPair, IsPlug}
@@ -52,13 +52,13 @@ CellsAreOf f done n scope = Unit {0}
 CellsAreOf f (declare kind w e rest) n scope = LocalsAreOf f (statement n) scope × CellsAreOf f rest (n + 1) (with_local scope w kind)
 CellsAreOf f (assign w e rest) n scope = LocalsAreOf f (statement n) scope × CellsAreOf f rest (n + 1) scope
 CellsAreOf f (if_then t y rest) n scope = LocalsAreOf f (statement n) scope × CellsAreOf f y (n + 1) scope
-    × CellsAreOf f rest (n + 1 + numbered y) (behind scope y)
+    × CellsAreOf f rest (n + 1 + numbered y) (scope_behind scope y)
 CellsAreOf f (if_else t y z rest) n scope =
-    LocalsAreOf f (statement n) scope × CellsAreOf f y (n + 1) scope × CellsAreOf f z (n + 1 + numbered y) (behind scope y)
-    × CellsAreOf f rest (n + 1 + numbered y + numbered z) (behind (behind scope y) z)
+    LocalsAreOf f (statement n) scope × CellsAreOf f y (n + 1) scope × CellsAreOf f z (n + 1 + numbered y) (scope_behind scope y)
+    × CellsAreOf f rest (n + 1 + numbered y + numbered z) (scope_behind (scope_behind scope y) z)
 CellsAreOf f (while_loop t b rest) n scope = LocalsAreOf f (statement n) scope × CellsAreOf f b (n + 1) scope
-    × CellsAreOf f rest (n + 1 + numbered b) (behind scope b)
-CellsAreOf f (block b rest) n scope = CellsAreOf f b n scope × CellsAreOf f rest (n + numbered b) (behind scope b)
+    × CellsAreOf f rest (n + 1 + numbered b) (scope_behind scope b)
+CellsAreOf f (block b rest) n scope = CellsAreOf f b n scope × CellsAreOf f rest (n + numbered b) (scope_behind scope b)
 CellsAreOf f (for_each w e b rest) n scope =
     LocalsAreOf f (statement n) scope × CellsAreOf f b (n + 1) (with_local scope w kinds.Str)
     × CellsAreOf f rest (n + 1 + numbered b) (behind_each scope w b)
@@ -97,7 +97,7 @@ Shows service f (exit e rest) n =
 
 -- each name that has the kind of a gap has a number of the table of gap names
 abbrev pub GapsAreThere : Service → Type 0
-GapsAreThere service = (w : List ℕ) (kind : GapKind) → kind_of_gap service w ≡ Some kind → number service.gaps w < length service.gaps
+GapsAreThere service = (w : List ℕ) (kind : GapKind) → kind_of_gap service w ≡ Some kind → name_number service.gaps w < length service.gaps
 
 -- What the check of a service knows of its least cells: the service is typed, with the law that locals differ, and was
 -- read; the facts have the scopes of the tree, cells of the right kinds, and no gap fault.

@@ -5,10 +5,10 @@ use Rattle.bw_lang.specs.declared.service.Service.{Service}
 use Rattle.bw_lang.specs.declared.service.Session.{Session}
 use Rattle.bw_lang.specs.declared.service.Shared.{Shared}
 use Rattle.bw_lang.specs.declared.stmt.Receive.{Receive}
-use Rattle.bw_lang.specs.Names.{same}
+use Rattle.bw_lang.specs.Table.Names.{same}
 use Rattle.bw_meaning.specs.GoOn.{body_of}
-use Rattle.bw_lang.specs.Numbers.{first_number}
-use Rattle.bw_lang.specs.Code.{numbered}
+use Rattle.bw_lang.specs.Service.Numbers.{first_number}
+use Rattle.bw_lang.specs.Service.Code.{numbered}
 use Rattle.bw_sum.specs.Graph.{joined}
 use Rattle.bw_cover.specs.Abstracts.{Abstract, Nothing, Strings, Html, Below, known}
 use Rattle.bw_cover.specs.Facts.{What, keeps, sets, brings, takes, Facts, is_shared, look, received_by, left, Edge, EachLeads}

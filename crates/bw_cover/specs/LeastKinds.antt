@@ -3,12 +3,12 @@ use Rattle.std.specs.Prelude.{◌≡◌, ℕ, ◌+◌, true, false, List, [], So
 use Rattle.std.specs.List.{AllByRecursion}
 use Rattle.bw_lang.specs.declared.service.Service.{Service}
 use Rattle.bw_lang.specs.declared.stmt.Kind.{Kind}
-use Rattle.bw_lang.specs.Code.{Code, done, declare, assign, if_then, if_else, while_loop, block, for_each, show, exit, numbered}
-use Rattle.bw_lang.specs.Names.{same, beside}
-use Rattle.bw_lang.specs.Reads.{IsReadable}
+use Rattle.bw_lang.specs.Service.Code.{Code, done, declare, assign, if_then, if_else, while_loop, block, for_each, show, exit, numbered}
+use Rattle.bw_lang.specs.Table.Names.{same, beside}
+use Rattle.bw_lang.specs.Service.Reads.{IsReadable}
 use Rattle.bw_meaning.specs.GoOn.{body_of}
-use Rattle.bw_lang.specs.Numbers.{first_number}
-use Rattle.bw_types.specs.Scopes.{Scope, no_locals, shared_kinds, with_local, behind, behind_each}
+use Rattle.bw_lang.specs.Service.Numbers.{first_number}
+use Rattle.bw_types.specs.Scopes.{Scope, no_locals, shared_kinds, with_local, scope_behind, behind_each}
 use Rattle.bw_types.specs.Faults.{IsWellTyped}
 use Rattle.bw_types.specs.Typing.{HasKind, IsReceived}
 use Rattle.bw_cover.specs.Facts.{What, keeps, sets, brings, takes, Facts, Edge}
@@ -26,12 +26,12 @@ Sees sees done n scope = Unit {0}
 Sees sees (declare kind w e rest) n scope = (sees (statement n) ≡ scope) × Sees sees rest (n + 1) (with_local scope w kind)
 Sees sees (assign w e rest) n scope = (sees (statement n) ≡ scope) × Sees sees rest (n + 1) scope
 Sees sees (if_then t y rest) n scope = (sees (statement n) ≡ scope) × (sees (meeting n) ≡ scope) × Sees sees y (n + 1) scope
-    × Sees sees rest (n + 1 + numbered y) (behind scope y)
+    × Sees sees rest (n + 1 + numbered y) (scope_behind scope y)
 Sees sees (if_else t y z rest) n scope =
-    (sees (statement n) ≡ scope) × (sees (meeting n) ≡ scope) × Sees sees y (n + 1) scope × Sees sees z (n + 1 + numbered y) (behind scope y)
-    × Sees sees rest (n + 1 + numbered y + numbered z) (behind (behind scope y) z)
-Sees sees (while_loop t b rest) n scope = (sees (statement n) ≡ scope) × Sees sees b (n + 1) scope × Sees sees rest (n + 1 + numbered b) (behind scope b)
-Sees sees (block b rest) n scope = Sees sees b n scope × Sees sees rest (n + numbered b) (behind scope b)
+    (sees (statement n) ≡ scope) × (sees (meeting n) ≡ scope) × Sees sees y (n + 1) scope × Sees sees z (n + 1 + numbered y) (scope_behind scope y)
+    × Sees sees rest (n + 1 + numbered y + numbered z) (scope_behind (scope_behind scope y) z)
+Sees sees (while_loop t b rest) n scope = (sees (statement n) ≡ scope) × Sees sees b (n + 1) scope × Sees sees rest (n + 1 + numbered b) (scope_behind scope b)
+Sees sees (block b rest) n scope = Sees sees b n scope × Sees sees rest (n + numbered b) (scope_behind scope b)
 Sees sees (for_each w e b rest) n scope =
     (sees (statement n) ≡ scope) × Sees sees b (n + 1) (with_local scope w kinds.Str)
     × Sees sees rest (n + 1 + numbered b) (behind_each scope w b)

@@ -1,17 +1,17 @@
 -- The plugs that a turn makes, in their order: it follows the meaning, and hands on what that gives.
 use Rattle.std.specs.Prelude.{ℕ, zero, suc, ◌+◌, ◌==◌, nat_lt, if◌then◌else◌, List, [], ◌∷◌, ◌++◌}
 use Rattle.bw_lang.specs.declared.service.Service.{Service}
-use Rattle.bw_lang.specs.Code.{Code, done, declare, assign, if_then, if_else, while_loop, block, for_each, show, exit, numbered}
-use Rattle.bw_lang.specs.Forest.{Forest}
-use Rattle.bw_lang.specs.Term.{Term, int, truth, string, name, paren, not, neg, binary, call, plug, nothing, Fillings, no_more, filling}
+use Rattle.bw_lang.specs.Service.Code.{Code, done, declare, assign, if_then, if_else, while_loop, block, for_each, show, exit, numbered}
+use Rattle.bw_lang.specs.Document.Forest.{Forest}
+use Rattle.bw_lang.specs.Service.Term.{Term, int, truth, string, name, paren, not, neg, binary, call, plug, nothing, Fillings, no_more, filling}
 use Rattle.bw_meaning.specs.Expressions.{Evaluated, Gives, Faults, given, eval}
-use Rattle.bw_meaning.specs.GoOn.{with_rest, behind, body_of}
-use Rattle.bw_lang.specs.Numbers.{first_number}
+use Rattle.bw_meaning.specs.GoOn.{with_rest, go_on_behind, body_of}
+use Rattle.bw_lang.specs.Service.Numbers.{first_number}
 use Rattle.bw_meaning.specs.Operators.{truth_of, list_of, document_of, decides, filled}
 use Rattle.bw_meaning.specs.States.{Rests, Input, State, Outcome, Went, Shown, Exited, Failed, Answered, budget}
 use Rattle.bw_meaning.specs.Statements.{declared, add_local, taken, then_do, leave, room, add_rest, each, exec}
 use Rattle.bw_meaning.specs.Values.{Value, Values, text, list_weight}
-use Rattle.bw_lang.specs.Names as names
+use Rattle.bw_lang.specs.Table.Names as names
 
 -- the number of the gap that is filled, and the tree in which it is
 pub record Plug : Type 0 where
@@ -57,8 +57,8 @@ abbrev mutual
   plugs_by service l s no_more d units = []
   plugs_by service l s (filling g e ps) d units =
       plugs_in service l s e units ++ on_value (eval service l s e units) (λ v u1.
-      record { gap = names.number service.gaps g; base = (document_of d).tree }
-      ∷ on_value (given (filled (names.number service.gaps g) v (document_of d)) u1) (λ d1 u2. plugs_by service l s ps d1 u2))
+      record { gap = names.name_number service.gaps g; base = (document_of d).tree }
+      ∷ on_value (given (filled (names.name_number service.gaps g) v (document_of d)) u1) (λ d1 u2. plugs_by service l s ps d1 u2))
 
 -- those of a statement's expression, and then those of what is done with its value
 abbrev pub value_plugs : Service → Term → State → (Value → State → List Plug) → List Plug
@@ -120,35 +120,35 @@ plugs_behind service (declare kind w e rest) n around a = plugs_behind service r
 plugs_behind service (assign w e rest) n around a = plugs_behind service rest (n + 1) around a
 plugs_behind service (if_then t y rest) n around a =
     if nat_lt a.at (n + 1 + numbered y)
-    then plugs_behind service y (n + 1) around a ++ on_end (leave (declared y) (behind service y (n + 1) around a))
+    then plugs_behind service y (n + 1) around a ++ on_end (leave (declared y) (go_on_behind service y (n + 1) around a))
     (plugs service rest (n + 1 + numbered y) around)
     else plugs_behind service rest (n + 1 + numbered y) around a
 plugs_behind service (if_else t y z rest) n around a =
     if nat_lt a.at (n + 1 + numbered y)
     then plugs_behind service y (n + 1) around a
-    ++ on_end (leave (declared y) (behind service y (n + 1) around a)) (plugs service rest (n + 1 + numbered y + numbered z) around)
+    ++ on_end (leave (declared y) (go_on_behind service y (n + 1) around a)) (plugs service rest (n + 1 + numbered y + numbered z) around)
     else if nat_lt a.at (n + 1 + numbered y + numbered z)
     then plugs_behind service z (n + 1 + numbered y) around a
-    ++ on_end (leave (declared z) (behind service z (n + 1 + numbered y) around a)) (plugs service rest (n + 1 + numbered y + numbered z) around)
+    ++ on_end (leave (declared z) (go_on_behind service z (n + 1 + numbered y) around a)) (plugs service rest (n + 1 + numbered y + numbered z) around)
     else plugs_behind service rest (n + 1 + numbered y + numbered z) around a
 plugs_behind service (while_loop t b rest) n around a =
     if nat_lt a.at (n + 1 + numbered b)
-    then plugs_behind service b (n + 1) around a ++ on_end (leave (declared b) (behind service b (n + 1) around a))
+    then plugs_behind service b (n + 1) around a ++ on_end (leave (declared b) (go_on_behind service b (n + 1) around a))
     (plugs service (while_loop t b rest) n around)
     else plugs_behind service rest (n + 1 + numbered b) around a
 plugs_behind service (block b rest) n around a =
     if nat_lt a.at (n + numbered b)
-    then plugs_behind service b n around a ++ on_end (leave (declared b) (behind service b n around a)) (plugs service rest (n + numbered b) around)
+    then plugs_behind service b n around a ++ on_end (leave (declared b) (go_on_behind service b n around a)) (plugs service rest (n + numbered b) around)
     else plugs_behind service rest (n + numbered b) around a
 plugs_behind service (for_each w e b rest) n around a =
     if nat_lt a.at (n + 1 + numbered b)
     then rest_plugs a.rests (λ vs inner.
     plugs_behind service b (n + 1) (around + list_weight vs) (record a { rests = inner })
-    ++ on_end (leave (w ∷ declared b) (add_rest vs (behind service b (n + 1) (around + list_weight vs) (record a { rests = inner }))))
+    ++ on_end (leave (w ∷ declared b) (add_rest vs (go_on_behind service b (n + 1) (around + list_weight vs) (record a { rests = inner }))))
     (each_plugs vs w (w ∷ declared b) (λ more. exec service b (n + 1) (around + list_weight more))
     (λ more. plugs service b (n + 1) (around + list_weight more))))
     ++ on_end (with_rest a.rests (λ vs inner.
-    then_do (leave (w ∷ declared b) (add_rest vs (behind service b (n + 1) (around + list_weight vs) (record a { rests = inner }))))
+    then_do (leave (w ∷ declared b) (add_rest vs (go_on_behind service b (n + 1) (around + list_weight vs) (record a { rests = inner }))))
     (each vs w (w ∷ declared b) (λ more. exec service b (n + 1) (around + list_weight more)))))
     (plugs service rest (n + 1 + numbered b) around)
     else plugs_behind service rest (n + 1 + numbered b) around a

@@ -3,10 +3,10 @@ use Rattle.std.specs.Prelude.{ℕ, ◌+◌, ◌==◌, Bool, true, false, nat_lt,
 use Rattle.bw_lang.specs.declared.service.Service.{Service}
 use Rattle.bw_lang.specs.declared.service.Session.{Session}
 use Rattle.bw_lang.specs.declared.stmt.Kind.{Kind}
-use Rattle.bw_lang.specs.Code.{Code, done, declare, assign, if_then, if_else, while_loop, block, for_each, show, exit, numbered}
-use Rattle.bw_lang.specs.Reads.{IsReadable}
-use Rattle.bw_lang.specs.Term.{Term, nothing}
-use Rattle.bw_types.specs.Scopes.{Scope, no_locals, with_local, behind, behind_each}
+use Rattle.bw_lang.specs.Service.Code.{Code, done, declare, assign, if_then, if_else, while_loop, block, for_each, show, exit, numbered}
+use Rattle.bw_lang.specs.Service.Reads.{IsReadable}
+use Rattle.bw_lang.specs.Service.Term.{Term, nothing}
+use Rattle.bw_types.specs.Scopes.{Scope, no_locals, with_local, scope_behind, behind_each}
 use Rattle.bw_types.specs.Faults.{IsWellTyped}
 use Rattle.bw_cover.specs.Abstracts.{known}
 use Rattle.bw_cover.specs.Facts.{Facts, look}
@@ -40,16 +40,16 @@ place_in (declare kind w e rest) n scope k = if k == n then place scope e false 
 place_in (assign w e rest) n scope k = if k == n then place scope e false else place_in rest (n + 1) scope k
 place_in (if_then t y rest) n scope k =
     if k == n then place scope t false
-    else if nat_lt k (n + 1 + numbered y) then place_in y (n + 1) scope k else place_in rest (n + 1 + numbered y) (behind scope y) k
+    else if nat_lt k (n + 1 + numbered y) then place_in y (n + 1) scope k else place_in rest (n + 1 + numbered y) (scope_behind scope y) k
 place_in (if_else t y z rest) n scope k =
     if k == n then place scope t false
     else if nat_lt k (n + 1 + numbered y) then place_in y (n + 1) scope k
-    else if nat_lt k (n + 1 + numbered y + numbered z) then place_in z (n + 1 + numbered y) (behind scope y) k
-    else place_in rest (n + 1 + numbered y + numbered z) (behind (behind scope y) z) k
+    else if nat_lt k (n + 1 + numbered y + numbered z) then place_in z (n + 1 + numbered y) (scope_behind scope y) k
+    else place_in rest (n + 1 + numbered y + numbered z) (scope_behind (scope_behind scope y) z) k
 place_in (while_loop t b rest) n scope k =
     if k == n then place scope t false
-    else if nat_lt k (n + 1 + numbered b) then place_in b (n + 1) scope k else place_in rest (n + 1 + numbered b) (behind scope b) k
-place_in (block b rest) n scope k = if nat_lt k (n + numbered b) then place_in b n scope k else place_in rest (n + numbered b) (behind scope b) k
+    else if nat_lt k (n + 1 + numbered b) then place_in b (n + 1) scope k else place_in rest (n + 1 + numbered b) (scope_behind scope b) k
+place_in (block b rest) n scope k = if nat_lt k (n + numbered b) then place_in b n scope k else place_in rest (n + numbered b) (scope_behind scope b) k
 place_in (for_each w e b rest) n scope k =
     if k == n then place scope e false
     else if nat_lt k (n + 1 + numbered b) then place_in b (n + 1) (with_local scope w kinds.Str) k else place_in rest (n + 1 + numbered b)

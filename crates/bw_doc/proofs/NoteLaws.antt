@@ -9,9 +9,9 @@ use Rattle.bw_lang.specs.declared.items.Attr.{Attr}
 use Rattle.bw_lang.specs.declared.items.AttrValue.{AttrValue}
 use Rattle.bw_lang.specs.declared.items.AttrValue.TheVariants.{Fixed, Hole}
 use Rattle.bw_lang.specs.declared.items.Item.{Item}
-use Rattle.bw_lang.specs.Documents.{append, open_gaps, is_hole}
-use Rattle.bw_lang.specs.Forest.{Forest, none, text, gap, element}
-use Rattle.bw_lang.specs.View.{forest, before}
+use Rattle.bw_lang.specs.Document.Documents.{append, open_gaps, is_hole}
+use Rattle.bw_lang.specs.Document.Forest.{Forest, none, text, gap, element}
+use Rattle.bw_lang.specs.Document.View.{forest, before}
 use Rattle.bw_lang.proofs.Counts.{elements_room, count_le-open_gaps}
 use Rattle.bw_lang.proofs.Forests.{forest_at_read, size_at_read}
 use Rattle.bw_doc.specs.declared.notes.Note.{Note}

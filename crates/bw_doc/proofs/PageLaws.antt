@@ -2,13 +2,13 @@
 use Rattle.std.proofs.Common.{◌≡◌, ℕ, false, if◌then◌else◌, List, [], ◌∷◌, ◌++◌, refl, ap, sym, ◌∙◌, codes}
 use Rattle.std.proofs.lemmas.List.{append_assoc, append-nil}
 use Rattle.bw_lang.specs.declared.items.Attr.{Attr}
-use Rattle.bw_lang.specs.Forest.{Forest, none, text, element}
-use Rattle.bw_lang.specs.Documents.{append, close}
-use Rattle.bw_lang.specs.Markup.{is_void, escaped}
-use Rattle.bw_lang.specs.Print.{print, printed_start, printed_end}
+use Rattle.bw_lang.specs.Document.Forest.{Forest, none, text, element}
+use Rattle.bw_lang.specs.Document.Documents.{append, close}
+use Rattle.bw_lang.specs.Template.Markup.{is_void, escaped}
+use Rattle.bw_lang.specs.Document.Print.{print, printed_start, printed_end}
 use Rattle.bw_lang.proofs.PrintLaws.{closed_alike}
 use Rattle.bw_lang.specs.declared.items.AttrValue.TheVariants.{Fixed}
-use Rattle.bw_lang.specs.Wrappers.{button, attr}
+use Rattle.bw_lang.specs.Document.Wrappers.{button, attr}
 use Rattle.bw_page.specs.Pages.{show_page, exit_page}
 use Rattle.bw_page.proofs.Printed.{print-append}
 

@@ -1,6 +1,6 @@
 -- The algebra of spots.
 use Rattle.std.proofs.Common.{◌≡◌, ℕ, ◌+◌, true, refl, ap, sym, ◌∙◌, arith, max, Option, Some, None}
-use Rattle.bw_lang.specs.Documents.{deeper, under}
+use Rattle.bw_lang.specs.Document.Documents.{deeper, under}
 use Rattle.bw_lang.proofs.Counts.{deeper_assoc}
 use Rattle.bw_doc.specs.declared.spots.Open.{Open}
 use Rattle.bw_doc.specs.declared.spots.Spot.{Spot}

@@ -7,8 +7,8 @@ use Rattle.std.proofs.lemmas.List.Sums.{sum_by-cons}
 use Rattle.bw_lang.specs.declared.items.Attr.{Attr}
 use Rattle.bw_lang.specs.declared.items.AttrValue.{AttrValue}
 use Rattle.bw_lang.specs.declared.items.AttrValue.TheVariants.{Fixed, Hole}
-use Rattle.bw_lang.specs.Forest.{Forest, none, text, gap, element}
-use Rattle.bw_lang.specs.Documents.{append, plug, plug_text, count, depth, deeper, here, is_hole, filled_value, filled_attr}
+use Rattle.bw_lang.specs.Document.Forest.{Forest, none, text, gap, element}
+use Rattle.bw_lang.specs.Document.Documents.{append, plug, plug_text, count, depth, deeper, here, is_hole, filled_value, filled_attr}
 use Rattle.bw_doc.specs.declared.spots.Spot.{Spot}
 use Rattle.bw_doc.specs.Spots.{nowhere, join, inside, once, times, unless, content, holes, hole, opened, plugged_open, filled_open}
 use Rattle.bw_doc.proofs.SpotAlgebra.{spot, swap, join_assoc, join_comm, join_nowhere, nowhere_join, inside_join, times_join, inside_times}

@@ -5,8 +5,8 @@ use Rattle.std.proofs.lemmas.List.Elements.{All-get_or}
 use Rattle.std.proofs.lemmas.Option.{get_or_from_slice_get, slice_get_within}
 use Rattle.bw_lang.specs.declared.service.Service.{Service}
 use Rattle.bw_lang.specs.declared.service.Template.{Template}
-use Rattle.bw_lang.specs.Measures.{IsWithin, constant_measure}
-use Rattle.bw_lang.specs.Reads.{IsReadable}
+use Rattle.bw_lang.specs.Document.Measures.{IsWithin, constant_measure}
+use Rattle.bw_lang.specs.Service.Reads.{IsReadable}
 use Rattle.bw_typed.specs.Measured.{IsMeasured}
 use Rattle.bw_typed.proofs.Services.{templates_are_measured}
 

@@ -1,9 +1,8 @@
+pub mod Encoding
 pub mod Filling
 pub mod Keeping
 pub mod Laws
 pub mod Made
-pub mod MadeCode
-pub mod MadeFalls
 pub mod MadeView
 pub mod Notes
 pub mod Operations

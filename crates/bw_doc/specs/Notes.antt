@@ -3,7 +3,7 @@ use Rattle.std.specs.Prelude.{ℕ, ◌+◌, ◌<◌, ◌^◌, ◌==◌, List, []
 use Rattle.bw_lang.specs.declared.items.Attr.{Attr}
 use Rattle.bw_lang.specs.declared.items.AttrValue.{AttrValue}
 use Rattle.bw_lang.specs.declared.items.AttrValue.TheVariants.{Fixed, Hole}
-use Rattle.bw_lang.specs.Forest.{Forest, none, text, gap, element}
+use Rattle.bw_lang.specs.Document.Forest.{Forest, none, text, gap, element}
 use Rattle.bw_doc.specs.declared.notes.Note.{Note}
 use Rattle.bw_doc.specs.declared.spots.Open.{Open}
 use Rattle.bw_doc.specs.declared.spots.Spot.{Spot}

@@ -1,8 +1,8 @@
 -- Where the gaps of a name are open: how many there are, and how deep they stand.
 use Rattle.std.specs.Prelude.{ℕ, ◌+◌, ◌*◌, ◌≡◌, ◌≤◌, Bool, if◌then◌else◌, ◌==◌, List, [], ◌∷◌, slice_get, Option, Some, None, unwrap_or}
 use Rattle.bw_lang.specs.declared.items.Attr.{Attr}
-use Rattle.bw_lang.specs.Documents.{deeper, under, here, one_if, is_hole}
-use Rattle.bw_lang.specs.Forest.{Forest, none, text, gap, element}
+use Rattle.bw_lang.specs.Document.Documents.{deeper, under, here, one_if, is_hole}
+use Rattle.bw_lang.specs.Document.Forest.{Forest, none, text, gap, element}
 use Rattle.bw_doc.specs.declared.spots.Spot.{Spot}
 use Rattle.bw_doc.specs.declared.spots.Open.{Open}
 

@@ -1,7 +1,7 @@
 //! Documents that are the templates of a service.
 ghost use Rattle.std.specs.Prelude.{◌≡◌, ◌^◌, ◌<◌, length, slice_get, Some, IfOk};
-ghost use Rattle.bw_lang.specs.Documents.{elements, open_gaps};
-ghost use Rattle.bw_lang.specs.Measures.{IsWithin, constant_measure};
+ghost use Rattle.bw_lang.specs.Document.Documents.{elements, open_gaps};
+ghost use Rattle.bw_lang.specs.Document.Measures.{IsWithin, constant_measure};
 ghost use Rattle.bw_doc.specs.Made as spec;
 ghost use Rattle.bw_doc.specs.Operations.{IsOf, items_at};
 

@@ -1,8 +1,8 @@
 //! Where the gaps of a constant are open.
 ghost use Rattle.std.specs.Prelude.{◌≡◌, ◌^◌, ◌+◌, ◌++◌, ◌<◌, IfOk, OnOk};
-ghost use Rattle.bw_lang.specs.Documents.{elements, open_gaps};
-ghost use Rattle.bw_lang.specs.Forest.{none};
-ghost use Rattle.bw_lang.specs.View.{before};
+ghost use Rattle.bw_lang.specs.Document.Documents.{elements, open_gaps};
+ghost use Rattle.bw_lang.specs.Document.Forest.{none};
+ghost use Rattle.bw_lang.specs.Document.View.{before};
 ghost use Rattle.bw_doc.specs.Notes as spec;
 ghost use Rattle.bw_doc.specs.Spots.{IsTable, IsTableOf};
 

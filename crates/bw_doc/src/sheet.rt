@@ -1,6 +1,6 @@
 //! The pages of documents, ready to be sent.
 ghost use Rattle.std.specs.Prelude.{◌≡◌, ◌++◌, codes, length, IfOk, OnOk};
-ghost use Rattle.bw_lang.specs.Print.{print};
+ghost use Rattle.bw_lang.specs.Document.Print.{print};
 ghost use Rattle.bw_page.specs.Pages.{show_page, exit_page};
 ghost use Rattle.bw_doc.specs.Made.{tree};
 ghost use Rattle.bw_doc.specs.Sheets.{page_of};

@@ -1,6 +1,6 @@
 //! Where the gaps of a document are open.
 ghost use Rattle.std.specs.Prelude.{◌≡◌, ◌==◌, ◌+◌, ◌*◌, ◌^◌, ◌<◌, [], length, IsTrue, unwrap_or, IfOk, OnOk};
-ghost use Rattle.bw_lang.specs.Documents as doc;
+ghost use Rattle.bw_lang.specs.Document.Documents as doc;
 ghost use Rattle.bw_doc.specs.Notes.{IsCounted, level, content_at, hole_at};
 ghost use Rattle.bw_doc.specs.Spots as spec;
 

@@ -4,9 +4,9 @@ use Rattle.std.specs.Prelude.{Result, IsErrAnd, IfOk}
 use Rattle.bw_lang.specs.declared.expr.Pair.{Pair}
 use Rattle.bw_lang.specs.declared.service.Service.{Service}
 use Rattle.bw_lang.specs.declared.turn.TurnFault.{TurnFault}
-use Rattle.bw_lang.specs.Names as names
-use Rattle.bw_lang.specs.Term.{Term, Fillings, filling, nodes, nodes_in}
-use Rattle.bw_lang.specs.TermView.{term, fillings}
+use Rattle.bw_lang.specs.Table.Names as names
+use Rattle.bw_lang.specs.Service.Term.{Term, Fillings, filling, nodes, nodes_in}
+use Rattle.bw_lang.specs.Service.TermView.{term, fillings}
 use Rattle.bw_meaning.specs.Expressions.{Evaluated, Gives, Faults, and_then, given, eval, fill}
 use Rattle.bw_meaning.specs.Operators.{document_of, filled}
 use Rattle.bw_meaning.specs.Values.{Value, Values}
@@ -29,12 +29,12 @@ pub pairs_from : (Q : Fillings → Type 0) (xs : List Pair) (i : ℕ) (x : Pair)
 pairs_from Q xs i x e h q = subst Q (fillings_at xs i x e h) q
 
 fill_next : (service : Service) (l s : Values) (g : List ℕ) (e : Term) (ps : Fillings) (d v d1 : Value) (u w : ℕ) →
-    eval service l s e u ≡ Gives v w → filled (names.number service.gaps g) v (document_of d) ≡ Ok d1 →
+    eval service l s e u ≡ Gives v w → filled (names.name_number service.gaps g) v (document_of d) ≡ Ok d1 →
     fill service l s (filling g e ps) d u ≡ fill service l s ps d1 w
 fill_next service l s g e ps d v d1 u w ev fv = rw ev (ap (λ r. and_then (given r w) (λ x y. fill service l s ps x y)) fv)
 
 fill_stops : (service : Service) (l s : Values) (g : List ℕ) (e : Term) (ps : Fillings) (d v : Value) (f : TurnFault) (u w : ℕ) →
-    eval service l s e u ≡ Gives v w → filled (names.number service.gaps g) v (document_of d) ≡ Err f →
+    eval service l s e u ≡ Gives v w → filled (names.name_number service.gaps g) v (document_of d) ≡ Err f →
     fill service l s (filling g e ps) d u ≡ Faults f w
 fill_stops service l s g e ps d v f u w ev fv = rw ev (ap (λ r. and_then (given r w) (λ x y. fill service l s ps x y)) fv)
 
@@ -44,7 +44,7 @@ fill_fails service l s g e ps d f u w ev = rw ev refl
 
 pub next_at : (service : Service) (l s : Values) (xs : List Pair) (i : ℕ) (x : Pair) (d v d1 : Value) (u w n : ℕ) (o : Evaluated) →
     x ≡ get_or xs i x → i < length xs → o ≡ fill service l s (fillings (drop i xs)) d u →
-    Gives v w ≡ eval service l s (term x.value) u → n ≡ names.number service.gaps x.gap → Ok d1 ≡ filled n v (document_of d) →
+    Gives v w ≡ eval service l s (term x.value) u → n ≡ names.name_number service.gaps x.gap → Ok d1 ≡ filled n v (document_of d) →
     o ≡ fill service l s (fillings (drop (i + 1) xs)) d1 w
 next_at service l s xs i x d v d1 u w n o e h is ev nv fv =
     is ∙ ap (λ ps. fill service l s ps d u) (fillings_at xs i x e h)
@@ -52,7 +52,7 @@ next_at service l s xs i x d v d1 u w n o e h is ev nv fv =
 
 pub stops_at : (service : Service) (l s : Values) (xs : List Pair) (i : ℕ) (x : Pair) (d v : Value) (f : TurnFault) (u w n : ℕ) (o : Evaluated) →
     x ≡ get_or xs i x → i < length xs → o ≡ fill service l s (fillings (drop i xs)) d u →
-    Gives v w ≡ eval service l s (term x.value) u → n ≡ names.number service.gaps x.gap → Err f ≡ filled n v (document_of d) → Faults f w ≡ o
+    Gives v w ≡ eval service l s (term x.value) u → n ≡ names.name_number service.gaps x.gap → Err f ≡ filled n v (document_of d) → Faults f w ≡ o
 stops_at service l s xs i x d v f u w n o e h is ev nv fv =
     sym (is ∙ ap (λ ps. fill service l s ps d u) (fillings_at xs i x e h)
     ∙ fill_stops service l s x.gap (term x.value) (fillings (drop (i + 1) xs)) d v f u w (sym ev) (ap (λ k. filled k v (document_of d)) (sym nv)

@@ -1,12 +1,14 @@
 -- Looking names up.
-use Rattle.std.proofs.Common.{◌≡◌, ℕ, suc, Bool, true, false, cond, subst, arith, List, [], ◌∷◌, map, Option, Some, None, refl, ap, sym, ◌∙◌}
-use Rattle.std.specs.Prelude.{find, option_map, IfSome}
-use Rattle.std.specs.List.{All}
+use Rattle.std.proofs.Common.{◌≡◌, ℕ, zero, suc, ◌+◌, ◌<◌, ◌≤◌, Bool, true, false, cond, subst, arith, List, [], ◌∷◌, length, get_or, take, map, Option, Some, refl, ap, sym, ◌∙◌}
+use Rattle.std.proofs.lemmas.List.Sums.{sum_by-cons}
+use Rattle.std.specs.Prelude.{find, option_map}
 use Rattle.bw_lang.specs.declared.service.Template.{Template}
-use Rattle.bw_lang.specs.Names.{same, beside}
+use Rattle.bw_lang.specs.Table.Names.{same, beside}
 use Rattle.bw_eval.specs.declared.value.Value.{Value}
 use Rattle.bw_eval.specs.declared.values.Variable.{Variable}
 use Rattle.bw_eval.specs.Sound.{IsSound, AreSound}
+use Rattle.bw_meaning.specs.Values as meaning
+use Rattle.bw_meaning.specs.Values.{weight, weights}
 use Rattle.bw_eval.specs.View.{value, values, named}
 
 -- a variable as a pair
@@ -50,3 +52,26 @@ pub beside_sound : (ts : List Template) (w : List ℕ) (xs : List (List ℕ × V
 beside_sound ts w [] v a e = cc
 beside_sound ts w (x ∷ xs) v a e = sound_by_test ts (same w x.0) w x xs v (a 0 x (omega arith))
     (beside_sound ts w xs v (λ k d lt. a (suc k) d (omega arith))) e
+
+-- what one variable weighs
+abbrev its_weight : List ℕ × meaning.Value → ℕ
+its_weight p = weight p.1
+
+within_first : (a b c n w : ℕ) → n ≡ 0 → w ≡ b + c → a ≡ b → n + a ≤ w
+within_first a b c n w none whole e = omega (arith, none, whole, e)
+
+within_more : (a b c d n w : ℕ) → n ≡ a + b → w ≡ a + d → b + c ≤ d → n + c ≤ w
+within_more a b c d n w front whole h = omega (arith, front, whole, h)
+
+-- the weight of what stands in front of a variable and its own are within that of all
+pub weights_reach : (xs : List Variable) (i : ℕ) (x : Variable) → x ≡ get_or xs i x → i < length xs
+    → weights (values (map pair (take i xs))) + weight (value x.value) ≤ weights (values (map pair xs))
+weights_reach [] i x e lt = omega (arith, lt)
+weights_reach (y ∷ ys) zero x e lt =
+    within_first (weight (value x.value)) (weight (value y.value)) (weights (values (map pair ys))) (weights []) (weights (values (map pair (y ∷ ys))))
+    refl (sum_by-cons its_weight (named (pair y)) (values (map pair ys))) (ap (λ (z : Variable). weight (value z.value)) e)
+weights_reach (y ∷ ys) (suc i) x e lt =
+    within_more (weight (value y.value)) (weights (values (map pair (take i ys)))) (weight (value x.value)) (weights (values (map pair ys)))
+    (weights (values (map pair (y ∷ take i ys)))) (weights (values (map pair (y ∷ ys))))
+    (sum_by-cons its_weight (named (pair y)) (values (map pair (take i ys)))) (sum_by-cons its_weight (named (pair y)) (values (map pair ys)))
+    (weights_reach ys i x e (omega (arith, lt)))

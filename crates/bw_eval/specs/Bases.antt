@@ -1,7 +1,7 @@
 -- What plugs go into.
 use Rattle.std.specs.Prelude.{ℕ}
 use Rattle.bw_lang.specs.declared.service.Service.{Service}
-use Rattle.bw_lang.specs.Term.{Term, int, truth, string, name, paren, not, neg, binary, call, plug, nothing, Fillings, no_more, filling}
+use Rattle.bw_lang.specs.Service.Term.{Term, int, truth, string, name, paren, not, neg, binary, call, plug, nothing, Fillings, no_more, filling}
 use Rattle.bw_meaning.specs.Expressions.{Evaluated, Gives, Faults, eval}
 use Rattle.bw_meaning.specs.Values.{Value, Values, number, truth_value, text, document, list}
 

@@ -1,6 +1,6 @@
 //! Evaluation of expressions.
 ghost use Rattle.std.specs.Prelude.{◌≡◌, ◌+◌, ◌≤◌, IfOk, Ok, pos, unwrap_or};
-ghost use Rattle.bw_lang.specs.TermView.{term};
+ghost use Rattle.bw_lang.specs.Service.TermView.{term};
 ghost use Rattle.bw_meaning.specs.Expressions as spec;
 ghost use Rattle.bw_meaning.specs.Values.{number, template_value};
 ghost use Rattle.bw_typed.specs.ShortStrings.{HasShort, HaveShort};

@@ -1,5 +1,5 @@
 //! Values.
-ghost use Rattle.std.specs.Prelude.{◌≡◌, ◌<◌, ◌^◌, IfOk, IfSome, length};
+ghost use Rattle.std.specs.Prelude.{◌≡◌, ◌<◌, ◌≤◌, ◌^◌, None, IfOk, IfSome, length};
 ghost use Rattle.bw_meaning.specs.Operators as spec;
 ghost use Rattle.bw_meaning.specs.Values as meaning;
 ghost use Rattle.bw_eval.specs.View.{value, is_list};
@@ -94,7 +94,8 @@ impl Value {
 
     /// What it weighs, unless that is too great for a number of 64 bits.
     pub fn weight(&self) -> Option<u64>
-        ensures { IfSome result (λ w. w ≡ meaning.weight (value self.now)) }
+        ensures some { IfSome result (λ w. w ≡ meaning.weight (value self.now)) }
+        ensures none { result ≡ None → 2 ^ 64 ≤ meaning.weight (value self.now) }
     {
         match self {
             Value::Int(_) | Value::Bool(_) => Some(16),
@@ -120,7 +121,8 @@ impl Value {
 
 /// What a list of strings weighs, unless that is too great for a number of 64 bits.
 pub fn words_weight(strings: &[Text]) -> Option<u64>
-    ensures { IfSome result (λ w. w ≡ meaning.list_weight strings.now) }
+    ensures some { IfSome result (λ w. w ≡ meaning.list_weight strings.now) }
+    ensures none { result ≡ None → 2 ^ 64 ≤ meaning.list_weight strings.now }
 {
     let mut total: u64 = 16;
     for string in strings {

@@ -1,7 +1,7 @@
 //! Names with their values.
-ghost use Rattle.std.specs.Prelude.{◌≡◌, ◌++◌, ◌∷◌, [], List, IfOk, IfSome, OnOk, OnErr, length, take, option_map, position};
+ghost use Rattle.std.specs.Prelude.{◌≡◌, ◌≤◌, ◌^◌, ◌++◌, ◌∷◌, [], List, None, IfOk, IfSome, OnOk, OnErr, length, take, option_map, position};
 ghost use Rattle.bw_lang.specs.declared.service.Template.{Template};
-ghost use Rattle.bw_lang.specs.Names.{beside, same};
+ghost use Rattle.bw_lang.specs.Table.Names.{beside, same};
 ghost use Rattle.bw_meaning.specs.Values as meaning;
 ghost use Rattle.bw_eval.specs.Sound.{IsSound, AreSound};
 ghost use Rattle.bw_eval.specs.View.{value, values};
@@ -31,9 +31,9 @@ impl Model for Values {
     ghost Value = { List (List ℕ × Kept) };
 
     ghost use Rattle.std.specs.Coded.{codes};
-    ghost use Rattle.bw_doc.specs.MadeCode.{coded_made};
+    ghost use Rattle.bw_doc.specs.Encoding.MadeEncoding.{encoded_made};
 
-    ghost coded = { Prim.hlevel (codes, coded_made) };
+    ghost coded = { Prim.hlevel (codes, encoded_made) };
 
     ghost use Rattle.std.specs.Prelude.{map};
 
@@ -108,7 +108,8 @@ impl Values {
 
     /// The weight of all values together, unless it is too great for a number of 64 bits.
     pub fn weight(&self) -> Option<u64>
-        ensures { IfSome result (λ w. w ≡ meaning.weights (values self.now)) }
+        ensures some { IfSome result (λ w. w ≡ meaning.weights (values self.now)) }
+        ensures none { result ≡ None → 2 ^ 64 ≤ meaning.weights (values self.now) }
     {
         let mut total: u64 = 0;
         for variable in &self.list {

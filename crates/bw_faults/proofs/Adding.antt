@@ -1,6 +1,7 @@
 -- Adding to lists of faults.
 use Rattle.std.proofs.Common.{◌≡◌, ◌⊎◌, inl, inr, ℕ, zero, suc, ◌+◌, ◌<◌, Bool, true, false, ◌||◌, List, [], ◌∷◌, ◌++◌, length, take, get_or, refl, sym, ap, ◌∙◌, subst, arith}
-use Rattle.std.proofs.lemmas.Bool.{false≢true, or_cases}
+use Rattle.std.proofs.Math.Bool.{or-false}
+use Rattle.std.proofs.lemmas.Bool.{false≢true, or_cases, or_left, or_right}
 use Rattle.std.proofs.lemmas.Cmp.{tied_itself}
 use Rattle.std.proofs.lemmas.List.{take_more}
 use Rattle.std.specs.declared.cmp.Ordering.{Ordering}
@@ -13,18 +14,6 @@ use Rattle.bw_faults.specs.declared.fault.Fault.{Fault}
 use Rattle.bw_faults.specs.Lists.{Lists, Adds, When, OfSome}
 use Rattle.bw_faults.specs.Order.{fault_cmp, fault_total}
 use Rattle.bw_faults.proofs.Lists.{same_fault}
-
-or_first : (a b : Bool) → a ≡ true → (a || b) ≡ true
-or_first true b h = refl
-or_first false b h = absurd (false≢true h)
-
-or_second : (a b : Bool) → b ≡ true → (a || b) ≡ true
-or_second true b h = refl
-or_second false b h = h
-
-or_none : (a : Bool) → (a || false) ≡ a
-or_none true = refl
-or_none false = refl
 
 is_Equal : (o : Ordering) → is_eq o ≡ true → o ≡ Equal
 is_Equal Less h = absurd (false≢true h)
@@ -51,10 +40,10 @@ pub adds_fault : (f : Fault) (P : Fault → Type 0) (old : List Fault) → ((x :
 adds_fault f P old to from = record {
   sound = λ x h. elim (or_cases (has fault_cmp old x) (is_eq (fault_cmp f x) || false) (sym (merge_has fault_total old (f ∷ []) x) ∙ h)) [
     | inl k ↦ inl k
-    | inr k ↦ inr (to x (sym (same_fault f x (is_Equal (fault_cmp f x) (sym (or_none (is_eq (fault_cmp f x))) ∙ k)))))
+    | inr k ↦ inr (to x (sym (same_fault f x (is_Equal (fault_cmp f x) (sym (or-false (is_eq (fault_cmp f x))) ∙ k)))))
   ];
-  kept = λ x h. merge_has fault_total old (f ∷ []) x ∙ or_first _ _ h;
-  whole = λ x p. merge_has fault_total old (f ∷ []) x ∙ or_second (has fault_cmp old x) _ (or_first _ false (ap is_eq (ap (fault_cmp f) (from x p) ∙ tied_itself fault_total f)));
+  kept = λ x h. merge_has fault_total old (f ∷ []) x ∙ or_left _ _ h;
+  whole = λ x p. merge_has fault_total old (f ∷ []) x ∙ or_right (has fault_cmp old x) _ (or_left _ false (ap is_eq (ap (fault_cmp f) (from x p) ∙ tied_itself fault_total f)));
 }
 
 -- a fault that is none

@@ -1,6 +1,7 @@
 -- Sorted lists without doubles.
 use Rattle.std.proofs.Common.{◌≡◌, ◌⊎◌, inl, inr, ℕ, zero, suc, ◌<◌, ◌≤◌, Bool, true, false, ◌||◌, List, [], ◌∷◌, ◌++◌, length, append_assoc, get_or, Option, Some, None, Ok, Err, refl, sym, ap, ◌∙◌, subst, arith, add-one}
-use Rattle.std.proofs.lemmas.Bool.{false≢true, cases_Bool}
+use Rattle.std.proofs.Math.Bool.{or-false}
+use Rattle.std.proofs.lemmas.Bool.{false≢true, cases_Bool, or_left}
 use Rattle.std.specs.declared.cmp.Ordering.{Ordering}
 use Rattle.std.specs.declared.cmp.Ordering.TheVariants.{Less, Equal, Greater}
 use Rattle.std.specs.Ordering.{nat_cmp, is_eq, is_lt, match_ordering, ordering_reverse, ordering_then}
@@ -16,10 +17,6 @@ use Rattle.bw_solve.proofs.Search.{found}
 use Rattle.bw_faults.specs.declared.fault.Fault.{Fault}
 use Rattle.bw_faults.specs.Order.{group, template_rank, fault_cmp, fault_total}
 use Rattle.bw_faults.specs.Lists.{Lists, OneList}
-
-or_first : (a b : Bool) → a ≡ true → (a || b) ≡ true
-or_first true b h = refl
-or_first false b h = absurd (false≢true h)
 
 three : (o : Ordering) → ((o ≡ Less) ⊎ (o ≡ Equal)) ⊎ (o ≡ Greater)
 three Less = inl (inl refl)
@@ -40,7 +37,7 @@ drop_head a b c p q r = q ∙ sym r
 
 module _ {T : Type 0} {cmp : T → T → Ordering} (o : IsTotalOrder cmp) where
   itself : (x : T) (xs : List T) → has cmp (x ∷ xs) x ≡ true
-  itself x xs = or_first (is_eq (cmp x x)) (has cmp xs x) (ap is_eq (tied_itself o x))
+  itself x xs = or_left (is_eq (cmp x x)) (has cmp xs x) (ap is_eq (tied_itself o x))
 
   -- what is below the first member is none
   below_lacks : (x y : T) (ys : List T) → cmp x y ≡ Less → IsSet cmp (y ∷ ys) → has cmp (y ∷ ys) x ≡ false
@@ -178,12 +175,8 @@ or_assoc : (a b c : Bool) → (a || (b || c)) ≡ ((a || b) || c)
 or_assoc true b c = refl
 or_assoc false b c = refl
 
-or_none : (a : Bool) → (a || false) ≡ a
-or_none true = refl
-or_none false = refl
-
 any_end : (p : Fault → Bool) (xs : List Fault) (x : Fault) → list_any p (xs ++ x ∷ []) ≡ (list_any p xs || p x)
-any_end p [] x = or_none (p x)
+any_end p [] x = or-false (p x)
 any_end p (y ∷ ys) x = ap (λ b. p y || b) (any_end p ys x) ∙ or_assoc (p y) (list_any p ys) (p x)
 
 all_front : (P : Fault → Type 0) (xs ys : List Fault) → AllByRecursion P (xs ++ ys) → AllByRecursion P xs
@@ -209,7 +202,7 @@ joined_more old xs x rest s t =
     (merge_set fault_total (merge fault_cmp old xs) (x ∷ []) (merge_set fault_total old xs s front) (tt, tt))
     (merge_set fault_total old (xs ++ x ∷ []) s more) (λ z.
     merge_has fault_total (merge fault_cmp old xs) (x ∷ []) z ∙ ap (λ b. b || (is_eq (fault_cmp x z) || false)) (merge_has fault_total old xs z)
-    ∙ ap (λ b. (has fault_cmp old z || has fault_cmp xs z) || b) (or_none (is_eq (fault_cmp x z)))
+    ∙ ap (λ b. (has fault_cmp old z || has fault_cmp xs z) || b) (or-false (is_eq (fault_cmp x z)))
     ∙ sym (or_assoc (has fault_cmp old z) (has fault_cmp xs z) (is_eq (fault_cmp x z)))
     ∙ ap (λ b. has fault_cmp old z || b) (sym (any_end (λ y. is_eq (fault_cmp y z)) xs x))
     ∙ sym (merge_has fault_total old (xs ++ x ∷ []) z))

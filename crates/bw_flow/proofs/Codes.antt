@@ -5,9 +5,9 @@ use denote.Param.Weighed.{at_most}
 use Rattle.bw_lang.specs.declared.stmt.Block.TheDeep.{deep-Stmt}
 use Rattle.bw_lang.specs.declared.stmt.Stmt.{Stmt}
 use Rattle.bw_lang.specs.declared.stmt.Stmt.TheVariants.{Declare, Assign, If, While, Each, Block, Show, Exit}
-use Rattle.bw_lang.specs.Code.{Code, done, code_size}
-use Rattle.bw_lang.specs.CodeFalls.{most_le-code_size}
-use Rattle.bw_lang.specs.CodeView.{before, code}
+use Rattle.bw_lang.specs.Service.Code.{Code, done, code_size}
+use Rattle.bw_lang.specs.Encoding.CodeFalls.{most_le-code_size}
+use Rattle.bw_lang.specs.Service.CodeView.{before, code}
 use Rattle.bw_lang.specs.declared.service.Session.{Session}
 use Rattle.bw_flow.specs.Layout.{count, points}
 

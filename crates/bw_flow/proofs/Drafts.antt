@@ -10,16 +10,16 @@ use Rattle.bw_lang.specs.declared.service.Session.{Session}
 use Rattle.bw_lang.specs.declared.stmt.Receive.{Receive}
 use Rattle.bw_lang.specs.declared.stmt.Stmt.{Stmt}
 use Rattle.bw_lang.specs.declared.stmt.Stmt.TheVariants.{Declare, Assign, If, While, Each, Block, Show, Exit}
-use Rattle.bw_lang.specs.TermView.{term}
-use Rattle.bw_lang.specs.Code.{Code, done, declare, assign, if_then, if_else, while_loop, for_each, block, show, exit, numbered}
-use Rattle.bw_lang.specs.CodeView.{before, code}
-use Rattle.bw_lang.specs.Term.{Term}
+use Rattle.bw_lang.specs.Service.TermView.{term}
+use Rattle.bw_lang.specs.Service.Code.{Code, done, declare, assign, if_then, if_else, while_loop, for_each, block, show, exit, numbered}
+use Rattle.bw_lang.specs.Service.CodeView.{before, code}
+use Rattle.bw_lang.specs.Service.Term.{Term}
 use Rattle.bw_lang.specs.declared.service.Service.{Service}
 use Rattle.bw_flow.specs.declared.point.Local.{Local}
 use Rattle.bw_flow.specs.Scopes.{with_local}
 use Rattle.bw_flow.specs.Steps.{Act, sets, tests, goes_over, shows, exits, joins, Step}
 use Rattle.bw_flow.specs.Layout.{count, enter, after, step, steps, receives, session_steps, session_firsts}
-use Rattle.bw_flow.specs.Drafts.{Drawn, with_step, with_statement, with_code, with_block, first_of}
+use Rattle.bw_flow.specs.Drawing.{Drawn, with_step, with_statement, with_code, with_block, first_of}
 use Rattle.bw_flow.proofs.Layouts.{first_of_is, length_steps, size_before, after_before, steps_before}
 use Rattle.bw_flow.proofs.Codes.{count_before}
 

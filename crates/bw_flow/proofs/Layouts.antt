@@ -4,15 +4,15 @@ use Rattle.std.proofs.lemmas.List.{append-nil, length-append}
 use Rattle.bw_lang.specs.declared.stmt.Kind.TheVariants as kinds
 use Rattle.bw_lang.specs.declared.stmt.Stmt.{Stmt}
 use Rattle.bw_lang.specs.declared.stmt.Stmt.TheVariants.{Declare, Assign, If, While, Each, Block, Show, Exit}
-use Rattle.bw_lang.specs.Code.{Code, done, declare, assign, if_then, if_else, while_loop, for_each, block, show, exit, numbered}
-use Rattle.bw_lang.specs.CodeView.{before}
-use Rattle.bw_lang.specs.TermView.{term}
+use Rattle.bw_lang.specs.Service.Code.{Code, done, declare, assign, if_then, if_else, while_loop, for_each, block, show, exit, numbered}
+use Rattle.bw_lang.specs.Service.CodeView.{before}
+use Rattle.bw_lang.specs.Service.TermView.{term}
 use Rattle.bw_lang.specs.declared.service.Service.{Service}
 use Rattle.bw_flow.specs.declared.point.Local.{Local}
 use Rattle.bw_flow.specs.Scopes.{with_local}
 use Rattle.bw_flow.specs.Steps.{sets, tests, goes_over, shows, exits, joins, Step}
 use Rattle.bw_flow.specs.Layout.{count, enter, after, step, steps, receives}
-use Rattle.bw_flow.specs.Drafts.{first_of}
+use Rattle.bw_flow.specs.Drawing.{first_of}
 
 -- ---- where statements begin
 

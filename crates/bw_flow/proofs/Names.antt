@@ -12,10 +12,10 @@ use Rattle.bw_lang.specs.declared.declaration.Declaration.TheVariants as declara
 use Rattle.bw_lang.specs.declared.service.Service.{Service}
 use Rattle.bw_lang.specs.declared.service.Shared.{Shared}
 use Rattle.bw_lang.specs.declared.stmt.Kind.{Kind}
-use Rattle.bw_lang.specs.Names.{same, beside}
-use Rattle.bw_lang.specs.Order.{declarations_of}
-use Rattle.bw_lang.specs.Sorted.{shared_of}
-use Rattle.bw_lang.specs.Term.{Term, int, truth, string, name, nothing, paren, not, neg, binary, call, plug, Fillings, no_more, filling}
+use Rattle.bw_lang.specs.Table.Names.{same, beside}
+use Rattle.bw_lang.specs.Service.Order.{declarations_of}
+use Rattle.bw_lang.specs.Service.Sorted.{shared_of}
+use Rattle.bw_lang.specs.Service.Term.{Term, int, truth, string, name, nothing, paren, not, neg, binary, call, plug, Fillings, no_more, filling}
 use Rattle.bw_types.specs.Scopes.{Scope, no_locals, name_of, declared_names, shared_kind, variable_kind, template_kind, name_kind, with_local}
 use Rattle.bw_types.specs.Typing.{HasKind, AreTyped, IsNew, IsTypedService}
 use Rattle.bw_flow.proofs.Parts.{either}
@@ -23,7 +23,7 @@ use Rattle.bw_flow.specs.declared.point.Local.{Local}
 use Rattle.bw_flow.specs.Scopes as flow
 use Rattle.bw_flow.specs.Scopes.{kind_in}
 use Rattle.bw_flow.specs.TypedFlow.{names_at, kind_at, HasKindAt, AreNames}
-use Rattle.bw_lang.specs.Order.{IsWoven}
+use Rattle.bw_lang.specs.Service.Order.{IsWoven}
 
 exact : (x y : List ℕ) → same x y ≡ true → x ≡ y
 exact x y e = same_text x y (sym e)

@@ -3,7 +3,7 @@ use Rattle.std.proofs.Common.{◌≡◌, true}
 use Rattle.std.specs.List.{All}
 use Rattle.std.proofs.lemmas.List.Elements.{All-weaker}
 use Rattle.bw_lang.proofs.Small.{readable_is_woven}
-use Rattle.bw_lang.specs.Order.{IsWoven}
+use Rattle.bw_lang.specs.Service.Order.{IsWoven}
 use Rattle.bw_types.specs.declared.typed.Typed.{Typed}
 use Rattle.bw_types.specs.Faults.{ends_in_exit}
 use Rattle.bw_types.specs.Typing.{IsTypedService, IsTypedSession}

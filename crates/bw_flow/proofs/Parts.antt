@@ -4,8 +4,8 @@ use Rattle.std.specs.Prelude.{slice_get}
 use Rattle.std.proofs.lemmas.List.{length-append}
 use Rattle.std.proofs.lemmas.List.Sums.{sum_by-cons}
 use Rattle.bw_lang.specs.declared.service.Session.{Session}
-use Rattle.bw_lang.specs.Code.{numbered}
-use Rattle.bw_lang.specs.Numbers.{statements}
+use Rattle.bw_lang.specs.Service.Code.{numbered}
+use Rattle.bw_lang.specs.Service.Numbers.{statements}
 use Rattle.bw_flow.specs.Steps.{Step}
 use Rattle.bw_flow.specs.Stands.{IsAt}
 

@@ -9,17 +9,17 @@ use Rattle.bw_lang.specs.declared.service.Session.{Session}
 use Rattle.bw_lang.specs.declared.stmt.Kind.{Kind}
 use Rattle.bw_lang.specs.declared.stmt.Kind.TheVariants as kinds
 use Rattle.bw_lang.specs.declared.stmt.Receive.{Receive}
-use Rattle.bw_lang.specs.Code.{Code, done, declare, assign, if_then, if_else, while_loop, for_each, block, show, exit, numbered}
-use Rattle.bw_lang.specs.CodeNames.{local_names}
+use Rattle.bw_lang.specs.Service.Code.{Code, done, declare, assign, if_then, if_else, while_loop, for_each, block, show, exit, numbered}
+use Rattle.bw_lang.specs.Service.CodeNames.{local_names}
 use Rattle.bw_types.specs.Scopes as names
-use Rattle.bw_types.specs.Scopes.{Scope, no_locals, shared_kind, behind, behind_each}
+use Rattle.bw_types.specs.Scopes.{Scope, no_locals, shared_kind, scope_behind, behind_each}
 use Rattle.bw_types.specs.Typing.{IsReceived, IsTypedCode, IsTypedSession}
 use Rattle.bw_flow.specs.declared.point.Local.{Local}
 use Rattle.bw_flow.specs.Layout.{count, enter, after, step, steps, received, receives, session_steps}
 use Rattle.bw_flow.specs.Scopes.{with_local, kind_in, kind_or_string}
 use Rattle.bw_flow.specs.Steps.{sets, tests, goes_over, shows, exits, joins, Step}
 use Rattle.bw_flow.specs.TypedFlow.{kind_at, AreNames, IsTypedReceive, IsTypedAct}
-use Rattle.bw_lang.specs.Order.{IsWoven}
+use Rattle.bw_lang.specs.Service.Order.{IsWoven}
 use Rattle.bw_flow.proofs.Layouts.{length_steps}
 use Rattle.bw_flow.proofs.Names.{Matches, matches_nothing, matches_more, matches_new, kind_in_is, kind_at_is, new_at, has_kind}
 use Rattle.bw_flow.proofs.Parts.{Holds, holds_at, holds_parts}
@@ -121,7 +121,7 @@ module _ (service : Service) (flow : List Step) (woven : IsWoven service) where
             acts = tt;
             follows = next_kept service flow meet r [] (entry service flow rest (n + 1 + numbered y) sc d (join + 1) q b.1 e) (no_next service flow meet);
           },
-          typed rest (n + 1 + numbered y) sc d (join + 1) q (behind scope y) (matches_more service scope sc (local_names y) m) t.2 b.1 e,
+          typed rest (n + 1 + numbered y) sc d (join + 1) q (scope_behind scope y) (matches_more service scope sc (local_names y) m) t.2 b.1 e,
         ),
       )
   typed (if_else v y o rest) n sc d p q scope m t h e =
@@ -139,7 +139,7 @@ module _ (service : Service) (flow : List Step) (woven : IsWoven service) where
       let first = ends_after flow join y sc at_join in
       let second = ends_after flow join o sc at_join in
       let m1 = matches_more service scope sc (local_names y) m in
-      let m2 = matches_more service (behind scope y) sc (local_names o) m1 in
+      let m2 = matches_more service (scope_behind scope y) sc (local_names o) m1 in
       let here = step n sc d (tests v) (enter y (p + 1) join ∷ enter o other join ∷ []) in (
         record {
           names = m.names;
@@ -150,14 +150,14 @@ module _ (service : Service) (flow : List Step) (woven : IsWoven service) where
               (no_next service flow here));
         },
         parts_go_well service flow ys (os ++ more) (typed y (n + 1) sc d (p + 1) join scope m t.1 a.0 first)
-            (parts_go_well service flow os more (typed o (n + 1 + numbered y) sc d other join (behind scope y) m1 t.2 b.0 second) (
+            (parts_go_well service flow os more (typed o (n + 1 + numbered y) sc d other join (scope_behind scope y) m1 t.2 b.0 second) (
               record {
                 names = m.names;
                 acts = tt;
                 follows = next_kept service flow meet r [] (entry service flow rest (n + 1 + numbered y + numbered o) sc d (join + 1) q c.1 e)
                     (no_next service flow meet);
               },
-              typed rest (n + 1 + numbered y + numbered o) sc d (join + 1) q (behind (behind scope y) o) m2 t.3 c.1 e,
+              typed rest (n + 1 + numbered y + numbered o) sc d (join + 1) q (scope_behind (scope_behind scope y) o) m2 t.3 c.1 e,
             )),
       )
   typed (while_loop v y rest) n sc d p q scope m t h e =
@@ -177,7 +177,7 @@ module _ (service : Service) (flow : List Step) (woven : IsWoven service) where
               (next_kept service flow here past [] (entry service flow rest (n + 1 + numbered y) sc d after_body q b e) (no_next service flow here));
         },
         parts_go_well service flow ys more (typed y (n + 1) sc d (p + 1) p scope m t.1 a.0 inside)
-            (typed rest (n + 1 + numbered y) sc d after_body q (behind scope y) (matches_more service scope sc (local_names y) m) t.2 b e),
+            (typed rest (n + 1 + numbered y) sc d after_body q (scope_behind scope y) (matches_more service scope sc (local_names y) m) t.2 b e),
       )
   typed (for_each w v y rest) n sc d p q scope m t h e =
       let after_body = p + 1 + count y in
@@ -210,7 +210,7 @@ module _ (service : Service) (flow : List Step) (woven : IsWoven service) where
       let b = holds_at flow (p + length ys) after_body more (ap (λ l. p + l) (length_steps service y n sc d p r)) a.1 in
       parts_go_well service flow ys more
       (typed y n sc d p r scope m t.0 a.0 (ends_after flow r y sc (entry service flow rest (n + numbered y) sc d after_body q b e)))
-      (typed rest (n + numbered y) sc d after_body q (behind scope y) (matches_more service scope sc (local_names y) m) t.1 b e)
+      (typed rest (n + numbered y) sc d after_body q (scope_behind scope y) (matches_more service scope sc (local_names y) m) t.1 b e)
   typed (show v rs rest) n sc d p q scope m t h e =
       let r = enter rest (p + 1) q in
       let here = step n sc d (shows v (receives service sc rs)) (r ∷ []) in (

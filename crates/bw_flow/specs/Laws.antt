@@ -1,6 +1,6 @@
 -- Laws of the layout.
 use Rattle.std.specs.Prelude.{◌≡◌, ℕ, List, length}
-use Rattle.bw_lang.specs.Code.{Code}
+use Rattle.bw_lang.specs.Service.Code.{Code}
 use Rattle.bw_lang.specs.declared.service.Service.{Service}
 use Rattle.bw_flow.specs.declared.point.Local.{Local}
 use Rattle.bw_flow.specs.Layout.{count, steps}

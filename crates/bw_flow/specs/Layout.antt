@@ -5,8 +5,8 @@ use Rattle.bw_lang.specs.declared.service.Service.{Service}
 use Rattle.bw_lang.specs.declared.service.Session.{Session}
 use Rattle.bw_lang.specs.declared.stmt.Kind.TheVariants as kinds
 use Rattle.bw_lang.specs.declared.stmt.Receive.{Receive}
-use Rattle.bw_lang.specs.Code.{Code, done, declare, assign, if_then, if_else, while_loop, for_each, block, show, exit, numbered}
-use Rattle.bw_lang.specs.Names.{number, with_names}
+use Rattle.bw_lang.specs.Service.Code.{Code, done, declare, assign, if_then, if_else, while_loop, for_each, block, show, exit, numbered}
+use Rattle.bw_lang.specs.Table.Names.{name_number, with_names}
 use Rattle.bw_types.specs.Fields.{field_names}
 use Rattle.bw_flow.specs.declared.point.Local.{Local}
 use Rattle.bw_flow.specs.declared.point.Received.{Received}
@@ -54,7 +54,7 @@ after (exit e rest) scope = after rest scope
 
 -- the number of a field: its place among the names of all fields
 abbrev pub number_of_field : Service → List ℕ → ℕ
-number_of_field service w = number (with_names [] (field_names service)) w
+number_of_field service w = name_number (with_names [] (field_names service)) w
 
 -- a field that a show receives, with the kind of its target and its number
 abbrev pub received : Service → List Local → Receive → Received

@@ -1,7 +1,7 @@
 -- The numbers of points.
 use Rattle.std.specs.Prelude.{◌≡◌, ◌≤◌, ℕ, zero, suc, ◌+◌, false, List, [], ◌∷◌, position, Some, if◌then◌else◌}
 use Rattle.bw_lang.specs.declared.service.Service.{Service}
-use Rattle.bw_lang.specs.Numbers.{statements}
+use Rattle.bw_lang.specs.Service.Numbers.{statements}
 use Rattle.bw_flow.specs.Flows.{is_join, is_statement}
 use Rattle.bw_flow.specs.Layout.{plan_of}
 use Rattle.bw_flow.specs.Stands.{IsAt}

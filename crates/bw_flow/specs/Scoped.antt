@@ -4,12 +4,12 @@ use Rattle.std.specs.List.{All}
 use Rattle.std.specs.Option.{option_or}
 use Rattle.bw_lang.specs.declared.service.Service.{Service}
 use Rattle.bw_lang.specs.declared.stmt.Kind.TheVariants as kinds
-use Rattle.bw_lang.specs.Code.{Code, done, declare, assign, if_then, if_else, while_loop, block, for_each, show, exit}
+use Rattle.bw_lang.specs.Service.Code.{Code, done, declare, assign, if_then, if_else, while_loop, block, for_each, show, exit}
 use Rattle.bw_types.specs.Scopes.{shared_kind}
 use Rattle.bw_types.specs.Typing.{IsTypedService}
 use Rattle.bw_flow.specs.declared.point.Local.{Local}
 use Rattle.bw_flow.specs.Scopes.{kind_in, with_local}
-use Rattle.bw_lang.specs.Order.{IsWoven}
+use Rattle.bw_lang.specs.Service.Order.{IsWoven}
 
 -- whether the name is that of a local in scope or of a shared variable
 abbrev pub is_known : Service → List Local → List ℕ → Bool

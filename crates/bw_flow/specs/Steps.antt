@@ -1,6 +1,6 @@
 -- The points of a flow, as contracts see them.
 use Rattle.std.specs.Prelude.{ℕ, List}
-use Rattle.bw_lang.specs.Term.{Term}
+use Rattle.bw_lang.specs.Service.Term.{Term}
 use Rattle.bw_flow.specs.declared.point.Local.{Local}
 use Rattle.bw_flow.specs.declared.point.Received.{Received}
 

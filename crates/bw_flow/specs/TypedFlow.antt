@@ -6,8 +6,8 @@ use Rattle.bw_lang.specs.declared.service.Service.{Service}
 use Rattle.bw_lang.specs.declared.service.Shared.{Shared}
 use Rattle.bw_lang.specs.declared.stmt.Kind.{Kind}
 use Rattle.bw_lang.specs.declared.stmt.Kind.TheVariants.{Bool as Truth, Str, Html, Strs}
-use Rattle.bw_lang.specs.Names.{same}
-use Rattle.bw_lang.specs.Term.{Term}
+use Rattle.bw_lang.specs.Table.Names.{same}
+use Rattle.bw_lang.specs.Service.Term.{Term}
 use Rattle.bw_types.specs.Scopes.{Scope, shared_kind, variable_kind}
 use Rattle.bw_types.specs.Typing.{HasKind, IsTypedService}
 use Rattle.bw_flow.specs.declared.point.Local.{Local}
@@ -16,7 +16,7 @@ use Rattle.bw_flow.specs.Layout.{plan_of}
 use Rattle.bw_flow.specs.Places.{Among}
 use Rattle.bw_flow.specs.Scopes.{kind_in}
 use Rattle.bw_flow.specs.Stands.{IsAt}
-use Rattle.bw_lang.specs.Order.{IsWoven}
+use Rattle.bw_lang.specs.Service.Order.{IsWoven}
 use Rattle.bw_flow.specs.Steps.{Act, sets, tests, goes_over, shows, exits, joins, Step}
 
 -- ---- names at a point

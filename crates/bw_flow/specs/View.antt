@@ -1,5 +1,5 @@
 -- What the code's points stand for.
-use Rattle.bw_lang.specs.TermView.{term}
+use Rattle.bw_lang.specs.Service.TermView.{term}
 use Rattle.bw_flow.specs.declared.point.What.{What}
 use Rattle.bw_flow.specs.declared.point.What.TheVariants.{Assign, Test, Each, Show, Exit, Join}
 use Rattle.bw_flow.specs.declared.point.Point.{Point}

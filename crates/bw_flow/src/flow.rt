@@ -20,9 +20,9 @@ impl Model for Flow {
     ghost Value = { Plan };
 
     ghost use Rattle.std.specs.Coded.{codes};
-    ghost use Rattle.bw_lang.specs.TermCode.{coded_term};
+    ghost use Rattle.bw_lang.specs.Encoding.TermEncoding.{encoded_term};
 
-    ghost coded = { Prim.hlevel (codes, coded_term) };
+    ghost coded = { Prim.hlevel (codes, encoded_term) };
 
     ghost use Rattle.std.specs.Prelude.{map};
     ghost use Rattle.bw_flow.specs.View.{seen};

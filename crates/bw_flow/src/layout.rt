@@ -1,9 +1,9 @@
 //! The points of sessions, blocks and statements, one behind the other.
 ghost use Rattle.std.specs.Prelude.{◌≡◌, ◌++◌, IfOk, OnOk, [], length};
-ghost use Rattle.bw_lang.specs.Code.{done};
-ghost use Rattle.bw_lang.specs.CodeView.{before};
+ghost use Rattle.bw_lang.specs.Service.Code.{done};
+ghost use Rattle.bw_lang.specs.Service.CodeView.{before};
 ghost use Rattle.bw_flow.specs.Layout.{session_firsts, session_steps};
-ghost use Rattle.bw_flow.specs.Drafts.{with_code, with_block};
+ghost use Rattle.bw_flow.specs.Drawing.{with_code, with_block};
 
 use crate::counting::{begins, block_points, stmt_points, sum};
 use crate::draft::Draft;

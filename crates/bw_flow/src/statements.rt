@@ -1,11 +1,11 @@
 //! The points of each sort of statement.
 ghost use Rattle.std.specs.Prelude.{◌≡◌, ◌+◌, IfOk, OnOk, [], ◌∷◌, length};
-ghost use Rattle.bw_lang.specs.TermView.{term};
+ghost use Rattle.bw_lang.specs.Service.TermView.{term};
 ghost use Rattle.bw_lang.specs.declared.stmt.Kind.TheVariants.{Str};
 ghost use Rattle.bw_flow.specs.Scopes.{target_kind, with_local};
 ghost use Rattle.bw_flow.specs.Steps.{sets, tests, goes_over, shows, exits};
 ghost use Rattle.bw_flow.specs.Layout.{count, receives, received};
-ghost use Rattle.bw_flow.specs.Drafts.{with_statement, first_of};
+ghost use Rattle.bw_flow.specs.Drawing.{with_statement, first_of};
 
 use crate::counting::{begins, block_points, sum};
 use crate::draft::{Draft, number_behind};

@@ -6,8 +6,8 @@ use Rattle.std.proofs.lemmas.Bool.{cases_lt}
 use Rattle.std.proofs.lemmas.List.{append-nil}
 use Rattle.bw_lang.specs.declared.service.Service.{Service}
 use Rattle.bw_lang.specs.declared.stmt.Kind.TheVariants as kinds
-use Rattle.bw_lang.specs.Code.{Code, done, declare, assign, if_then, if_else, while_loop, block, for_each, show, exit, numbered}
-use Rattle.bw_lang.specs.Term.{Term}
+use Rattle.bw_lang.specs.Service.Code.{Code, done, declare, assign, if_then, if_else, while_loop, block, for_each, show, exit, numbered}
+use Rattle.bw_lang.specs.Service.Term.{Term}
 use Rattle.bw_flow.specs.declared.point.Local.{Local}
 use Rattle.bw_flow.specs.declared.point.Received.{Received}
 use Rattle.bw_flow.specs.Flows.{is_join}
@@ -17,7 +17,7 @@ use Rattle.bw_flow.specs.Stands.{IsAt, Lowered}
 use Rattle.bw_flow.specs.Numbers.{HasNumbers}
 use Rattle.bw_flow.specs.Steps.{Act, Step}
 use Rattle.bw_flow.specs.Steps as acts
-use Rattle.bw_meaning.specs.GoOn.{behind, with_rest}
+use Rattle.bw_meaning.specs.GoOn.{go_on_behind, with_rest}
 use Rattle.bw_meaning.specs.States.{Input, State, Outcome, Rests, Answered, budget}
 use Rattle.bw_meaning.specs.Statements.{declared, taken, then_do, leave, refills, add_rest, each, exec}
 use Rattle.bw_meaning.specs.Values.{Values, list_weight}
@@ -86,13 +86,13 @@ module _ (service : Service) (flow : List Step) (num : HasNumbers flow) (pk : �
       Lowered service flow c n sc d p q → IsScoped service c sc → names_in sc ++ declared c ≡ names_in scq ++ ys → d ≡ length rs →
       around ≡ rests_weight rs → Means service flow q scq rs r k →
       n ≤ x.number → x.number < n + numbered c → budget + refills w ≤ r → length rs + length inner ≡ x.inside →
-      Back (rs ++ inner) d (names_in sc ++ declared c) rs (λ st. k (cut (length scq) st)) (behind service c n around (to inner))
+      Back (rs ++ inner) d (names_in sc ++ declared c) rs (λ st. k (cut (length scq) st)) (go_on_behind service c n around (to inner))
   back done n sc d p q around rs inner scq ys r k low s eq ed ea m a b c z = absurd (omega arith)
   back (declare kd v e rest) n sc d p q around rs inner scq ys r k low s eq ed ea m a b c z =
       let sc1 = with_local sc v kd in
       let e1 = ap (λ l. l ++ declared rest) (names_with sc v kd) ∙ append_assoc (names_in sc) (v ∷ []) (declared rest) in
       ⊎_elim (λ lt. absurd (other_point p (step n sc d (acts.sets v e) (low.0 ∷ [])) low.1 refl refl a lt))
-      (λ le. subst (λ ns. Back (rs ++ inner) d ns rs (λ st. k (cut (length scq) st)) (behind service rest (n + 1) around (to inner))) e1
+      (λ le. subst (λ ns. Back (rs ++ inner) d ns rs (λ st. k (cut (length scq) st)) (go_on_behind service rest (n + 1) around (to inner))) e1
       (back rest (n + 1) sc1 d low.0 q around rs inner scq ys r k low.2 s.1 (e1 ∙ eq) ed ea m le (omega arith) c z)) (cases_lt x.number (n + 1))
   back (assign v e rest) n sc d p q around rs inner scq ys r k low s eq ed ea m a b c z =
       ⊎_elim (λ lt. absurd (other_point p (step n sc d (acts.sets v e) (low.0 ∷ [])) low.1 refl refl a lt))
@@ -104,7 +104,7 @@ module _ (service : Service) (flow : List Step) (num : HasNumbers flow) (pk : �
       let kq = λ (st1 : State). k (cut (length scq) st1) in
       let y = step n sc d (acts.shows e (receives service sc fs)) (low.0 ∷ []) in
       let now = exec service rest (n + 1) around (taken fs l i w) in
-      let later = behind service rest (n + 1) around (to inner) in
+      let later = go_on_behind service rest (n + 1) around (to inner) in
       ⊎_elim
       (λ lt.
       let h = same_point p y low.1 refl a lt in
@@ -139,9 +139,9 @@ module _ (service : Service) (flow : List Step) (num : HasNumbers flow) (pk : �
       let next = exec service rest n2 around in
       let kr = λ (st1 : State). on rs kq (next st1) in
       let ns = names_in sc ++ declared rest in
-      let o = behind service b n around (to inner) in
+      let o = go_on_behind service b n around (to inner) in
       let o1 = then_do (leave (declared b) o) next in
-      let o2 = behind service rest n2 around (to inner) in
+      let o2 = go_on_behind service rest n2 around (to inner) in
       ⊎_elim
       (λ inside. back_to (rs ++ inner) d ns rs kq o1 (if nat_lt x.number n2 then o1 else o2) (sym (if_below x.number n2 o1 o2 inside))
       (back_inner b rest n n2 d low.0 around q sc sc [] (rs ++ inner) rs kq o low.2 s.1 refl s.0
@@ -156,9 +156,9 @@ module _ (service : Service) (flow : List Step) (num : HasNumbers flow) (pk : �
       let next = exec service rest n2 around in
       let kr = λ (st1 : State). on rs kq (next st1) in
       let ns = names_in sc ++ declared rest in
-      let o = behind service y (n + 1) around (to inner) in
+      let o = go_on_behind service y (n + 1) around (to inner) in
       let o1 = then_do (leave (declared y) o) next in
-      let o2 = behind service rest n2 around (to inner) in
+      let o2 = go_on_behind service rest n2 around (to inner) in
       ⊎_elim (λ at. absurd (other_point p (step n sc d (acts.tests e) (low.0 ∷ low.1 ∷ [])) low.3 refl refl a at))
       (λ past. ⊎_elim
       (λ inside. back_to (rs ++ inner) d ns rs kq o1 (if nat_lt x.number n2 then o1 else o2) (sym (if_below x.number n2 o1 o2 inside))
@@ -177,11 +177,11 @@ module _ (service : Service) (flow : List Step) (num : HasNumbers flow) (pk : �
       let next = exec service rest n3 around in
       let kr = λ (st1 : State). on rs kq (next st1) in
       let ns = names_in sc ++ declared rest in
-      let oy = behind service y (n + 1) around (to inner) in
-      let of = behind service f n2 around (to inner) in
+      let oy = go_on_behind service y (n + 1) around (to inner) in
+      let of = go_on_behind service f n2 around (to inner) in
       let o1 = then_do (leave (declared y) oy) next in
       let o2 = then_do (leave (declared f) of) next in
-      let o3 = behind service rest n3 around (to inner) in
+      let o3 = go_on_behind service rest n3 around (to inner) in
       let o23 = if nat_lt x.number n3 then o2 else o3 in
       let all = if nat_lt x.number n2 then o1 else o23 in
       let mj = means_join service flow low.2 low.3 n d sc rs r kr low.5 (sim service flow rest n3 sc d low.3 q around rs scq ys r k low.8 s.2 eq ed ea m) in
@@ -205,9 +205,9 @@ module _ (service : Service) (flow : List Step) (num : HasNumbers flow) (pk : �
       let loop = exec service (while_loop e b rest) n around in
       let kw = λ (st1 : State). on rs kq (loop st1) in
       let ns = names_in sc ++ declared rest in
-      let o = behind service b (n + 1) around (to inner) in
+      let o = go_on_behind service b (n + 1) around (to inner) in
       let o1 = then_do (leave (declared b) o) loop in
-      let o2 = behind service rest n2 around (to inner) in
+      let o2 = go_on_behind service rest n2 around (to inner) in
       ⊎_elim (λ at. absurd (other_point p (step n sc d (acts.tests e) (low.0 ∷ low.1 ∷ [])) low.2 refl refl a at))
       (λ past. ⊎_elim
       (λ inside. back_to (rs ++ inner) d ns rs kq o1 (if nat_lt x.number n2 then o1 else o2) (sym (if_below x.number n2 o1 o2 inside))
@@ -226,8 +226,8 @@ module _ (service : Service) (flow : List Step) (num : HasNumbers flow) (pk : �
       let names = v ∷ declared b in
       let body = λ (ws : List (List ℕ)). exec service b (n + 1) (around + list_weight ws) in
       let o1 = then_do (with_rest []
-      (λ vs others. then_do (leave names (add_rest vs (behind service b (n + 1) (around + list_weight vs) (to others)))) (each vs v names body))) next in
-      let o2 = behind service rest n2 around (to []) in
+      (λ vs others. then_do (leave names (add_rest vs (go_on_behind service b (n + 1) (around + list_weight vs) (to others)))) (each vs v names body))) next in
+      let o2 = go_on_behind service rest n2 around (to []) in
       ⊎_elim (λ at. absurd (other_point p (step n sc d (acts.goes_over v e) (low.0 ∷ low.1 ∷ [])) low.2 refl refl a at))
       (λ past. ⊎_elim
       (λ inside. let h = showing.deep service flow num pk x page fields here is b (n + 1) (with_local sc v kinds.Str) (d + 1) low.0 p low.3 past inside in absurd (omega arith))
@@ -247,10 +247,10 @@ module _ (service : Service) (flow : List Step) (num : HasNumbers flow) (pk : �
       let body = λ (ws : List (List ℕ)). exec service b (n + 1) (around + list_weight ws) in
       let turn = each vs v names body in
       let k2 = λ (st1 : State). on rs kr (turn st1) in
-      let o = behind service b (n + 1) (around + list_weight vs) (to inner) in
+      let o = go_on_behind service b (n + 1) (around + list_weight vs) (to inner) in
       let once = leave names (add_rest vs o) in
       let o1 = then_do (then_do once turn) next in
-      let o2 = behind service rest n2 around (to (vs ∷ inner)) in
+      let o2 = go_on_behind service rest n2 around (to (vs ∷ inner)) in
       let e1 = ap (λ l. l ++ declared b) (names_with sc v kinds.Str) ∙ append_assoc (names_in sc) (v ∷ []) (declared b) in
       let ap1 = unknown_apart service sc v (declared b) s.0 (apart_with sc v kinds.Str (declared b) (scoped_apart service b sc1 s.1)) in
       let lm = length_more rs vs in

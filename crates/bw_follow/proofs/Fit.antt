@@ -1,12 +1,12 @@
 -- The frames that turns show are fit.
 use Rattle.std.proofs.Common.{◌≡◌, ℕ, ◌+◌, ◌<◌, ◌≤◌, [], length, refl, sym, ap, ◌∙◌, subst, arith}
 use Rattle.bw_lang.specs.declared.service.Service.{Service}
-use Rattle.bw_lang.specs.Code.{numbered}
+use Rattle.bw_lang.specs.Service.Code.{numbered}
 use Rattle.bw_flow.specs.Layout.{points, plan_of}
 use Rattle.bw_flow.proofs.Stands.{stands_for_all}
 use Rattle.bw_flow.proofs.Numbered.{all_have_numbers}
-use Rattle.bw_meaning.specs.GoOn.{behind, body_of}
-use Rattle.bw_lang.specs.Numbers.{first_number}
+use Rattle.bw_meaning.specs.GoOn.{go_on_behind, body_of}
+use Rattle.bw_lang.specs.Service.Numbers.{first_number}
 use Rattle.bw_meaning.specs.States.{Input, State, Went, Shown, Answered, Rests, budget}
 use Rattle.bw_meaning.specs.Statements.{declared, refills, room}
 use Rattle.bw_meaning.proofs.ExecLaw.{behind_good}
@@ -66,7 +66,7 @@ shown_again_is_fit service session p0 x0 e0 rs0 a i at locals rests shown sh uni
     let h = back service flow (all_have_numbers service) p0 x0 e0 rs0 at0 is a.locals a.input a.later fit.names body n [] 0 f.first (length flow) 0
     [] a.rests [] (declared body) r (λ st1. Went st1) f.lowered f.scoped refl refl refl
     (means_end service flow (length flow) r (at_end flow)) of.from of.below (omega arith) (none_more (length a.rests) ∙ fit.rests) in
-    let e1 : behind service body n 0 a1 ≡ Shown at locals rests shown sh units = ap (λ k. behind service body n 0 (record a { at = k }))
+    let e1 : go_on_behind service body n 0 a1 ≡ Shown at locals rests shown sh units = ap (λ k. go_on_behind service body n 0 (record a { at = k }))
     (sym fit.number) ∙ e in
     let w : Waits flow 0 at locals rests = subst (Ends flow 0 (declared body)) e1 h.ends in
     let g = subst (Good n (n + numbered body) r) e1 (behind_good service body n 0 a1) in

@@ -3,8 +3,8 @@ use Rattle.std.proofs.Common.{◌≡◌, ℕ, ◌+◌, List, [], map, Some, true
 use Rattle.std.specs.Prelude.{slice_get, length}
 use Rattle.std.proofs.lemmas.List.Elements.{All-weaker}
 use Rattle.std.proofs.lemmas.Option.{slice_get_within, same_Some}
-use Rattle.bw_lang.specs.Numbers.{first_number}
-use Rattle.bw_lang.specs.Term.{Term}
+use Rattle.bw_lang.specs.Service.Numbers.{first_number}
+use Rattle.bw_lang.specs.Service.Term.{Term}
 use Rattle.bw_types.specs.declared.typed.Typed.{Typed}
 use Rattle.bw_types.specs.Faults.{ends_in_exit}
 use Rattle.bw_types.specs.Typing.{IsTypedSession}

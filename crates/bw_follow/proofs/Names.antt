@@ -9,12 +9,12 @@ use Rattle.std.proofs.lemmas.Cmp.{nat_list_eq_equiv}
 use Rattle.bw_lang.specs.declared.service.Service.{Service}
 use Rattle.bw_lang.specs.declared.stmt.Kind.{Kind}
 use Rattle.bw_lang.specs.declared.stmt.Receive.{Receive}
-use Rattle.bw_lang.specs.Code.{Code, done, declare, assign, if_then, if_else, while_loop, block, for_each, show, exit}
-use Rattle.bw_lang.specs.Names.{same}
+use Rattle.bw_lang.specs.Service.Code.{Code, done, declare, assign, if_then, if_else, while_loop, block, for_each, show, exit}
+use Rattle.bw_lang.specs.Table.Names.{same}
 use Rattle.bw_flow.specs.declared.point.Local.{Local}
 use Rattle.bw_flow.specs.Scopes.{kind_in, with_local}
 use Rattle.bw_types.specs.Scopes.{shared_kind}
-use Rattle.bw_lang.specs.Submissions.{values_of}
+use Rattle.bw_lang.specs.Service.Submissions.{values_of}
 use Rattle.bw_meaning.specs.Forms.{received_value}
 use Rattle.bw_meaning.specs.States.{Form, Input, State, budget}
 use Rattle.bw_meaning.specs.Statements.{declared, add_local, store, variable, received, taken}

@@ -16,12 +16,12 @@ use Rattle.bw_lang.specs.declared.stmt.Kind.{Kind}
 use Rattle.bw_lang.specs.declared.stmt.Kind.TheVariants as kinds
 use Rattle.bw_lang.specs.declared.turn.TurnFault.{TurnFault}
 use Rattle.bw_lang.specs.declared.turn.TurnFault.TheVariants as faults
-use Rattle.bw_lang.specs.Documents as doc
-use Rattle.bw_lang.specs.Forest.{Forest}
-use Rattle.bw_lang.specs.Measures.{text_measure, plugged, tested}
-use Rattle.bw_lang.specs.Names as names
-use Rattle.bw_lang.specs.Names.{same, beside}
-use Rattle.bw_lang.specs.Term.{Term, int, truth, string, name, paren, not, neg, binary, call, plug, nothing, Fillings, no_more, filling}
+use Rattle.bw_lang.specs.Document.Documents as doc
+use Rattle.bw_lang.specs.Document.Forest.{Forest}
+use Rattle.bw_lang.specs.Document.Measures.{text_measure, plugged, tested}
+use Rattle.bw_lang.specs.Table.Names as names
+use Rattle.bw_lang.specs.Table.Names.{same, beside}
+use Rattle.bw_lang.specs.Service.Term.{Term, int, truth, string, name, paren, not, neg, binary, call, plug, nothing, Fillings, no_more, filling}
 use Rattle.bw_types.specs.ExpressionFaults.{op_sort, fun_takes, fun_gives}
 use Rattle.bw_types.specs.Scopes.{Scope, is_among, variable_kind, name_kind}
 use Rattle.bw_types.specs.Typing.{HasKind, AreTyped, Takes}
@@ -232,8 +232,8 @@ module _ (service : Service) (scope : Scope) (locals shared : Values) (el : kind
     fills (filling g e ps) d units h ed =
         let t = h.0 in
         then_has t.1 kinds.Html (eval service locals shared e units) _ (has e t.1 units t.3) (λ v u1 ev.
-        then_has kinds.Html kinds.Html (given (filled (names.number service.gaps g) v (document_of d)) u1) _
-        (given_has kinds.Html (filled (names.number service.gaps g) v (document_of d)) u1 (filled_has (names.number service.gaps g) v (document_of d)))
+        then_has kinds.Html kinds.Html (given (filled (names.name_number service.gaps g) v (document_of d)) u1) _
+        (given_has kinds.Html (filled (names.name_number service.gaps g) v (document_of d)) u1 (filled_has (names.name_number service.gaps g) v (document_of d)))
         (λ d1 u2 e1. fills ps d1 u2 h.1 e1))
 
 pub values_have_kinds : ValuesHaveKinds

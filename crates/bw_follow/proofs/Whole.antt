@@ -9,7 +9,7 @@ use Rattle.std.proofs.lemmas.Option.{slice_get_past, slice_get_within, same_Some
 use Rattle.bw_lang.specs.declared.service.Service.{Service}
 use Rattle.bw_lang.specs.declared.service.Session.{Session}
 use Rattle.bw_lang.specs.declared.turn.TurnFault.{TurnFault}
-use Rattle.bw_lang.specs.Code.{Code, done, declare, assign, if_then, if_else, while_loop, block, for_each, show, exit, numbered}
+use Rattle.bw_lang.specs.Service.Code.{Code, done, declare, assign, if_then, if_else, while_loop, block, for_each, show, exit, numbered}
 use Rattle.bw_flow.specs.Layout.{points, session_firsts, plan_of}
 use Rattle.bw_flow.specs.Stands.{Lowered, AllLowered}
 use Rattle.bw_types.specs.Faults.{ends_in_exit}
@@ -20,8 +20,8 @@ use Rattle.bw_flow.specs.Steps.{Step}
 use Rattle.bw_flow.proofs.Stands.{stands_for_all}
 use Rattle.bw_flow.proofs.Numbered.{all_have_numbers}
 use Rattle.bw_meaning.specs.Expressions.{Evaluated, Gives, Faults, eval}
-use Rattle.bw_meaning.specs.GoOn.{behind, with_rest, body_of, go_on}
-use Rattle.bw_lang.specs.Numbers.{first_number, statements}
+use Rattle.bw_meaning.specs.GoOn.{go_on_behind, with_rest, body_of, go_on}
+use Rattle.bw_lang.specs.Service.Numbers.{first_number, statements}
 use Rattle.bw_meaning.specs.Operators.{document_of, truth_of, list_of}
 use Rattle.bw_meaning.specs.Pages.{exit_fault}
 use Rattle.bw_meaning.specs.States.{State, Outcome, Went, Shown, Exited, Failed, Answered, budget}
@@ -101,43 +101,43 @@ module _ (service : Service) (around : ℕ) where
       (λ u. not_given (eval service st.locals st.shared p u) (λ v w. exits (document_of v) (record st { units = w }))
       (λ v w. not_unless (exit_fault (document_of v) st.shared) w (document_of v) st.shared w))
 
-  never_back : (c : Code) (n : ℕ) (b : Bool) (a : Answered) → closes b c ≡ true → NotWent (behind service c n around a)
+  never_back : (c : Code) (n : ℕ) (b : Bool) (a : Answered) → closes b c ≡ true → NotWent (go_on_behind service c n around a)
   never_back done n b a h = tt
   never_back (declare k w e rest) n b a h = never_back rest (n + 1) false a h
   never_back (assign w e rest) n b a h = never_back rest (n + 1) false a h
   never_back (if_then t y rest) n b a h =
       let m = n + 1 + numbered y in
-      not_if (nat_lt a.at m) (then_do (leave (declared y) (behind service y (n + 1) around a)) (exec service rest m around)) (behind service rest m around a)
-      (not_then (leave (declared y) (behind service y (n + 1) around a)) (exec service rest m around) (λ st. never rest m st h)) (never_back rest m false a h)
+      not_if (nat_lt a.at m) (then_do (leave (declared y) (go_on_behind service y (n + 1) around a)) (exec service rest m around)) (go_on_behind service rest m around a)
+      (not_then (leave (declared y) (go_on_behind service y (n + 1) around a)) (exec service rest m around) (λ st. never rest m st h)) (never_back rest m false a h)
   never_back (if_else t y z rest) n b a h =
       let k = n + 1 + numbered y in
       let m = k + numbered z in
       let next = exec service rest m around in
-      let o1 = leave (declared y) (behind service y (n + 1) around a) in
-      let o2 = leave (declared z) (behind service z k around a) in
-      let o3 = behind service rest m around a in
+      let o1 = leave (declared y) (go_on_behind service y (n + 1) around a) in
+      let o2 = leave (declared z) (go_on_behind service z k around a) in
+      let o3 = go_on_behind service rest m around a in
       not_if (nat_lt a.at k) (then_do o1 next) (if nat_lt a.at m then then_do o2 next else o3) (not_then o1 next (λ st. never rest m st h))
       (not_if (nat_lt a.at m) (then_do o2 next) o3 (not_then o2 next (λ st. never rest m st h)) (never_back rest m false a h))
   never_back (while_loop t c rest) n b a h =
       let m = n + 1 + numbered c in
       let loop = exec service (while_loop t c rest) n around in
-      not_if (nat_lt a.at m) (then_do (leave (declared c) (behind service c (n + 1) around a)) loop) (behind service rest m around a)
-      (not_then (leave (declared c) (behind service c (n + 1) around a)) loop (λ st. never (while_loop t c rest) n st h)) (never_back rest m false a h)
+      not_if (nat_lt a.at m) (then_do (leave (declared c) (go_on_behind service c (n + 1) around a)) loop) (go_on_behind service rest m around a)
+      (not_then (leave (declared c) (go_on_behind service c (n + 1) around a)) loop (λ st. never (while_loop t c rest) n st h)) (never_back rest m false a h)
   never_back (block c rest) n b a h =
       let m = n + numbered c in
-      not_if (nat_lt a.at m) (then_do (leave (declared c) (behind service c n around a)) (exec service rest m around)) (behind service rest m around a)
-      (not_then (leave (declared c) (behind service c n around a)) (exec service rest m around) (λ st. never rest m st h)) (never_back rest m false a h)
+      not_if (nat_lt a.at m) (then_do (leave (declared c) (go_on_behind service c n around a)) (exec service rest m around)) (go_on_behind service rest m around a)
+      (not_then (leave (declared c) (go_on_behind service c n around a)) (exec service rest m around) (λ st. never rest m st h)) (never_back rest m false a h)
   never_back (for_each w e c rest) n b a h =
       let m = n + 1 + numbered c in
       let names = w ∷ declared c in
       let o = with_rest a.rests
-      (λ vs inner. then_do (leave names (add_rest vs (behind service c (n + 1) (around + list_weight vs) (record a { rests = inner }))))
+      (λ vs inner. then_do (leave names (add_rest vs (go_on_behind service c (n + 1) (around + list_weight vs) (record a { rests = inner }))))
       (each vs w names (λ more. exec service c (n + 1) (around + list_weight more)))) in
-      not_if (nat_lt a.at m) (then_do o (exec service rest m around)) (behind service rest m around a)
+      not_if (nat_lt a.at m) (then_do o (exec service rest m around)) (go_on_behind service rest m around a)
       (not_then o (exec service rest m around) (λ st. never rest m st h)) (never_back rest m false a h)
   never_back (show p rs rest) n b a h =
       let st = taken rs a.locals a.input a.later in
-      not_if (a.at == n) (exec service rest (n + 1) around st) (behind service rest (n + 1) around a) (never rest (n + 1) st h)
+      not_if (a.at == n) (exec service rest (n + 1) around st) (go_on_behind service rest (n + 1) around a) (never rest (n + 1) st h)
       (never_back rest (n + 1) false a h)
   never_back (exit p rest) n b a h = never_back rest (n + 1) true a h
 
@@ -237,11 +237,11 @@ going_on_agrees service session p x e rs a ready at is fit of =
     (in_range ss session n (omega (arith, of.from, of.below))) in
     let a1 : Answered = record a { at = x.number } in
     let r = budget + refills a.later in
-    let o = behind service body n 0 a1 in
+    let o = go_on_behind service body n 0 a1 in
     let h = back service flow (all_have_numbers service) p x e rs at is a.locals a.input a.later fit.names body n [] 0 f.first (length flow) 0 []
     a.rests [] (declared body) r (λ st1. Went st1) f.lowered f.scoped refl refl refl
     (means_end service flow (length flow) r (at_end flow)) of.from of.below (omega arith) (none_more (length a.rests) ∙ fit.rests) in
-    let same : o ≡ go_on service session a = ap (λ k. behind service body n 0 (record a { at = k })) (sym fit.number) in
+    let same : o ≡ go_on service session a = ap (λ k. go_on_behind service body n 0 (record a { at = k })) (sym fit.number) in
     settles_to (λ g. run service flow g (first_of x.next) a.rests (taken (map plain rs) a.locals a.input a.later))
     (on [] (λ st1. Went (cut 0 st1)) o) (go_on service session a)
     (on_same o (λ st1. Went (cut 0 st1)) (never_back service 0 body n false a1 f.closed) ∙ same) h.runs

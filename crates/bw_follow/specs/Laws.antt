@@ -1,14 +1,14 @@
 -- The flow means what the statements mean.
 use Rattle.std.specs.Prelude.{◌≡◌, ◌≤◌, ◌<◌, ℕ, ◌+◌, List, [], length, map, Some, slice_get}
 use Rattle.bw_lang.specs.declared.service.Service.{Service}
-use Rattle.bw_lang.specs.Code.{numbered}
-use Rattle.bw_lang.specs.Term.{Term}
+use Rattle.bw_lang.specs.Service.Code.{numbered}
+use Rattle.bw_lang.specs.Service.Term.{Term}
 use Rattle.bw_types.specs.declared.typed.Typed.{Typed}
 use Rattle.bw_flow.specs.declared.point.Received.{Received}
 use Rattle.bw_flow.specs.Layout.{plan_of}
 use Rattle.bw_flow.specs.Steps.{Step}
 use Rattle.bw_flow.specs.Steps as acts
-use Rattle.bw_lang.specs.Numbers.{first_number}
+use Rattle.bw_lang.specs.Service.Numbers.{first_number}
 use Rattle.bw_meaning.specs.GoOn.{body_of, turn, go_on}
 use Rattle.bw_meaning.specs.Laws.{answered}
 use Rattle.bw_meaning.specs.States.{Input, Outcome, Shown, Answered, Rests, budget}

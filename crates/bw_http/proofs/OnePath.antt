@@ -7,8 +7,8 @@ use Rattle.std.proofs.lemmas.Fmt.{decimal_is_IsNumeral}
 use Rattle.std.specs.List.{AllPass}
 use Rattle.std.specs.Char.{digit_char}
 use Rattle.std.specs.Str.Parse.{digits_value}
-use Rattle.bw_lang.specs.Bytes.{is_word_byte}
-use Rattle.bw_lang.specs.TokenForms.{IsWord}
+use Rattle.bw_lang.specs.Text.Bytes.{is_word_byte}
+use Rattle.bw_lang.specs.Text.TokenForms.{IsWord}
 use Rattle.httparse.specs.Grammar.{RequestHead}
 use Rattle.bw_http.specs.declared.request.Request.{Request}
 use Rattle.bw_http.specs.declared.request.Method.{Method}

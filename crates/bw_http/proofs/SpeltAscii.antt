@@ -7,8 +7,8 @@ use Rattle.std.proofs.lemmas.Fmt.{IsAscii-decimal}
 use Rattle.std.specs.List.{list_all, AllPass}
 use Rattle.std.specs.Prelude.{All, IsUtf8}
 use Rattle.std.specs.Str.{IsAscii}
-use Rattle.bw_lang.specs.Bytes.{is_letter, is_word_byte}
-use Rattle.bw_lang.specs.TokenForms.{IsWord}
+use Rattle.bw_lang.specs.Text.Bytes.{is_letter, is_word_byte}
+use Rattle.bw_lang.specs.Text.TokenForms.{IsWord}
 use Rattle.bw_http.specs.declared.request.Path.{Path}
 use Rattle.bw_http.specs.declared.request.Path.TheVariants.{Index, Start, Turn, Other}
 use Rattle.bw_http.specs.Paths.{hex_digits, is_key_digit, IsCount, IsForm, spelling}

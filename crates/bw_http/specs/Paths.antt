@@ -3,8 +3,8 @@ use Rattle.std.specs.Prelude.{◌≡◌, ◌≢◌, ℕ, ◌/◌, ◌%◌, ◌^�
 use Rattle.std.specs.List.{position_or_len}
 use Rattle.std.specs.Str.{byte}
 use Rattle.std.specs.Char.{digit_char}
-use Rattle.bw_lang.specs.Bytes.{is_digit, is_between}
-use Rattle.bw_lang.specs.TokenForms.{IsWord}
+use Rattle.bw_lang.specs.Text.Bytes.{is_digit, is_between}
+use Rattle.bw_lang.specs.Text.TokenForms.{IsWord}
 use Rattle.bw_http.specs.Decisions.{same_word}
 use Rattle.bw_http.specs.declared.request.Path.{Path}
 use Rattle.bw_http.specs.declared.request.Path.TheVariants.{Index, Start, Turn, Other}

@@ -7,11 +7,11 @@ use Rattle.bw_http.specs.declared.replies.Allow.TheVariants as methods
 use Rattle.bw_http.specs.declared.replies.Reply.{Reply}
 use Rattle.bw_http.specs.declared.replies.Reply.TheVariants as replies
 
--- a head with this status, type, further field lines and length
+-- a head with this status line, type, further field lines and length
 abbrev pub head : List ℕ → List ℕ → List ℕ → ℕ → List ℕ
 head status type more n =
-    codes "HTTP/1.1 " ++ (status ++ (codes "\r\nContent-Type: " ++ (type ++ (codes "\r\nContent-Length: " ++ (decimal n
-    ++ (codes "\r\n" ++ (more ++ codes "Cache-Control: no-store\r\nConnection: close\r\n\r\n")))))))
+    status ++ (codes "\r\nContent-Type: " ++ (type ++ (codes "\r\nContent-Length: " ++ (decimal n
+    ++ (codes "\r\n" ++ (more ++ codes "Cache-Control: no-store\r\nConnection: close\r\n\r\n"))))))
 
 -- a head for this body, and the body
 abbrev pub message : List ℕ → List ℕ → List ℕ → List ℕ → List ℕ
@@ -61,24 +61,24 @@ fault_words faults.Memory = codes "out of memory"
 
 -- what is written for a reply of a service whose fields have these names
 abbrev pub bytes_of : List (List ℕ) → Reply → List ℕ
-bytes_of names (replies.Index list) = message (codes "200 OK") text_type [] list
-bytes_of names (replies.Page page) = message (codes "200 OK") html_type [] page
-bytes_of names (replies.Final page) = message (codes "200 OK") html_type [] page
-bytes_of names replies.Bad = plain (codes "400 Bad Request") (codes "bad request")
-bytes_of names replies.NoSuch = plain (codes "404 Not Found") (codes "no such page")
-bytes_of names (replies.Method allow) = message (codes "405 Method Not Allowed") text_type (allow_line allow) (codes "method not allowed\n")
-bytes_of names (replies.Stale turn) = plain (codes "409 Conflict") (codes "current turn " ++ decimal turn)
-bytes_of names replies.LengthRequired = plain (codes "411 Length Required") (codes "length required")
-bytes_of names replies.BodyTooLong = plain (codes "413 Content Too Large") (codes "body too large")
-bytes_of names replies.Media = plain (codes "415 Unsupported Media Type") (codes "form data wanted")
-bytes_of names (replies.Lacking field) = plain (codes "422 Unprocessable Content") (codes "lacking " ++ shown_name names field)
-bytes_of names (replies.Repeated field) = plain (codes "422 Unprocessable Content") (codes "repeated " ++ shown_name names field)
-bytes_of names (replies.FieldTooLong field) = plain (codes "422 Unprocessable Content") (codes "too long " ++ shown_name names field)
-bytes_of names replies.HeadTooLong = plain (codes "431 Request Header Fields Too Large") (codes "head too large")
-bytes_of names (replies.Failed fault) = plain (codes "500 Internal Server Error") (fault_words fault)
-bytes_of names replies.NoNumbers = plain (codes "503 Service Unavailable") (codes "no numbers")
-bytes_of names replies.NoTurns = plain (codes "503 Service Unavailable") (codes "no turns")
-bytes_of names replies.Memory = plain (codes "503 Service Unavailable") (codes "out of memory")
+bytes_of names (replies.Index list) = message (codes "HTTP/1.1 200 OK") text_type [] list
+bytes_of names (replies.Page page) = message (codes "HTTP/1.1 200 OK") html_type [] page
+bytes_of names (replies.Final page) = message (codes "HTTP/1.1 200 OK") html_type [] page
+bytes_of names replies.Bad = plain (codes "HTTP/1.1 400 Bad Request") (codes "bad request")
+bytes_of names replies.NoSuch = plain (codes "HTTP/1.1 404 Not Found") (codes "no such page")
+bytes_of names (replies.Method allow) = message (codes "HTTP/1.1 405 Method Not Allowed") text_type (allow_line allow) (codes "method not allowed\n")
+bytes_of names (replies.Stale turn) = plain (codes "HTTP/1.1 409 Conflict") (codes "current turn " ++ decimal turn)
+bytes_of names replies.LengthRequired = plain (codes "HTTP/1.1 411 Length Required") (codes "length required")
+bytes_of names replies.BodyTooLong = plain (codes "HTTP/1.1 413 Content Too Large") (codes "body too large")
+bytes_of names replies.Media = plain (codes "HTTP/1.1 415 Unsupported Media Type") (codes "form data wanted")
+bytes_of names (replies.Lacking field) = plain (codes "HTTP/1.1 422 Unprocessable Content") (codes "lacking " ++ shown_name names field)
+bytes_of names (replies.Repeated field) = plain (codes "HTTP/1.1 422 Unprocessable Content") (codes "repeated " ++ shown_name names field)
+bytes_of names (replies.FieldTooLong field) = plain (codes "HTTP/1.1 422 Unprocessable Content") (codes "too long " ++ shown_name names field)
+bytes_of names replies.HeadTooLong = plain (codes "HTTP/1.1 431 Request Header Fields Too Large") (codes "head too large")
+bytes_of names (replies.Failed fault) = plain (codes "HTTP/1.1 500 Internal Server Error") (fault_words fault)
+bytes_of names replies.NoNumbers = plain (codes "HTTP/1.1 503 Service Unavailable") (codes "no numbers")
+bytes_of names replies.NoTurns = plain (codes "HTTP/1.1 503 Service Unavailable") (codes "no turns")
+bytes_of names replies.Memory = plain (codes "HTTP/1.1 503 Service Unavailable") (codes "out of memory")
 
 -- the fields that it names are there, and it is no want of memory under the name of a fault
 abbrev pub IsReply : List (List ℕ) → Reply → Type 0

@@ -1,8 +1,8 @@
 //! The path that a target leads to.
 ghost use Rattle.std.specs.Prelude.{◌≡◌, ◌≢◌, ◌⊎◌, ℕ, ◌^◌, ◌<◌, ◌≤◌, ◌++◌, List, length, slice_index, true, codes, IsTrue, IfOk, MatchOption, decimal};
 ghost use Rattle.std.specs.List.{list_all, AllPass};
-ghost use Rattle.bw_lang.specs.Bytes as bytes;
-ghost use Rattle.bw_lang.specs.TokenForms.{IsWord};
+ghost use Rattle.bw_lang.specs.Text.Bytes as bytes;
+ghost use Rattle.bw_lang.specs.Text.TokenForms.{IsWord};
 ghost use Rattle.bw_http.specs.Paths as spec;
 ghost use Rattle.bw_http.specs.Paths.{IsCount, IsPath, LeadsTo, SpellsTurn, SpellsNoTurn, SpellsName, SpellsNoName, HasNo, IsCutAt, hex_digits};
 

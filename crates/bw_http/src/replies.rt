@@ -79,31 +79,50 @@ pub fn write_reply<W: Sink>(
         Reply::Repeated(field) => write_field(b"repeated ", field, fields, sink),
         Reply::FieldTooLong(field) => write_field(b"too long ", field, fields, sink),
         Reply::Method(allow) => write_allowed(allow, sink),
-        Reply::Stale(turn) => { write_number(b"409 Conflict", b"current turn ", turn as u64, sink) }
+        Reply::Stale(turn) => {
+            write_number(
+                b"HTTP/1.1 409 Conflict",
+                b"current turn ",
+                turn as u64,
+                sink,
+            )
+        }
         Reply::Failed(fault) => write_failed(fault, sink),
-        Reply::Bad => write_words(b"400 Bad Request", b"bad request", sink),
-        Reply::NoSuch => write_words(b"404 Not Found", b"no such page", sink),
-        Reply::LengthRequired => write_words(b"411 Length Required", b"length required", sink),
-        Reply::BodyTooLong => write_words(b"413 Content Too Large", b"body too large", sink),
-        Reply::Media => write_words(b"415 Unsupported Media Type", b"form data wanted", sink),
+        Reply::Bad => write_words(b"HTTP/1.1 400 Bad Request", b"bad request", sink),
+        Reply::NoSuch => write_words(b"HTTP/1.1 404 Not Found", b"no such page", sink),
+        Reply::LengthRequired => write_words(
+            b"HTTP/1.1 411 Length Required",
+            b"length required",
+            sink,
+        ),
+        Reply::BodyTooLong => write_words(
+            b"HTTP/1.1 413 Content Too Large",
+            b"body too large",
+            sink,
+        ),
+        Reply::Media => write_words(
+            b"HTTP/1.1 415 Unsupported Media Type",
+            b"form data wanted",
+            sink,
+        ),
         Reply::HeadTooLong => {
             write_words(
-                b"431 Request Header Fields Too Large",
+                b"HTTP/1.1 431 Request Header Fields Too Large",
                 b"head too large",
                 sink,
             )
         }
-        Reply::NoNumbers => write_words(b"503 Service Unavailable", b"no numbers", sink),
-        Reply::NoTurns => write_words(b"503 Service Unavailable", b"no turns", sink),
-        Reply::Memory => write_words(b"503 Service Unavailable", b"out of memory", sink),
+        Reply::NoNumbers => write_words(b"HTTP/1.1 503 Service Unavailable", b"no numbers", sink),
+        Reply::NoTurns => write_words(b"HTTP/1.1 503 Service Unavailable", b"no turns", sink),
+        Reply::Memory => write_words(b"HTTP/1.1 503 Service Unavailable", b"out of memory", sink),
     }
 }
 
 /// Writes the reply to a turn that failed.
 fn write_failed<W: Sink>(fault: TurnFault, sink: &mut W) -> Result<(), WriteFault>
-    ensures { Sends W.Channel sink.old sink.new (plain (codes "500 Internal Server Error") (fault_words fault)) result }
+    ensures { Sends W.Channel sink.old sink.new (plain (codes "HTTP/1.1 500 Internal Server Error") (fault_words fault)) result }
 {
-    let status = b"500 Internal Server Error";
+    let status = b"HTTP/1.1 500 Internal Server Error";
     match fault {
         TurnFault::Spent => write_words(status, b"spent", sink),
         TurnFault::DivideByZero => write_words(status, b"divide by zero", sink),
@@ -134,7 +153,7 @@ fn write_allowed<W: Sink>(allow: Allow, sink: &mut W) -> Result<(), WriteFault>
     ensures { Sends W.Channel sink.old sink.new (bytes_of [] (Reply.Method allow)) result }
 {
     write_text(
-        b"405 Method Not Allowed",
+        b"HTTP/1.1 405 Method Not Allowed",
         allow_line(allow),
         b"method not allowed",
         b"",
@@ -144,9 +163,9 @@ fn write_allowed<W: Sink>(allow: Allow, sink: &mut W) -> Result<(), WriteFault>
 
 /// Writes a page or plain text, of this type.
 fn write_sheet<W: Sink>(kind: &[u8], sheet: Sheet, sink: &mut W) -> Result<(), WriteFault>
-    ensures { Sends W.Channel sink.old sink.new (message (codes "200 OK") kind.now [] sheet) result }
+    ensures { Sends W.Channel sink.old sink.new (message (codes "HTTP/1.1 200 OK") kind.now [] sheet) result }
 {
-    write_head(b"200 OK", kind, b"", sheet.length(), sink)?;
+    write_head(b"HTTP/1.1 200 OK", kind, b"", sheet.length(), sink)?;
     sheet.write(sink)
 }
 
@@ -206,7 +225,7 @@ fn write_field<W: Sink>(
 ) -> Result<(), WriteFault>
     requires { length words.now < 2 ^ 32 }
     ensures { Sends W.Channel sink.old sink.new
-        (plain (codes "422 Unprocessable Content") (words.now ++ shown_name fields.now field)) result }
+        (plain (codes "HTTP/1.1 422 Unprocessable Content") (words.now ++ shown_name fields.now field)) result }
 {
     let name = match fields.name(field) {
         Some(name) => name.as_bytes(),
@@ -219,11 +238,11 @@ fn write_field<W: Sink>(
 fn write_name<W: Sink>(words: &[u8], name: &[u8], sink: &mut W) -> Result<(), WriteFault>
     requires { length words.now < 2 ^ 32 }
     ensures { Sends W.Channel sink.old sink.new
-        (plain (codes "422 Unprocessable Content") (words.now ++ map spec.shown name.now)) result }
+        (plain (codes "HTTP/1.1 422 Unprocessable Content") (words.now ++ map spec.shown name.now)) result }
 {
     let length = line_length(words, name);
     write_head(
-        b"422 Unprocessable Content",
+        b"HTTP/1.1 422 Unprocessable Content",
         b"text/plain; charset=utf-8",
         b"",
         length,
@@ -255,7 +274,7 @@ fn write_shown<W: Sink>(name: &[u8], sink: &mut W) -> Result<(), WriteFault>
     write_all(sink, rest)
 }
 
-/// Writes the head of a reply with a body of so many bytes.
+/// Writes the head of a reply with a body of so many bytes. The status line is one piece, with its version.
 fn write_head<'a, W: Sink>(
     status: &'a [u8],
     kind: &'a [u8],
@@ -269,7 +288,6 @@ fn write_head<'a, W: Sink>(
     write_parts(
         sink,
         &[
-            b"HTTP/1.1 ",
             status,
             b"\r\nContent-Type: ",
             kind,

@@ -2,17 +2,17 @@
 use Rattle.std.proofs.Common.{◌≡◌, ℕ, ◌+◌, ◌<◌, List, [], ◌∷◌, ◌++◌, length, get_or, take, refl, ap, ◌∙◌, append_assoc}
 use Rattle.bw_lang.specs.declared.items.Item.{Item}
 use Rattle.bw_lang.specs.declared.stmt.Stmt.{Stmt}
-use Rattle.bw_lang.specs.Code.{Code, done, declare, assign, if_then, if_else, while_loop, block, for_each, show, exit}
-use Rattle.bw_lang.specs.Code as codes
-use Rattle.bw_lang.specs.CodeNames.{received_fields}
-use Rattle.bw_lang.specs.CodeView.{code}
-use Rattle.bw_lang.specs.CodeView as code_view
-use Rattle.bw_lang.specs.Controls.{control_names}
-use Rattle.bw_lang.specs.Documents as doc
-use Rattle.bw_lang.specs.Forest.{Forest, none, text, gap, element}
-use Rattle.bw_lang.specs.Names.{with_name, with_names}
-use Rattle.bw_lang.specs.View.{forest}
-use Rattle.bw_lang.specs.View as view
+use Rattle.bw_lang.specs.Service.Code.{Code, done, declare, assign, if_then, if_else, while_loop, block, for_each, show, exit}
+use Rattle.bw_lang.specs.Service.Code as codes
+use Rattle.bw_lang.specs.Service.CodeNames.{received_fields}
+use Rattle.bw_lang.specs.Service.CodeView.{code}
+use Rattle.bw_lang.specs.Service.CodeView as code_view
+use Rattle.bw_lang.specs.Template.Controls.{control_names}
+use Rattle.bw_lang.specs.Document.Documents as doc
+use Rattle.bw_lang.specs.Document.Forest.{Forest, none, text, gap, element}
+use Rattle.bw_lang.specs.Table.Names.{with_name, with_names}
+use Rattle.bw_lang.specs.Document.View.{forest}
+use Rattle.bw_lang.specs.Document.View as view
 use Rattle.bw_lang.proofs.Forests.{forest_at_read}
 use Rattle.bw_lang.proofs.Codes.{statements_take}
 

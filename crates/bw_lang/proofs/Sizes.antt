@@ -5,12 +5,12 @@ use Rattle.bw_lang.specs.declared.expr.Pair.{Pair}
 use Rattle.bw_lang.specs.declared.expr.Pairs.TheDeep.{deep-Pair}
 use Rattle.bw_lang.specs.declared.stmt.Stmt.{Stmt}
 use Rattle.bw_lang.specs.declared.stmt.Block.TheDeep.{deep-Stmt}
-use Rattle.bw_lang.specs.Code.{code_size}
-use Rattle.bw_lang.specs.CodeFalls.{most_le-code_size}
-use Rattle.bw_lang.specs.CodeView.{code}
-use Rattle.bw_lang.specs.Term.{nodes_in}
-use Rattle.bw_lang.specs.TermFalls.{most_le-nodes_in, deep_le-nodes}
-use Rattle.bw_lang.specs.TermView.{fillings}
+use Rattle.bw_lang.specs.Service.Code.{code_size}
+use Rattle.bw_lang.specs.Encoding.CodeFalls.{most_le-code_size}
+use Rattle.bw_lang.specs.Service.CodeView.{code}
+use Rattle.bw_lang.specs.Service.Term.{nodes_in}
+use Rattle.bw_lang.specs.Encoding.TermFalls.{most_le-nodes_in, deep_le-nodes}
+use Rattle.bw_lang.specs.Service.TermView.{fillings}
 use Rattle.bw_lang.proofs.Forests.{size_at_read}
 
 pub pair_at_read : (xs : List Pair) (i : ℕ) (d : Pair) → i < length xs → (get_or xs i d ≡ get_or xs i d) × (deep-Pair (get_or xs i d) ≤ nodes_in (fillings xs))

@@ -17,14 +17,14 @@ use Rattle.bw_lang.specs.declared.limits.Limit.TheVariants as limits
 use Rattle.bw_lang.specs.declared.declaration.Declaration.{Declaration}
 use Rattle.bw_lang.specs.declared.service.Service.{Service}
 use Rattle.bw_lang.specs.declared.service.Session.{Session}
-use Rattle.bw_lang.specs.Brackets.{passed}
-use Rattle.bw_lang.specs.CodeNames.{local_names}
-use Rattle.bw_lang.specs.Limits.{all_lengths, declared_fields, different, too_many}
-use Rattle.bw_lang.specs.Measures.{constant_weight}
-use Rattle.bw_lang.specs.Order.{declarations_of, IsWoven}
-use Rattle.bw_lang.specs.Readable.{IsSmall, ReadableIsWoven, ReadableIsSmall}
-use Rattle.bw_lang.specs.Reads.{Reads}
-use Rattle.bw_lang.specs.Sorted.{templates_of, shared_of, sessions_of}
+use Rattle.bw_lang.specs.Text.Brackets.{passed}
+use Rattle.bw_lang.specs.Service.CodeNames.{local_names}
+use Rattle.bw_lang.specs.Service.Limits.{all_lengths, declared_fields, different, too_many}
+use Rattle.bw_lang.specs.Document.Measures.{constant_weight}
+use Rattle.bw_lang.specs.Service.Order.{declarations_of, IsWoven}
+use Rattle.bw_lang.specs.Service.Readable.{IsSmall, ReadableIsWoven, ReadableIsSmall}
+use Rattle.bw_lang.specs.Service.Reads.{Reads}
+use Rattle.bw_lang.specs.Service.Sorted.{templates_of, shared_of, sessions_of}
 use Rattle.bw_lang.proofs.Declarations.{weaves_back}
 
 -- ---- limits that aren't passed

@@ -1,6 +1,6 @@
 //! The bytes that part what stands in a text.
 ghost use Rattle.std.specs.Prelude.{◌≡◌};
-ghost use Rattle.bw_lang.specs.Bytes as spec;
+ghost use Rattle.bw_lang.specs.Text.Bytes as spec;
 
 /// Whether the byte is a space, a tab, a carriage return or a line feed.
 pub fn is_blank(byte: u8) -> bool

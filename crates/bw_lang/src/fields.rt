@@ -1,12 +1,12 @@
 //! The names of fields: those of the controls of items, and those that statements receive.
 ghost use Rattle.std.specs.Prelude.{◌≡◌, OnOk, map};
-ghost use Rattle.bw_lang.specs.Code.{done};
-ghost use Rattle.bw_lang.specs.CodeNames.{received_fields};
-ghost use Rattle.bw_lang.specs.CodeView as code;
-ghost use Rattle.bw_lang.specs.Controls.{control_names};
-ghost use Rattle.bw_lang.specs.Forest.{none};
-ghost use Rattle.bw_lang.specs.Names.{with_names};
-ghost use Rattle.bw_lang.specs.View as view;
+ghost use Rattle.bw_lang.specs.Service.Code.{done};
+ghost use Rattle.bw_lang.specs.Service.CodeNames.{received_fields};
+ghost use Rattle.bw_lang.specs.Service.CodeView as code;
+ghost use Rattle.bw_lang.specs.Template.Controls.{control_names};
+ghost use Rattle.bw_lang.specs.Document.Forest.{none};
+ghost use Rattle.bw_lang.specs.Table.Names.{with_names};
+ghost use Rattle.bw_lang.specs.Document.View as view;
 
 use crate::items::{Item, Items};
 use crate::names::NameTable;

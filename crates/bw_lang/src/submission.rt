@@ -1,6 +1,6 @@
 //! What a client submits with a form.
 ghost use Rattle.std.specs.Prelude.{◌≡◌, ◌++◌, ◌∷◌, [], OnOk, OnErr, MatchOption, None, Some, slice_get};
-ghost use Rattle.bw_lang.specs.Submissions.{values_of};
+ghost use Rattle.bw_lang.specs.Service.Submissions.{values_of};
 
 use crate::text::{Memory, Text};
 use std::alloc::Global;

@@ -1,8 +1,8 @@
 //! The wrappers that documents are plugged into to become pages.
 ghost use Rattle.std.specs.Prelude.{◌≡◌, ◌∷◌, ◌<◌, ◌-◌, ◌^◌, [], codes, length, IfOk};
-ghost use Rattle.bw_lang.specs.Forest.{none};
-ghost use Rattle.bw_lang.specs.View.{before};
-ghost use Rattle.bw_lang.specs.Wrappers as spec;
+ghost use Rattle.bw_lang.specs.Document.Forest.{none};
+ghost use Rattle.bw_lang.specs.Document.View.{before};
+ghost use Rattle.bw_lang.specs.Document.Wrappers as spec;
 
 use crate::items::{Attr, AttrValue, Attrs, Element, Item, Items};
 use crate::names::GapNames;

@@ -7,7 +7,7 @@ use Rattle.std.proofs.lemmas.Bool.Decides.{Decides-eqb}
 use Rattle.bw_lang.specs.declared.token.TokenKind.TheVariants as kinds
 use Rattle.bw_lex.specs.declared.pieces.Piece.{Piece}
 use Rattle.bw_lex.specs.declared.pieces.Piece.TheVariants as pieces
-use Rattle.bw_lang.specs.Bytes.{is_blank, is_letter, is_digit, is_word_byte, is_on_line}
+use Rattle.bw_lang.specs.Text.Bytes.{is_blank, is_letter, is_digit, is_word_byte, is_on_line}
 use Rattle.bw_lex.specs.Pieces.{number, string, template, sign, piece}
 
 -- a test for a front is true exactly where the front is there

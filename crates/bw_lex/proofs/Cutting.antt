@@ -11,10 +11,10 @@ use Rattle.bw_lang.specs.declared.token.TokenKind.{TokenKind}
 use Rattle.bw_lex.specs.declared.LexFault.TheVariants as faults
 use Rattle.bw_lex.specs.declared.pieces.Piece.{Piece}
 use Rattle.bw_lex.specs.declared.pieces.Piece.TheVariants as pieces
-use Rattle.bw_lang.specs.Cuts.{IsLongest, Cuts, AreTokens, IsWithin}
+use Rattle.bw_lang.specs.Text.Cuts.{IsLongest, Cuts, AreTokens, StandsIn}
 use Rattle.bw_lex.specs.Laws.{IsCutOnce, IsReadExactly}
-use Rattle.bw_lang.specs.Cuts as cuts
-use Rattle.bw_lang.specs.TokenForms.{HasForm, IsHeld, IsGap}
+use Rattle.bw_lang.specs.Text.Cuts as cuts
+use Rattle.bw_lang.specs.Text.TokenForms.{HasForm, IsHeld, IsGap}
 use Rattle.bw_lex.specs.Pieces.{piece}
 use Rattle.bw_lex.specs.Tokens.{scan, onto, with_rest, piece_len, Reading, tokens_of}
 use Rattle.bw_lex.proofs.Branches.{if_branch}
@@ -153,7 +153,7 @@ if_tokens (Ok tokens) bytes h = tokens-found bytes tokens h
 if_tokens (Err fault) bytes h = h
 
 pub if_within : {X : Type 0} (answer : Result (List Token) X) (bytes : List ℕ) → IfOk answer (λ tokens. tokens_of bytes ≡ Ok tokens)
-    → IfOk answer (λ tokens. All (IsWithin bytes) tokens)
+    → IfOk answer (λ tokens. All (StandsIn bytes) tokens)
 if_within (Ok tokens) bytes h = all-within bytes tokens (tokens-found bytes tokens h)
 if_within (Err fault) bytes h = h
 

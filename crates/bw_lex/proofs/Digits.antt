@@ -7,8 +7,8 @@ use Rattle.std.proofs.lemmas.Bool.{le-leb, lt-leb}
 use Rattle.bw_lang.specs.declared.token.TokenKind.TheVariants as kinds
 use Rattle.bw_lex.specs.declared.pieces.FaultKind.TheVariants as faults
 use Rattle.bw_lex.specs.declared.pieces.Piece.TheVariants as pieces
-use Rattle.bw_lang.specs.Bytes.{is_digit}
-use Rattle.bw_lang.specs.TokenForms.{value}
+use Rattle.bw_lang.specs.Text.Bytes.{is_digit}
+use Rattle.bw_lang.specs.Text.TokenForms.{value}
 use Rattle.bw_lex.specs.Pieces.{number}
 
 abbrev after_digit : ℕ → ℕ → ℕ

@@ -8,10 +8,10 @@ use Rattle.bw_lang.specs.declared.token.TokenKind.TheVariants as kinds
 use Rattle.bw_lex.specs.declared.pieces.Piece.{Piece}
 use Rattle.bw_lex.specs.declared.pieces.Piece.TheVariants as pieces
 use Rattle.bw_lex.specs.declared.pieces.FaultKind.TheVariants as faults
-use Rattle.bw_lang.specs.Bytes.{is_digit, is_word_byte, is_on_line, is_sign, is_pair}
-use Rattle.bw_lang.specs.Cuts.{IsLongest}
-use Rattle.bw_lang.specs.TokenForms.{HasForm, IsHeld, IsGap, IsTokenPiece}
-use Rattle.bw_lang.specs.TokenForms.{value}
+use Rattle.bw_lang.specs.Text.Bytes.{is_digit, is_word_byte, is_on_line, is_sign, is_pair}
+use Rattle.bw_lang.specs.Text.Cuts.{IsLongest}
+use Rattle.bw_lang.specs.Text.TokenForms.{HasForm, IsHeld, IsGap, IsTokenPiece}
+use Rattle.bw_lang.specs.Text.TokenForms.{value}
 use Rattle.bw_lex.specs.Pieces.{sign, piece}
 use Rattle.bw_lex.proofs.Branches.{Branch, blank, word, digits, quoted, comment, markup, other, branch}
 use Rattle.bw_lex.proofs.Digits.{number_fits}

@@ -4,7 +4,7 @@ use Rattle.std.specs.List.{prefix_len, starts_with}
 use Rattle.std.proofs.lemmas.Bool.Decides.{nat_tests}
 use Rattle.bw_lang.specs.declared.token.TokenKind.TheVariants as kinds
 use Rattle.bw_lex.specs.declared.pieces.Piece.TheVariants as pieces
-use Rattle.bw_lang.specs.Bytes.{is_blank, is_letter, is_digit, is_word_byte, is_on_line, is_sign, is_pair}
+use Rattle.bw_lang.specs.Text.Bytes.{is_blank, is_letter, is_digit, is_word_byte, is_on_line, is_sign, is_pair}
 use Rattle.bw_lex.specs.Pieces.{number, string, template, sign, piece}
 
 if_true : {X : Type 0} (c : Bool) (x y : X) → c ≡ true → (if c then x else y) ≡ x

@@ -6,10 +6,10 @@ use Rattle.bw_lang.specs.declared.token.TokenKind.{TokenKind}
 use Rattle.bw_lang.specs.declared.token.TokenKind.TheVariants as kinds
 use Rattle.bw_lex.specs.declared.pieces.Piece.{Piece}
 use Rattle.bw_lex.specs.declared.pieces.Piece.TheVariants as pieces
-use Rattle.bw_lang.specs.Bytes.{is_digit, is_word_byte, is_on_line}
-use Rattle.bw_lang.specs.Cuts.{IsLongest}
-use Rattle.bw_lang.specs.TokenForms.{HasForm, IsGap, IsTokenPiece, IsTemplateToken, BeginsTemplate}
-use Rattle.bw_lang.specs.TokenForms.{value}
+use Rattle.bw_lang.specs.Text.Bytes.{is_digit, is_word_byte, is_on_line}
+use Rattle.bw_lang.specs.Text.Cuts.{IsLongest}
+use Rattle.bw_lang.specs.Text.TokenForms.{HasForm, IsGap, IsTokenPiece, IsTemplateToken, BeginsTemplate}
+use Rattle.bw_lang.specs.Text.TokenForms.{value}
 use Rattle.bw_lex.specs.Pieces.{piece}
 use Rattle.bw_lex.specs.Tokens.{piece_len}
 use Rattle.bw_lex.proofs.Branches.{if_branch}

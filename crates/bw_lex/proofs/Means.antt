@@ -9,9 +9,9 @@ use Rattle.bw_lex.specs.declared.pieces.Piece.{Piece}
 use Rattle.bw_lex.specs.declared.pieces.Piece.TheVariants as pieces
 use Rattle.bw_lex.specs.declared.pieces.StringByte.{StringByte}
 use Rattle.bw_lex.specs.declared.pieces.StringByte.TheVariants as inside
-use Rattle.bw_lang.specs.Bytes.{is_letter, is_digit, is_word_byte, is_on_line, is_sign, is_pair}
-use Rattle.bw_lang.specs.TokenForms.{HasForm, IsHeld, IsGap, IsWord}
-use Rattle.bw_lang.specs.TokenForms.{value}
+use Rattle.bw_lang.specs.Text.Bytes.{is_letter, is_digit, is_word_byte, is_on_line, is_sign, is_pair}
+use Rattle.bw_lang.specs.Text.TokenForms.{HasForm, IsHeld, IsGap, IsWord}
+use Rattle.bw_lang.specs.Text.TokenForms.{value}
 use Rattle.bw_lex.specs.Pieces.{number, string_at, string_byte, string, template, sign, piece}
 use Rattle.bw_lex.proofs.Branches.{Branch, blank, word, digits, quoted, comment, markup, other, branch, if_branch}
 use Rattle.bw_lex.proofs.Ends.{some}

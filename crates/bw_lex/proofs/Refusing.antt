@@ -14,10 +14,10 @@ use Rattle.bw_lex.specs.declared.pieces.FaultKind.{FaultKind}
 use Rattle.bw_lex.specs.declared.pieces.FaultKind.TheVariants as faults
 use Rattle.bw_lex.specs.declared.pieces.Piece.{Piece}
 use Rattle.bw_lex.specs.declared.pieces.Piece.TheVariants as pieces
-use Rattle.bw_lang.specs.Cuts.{AreTokens}
-use Rattle.bw_lang.specs.TokenForms.{HasForm, IsHeld}
+use Rattle.bw_lang.specs.Text.Cuts.{AreTokens}
+use Rattle.bw_lang.specs.Text.TokenForms.{HasForm, IsHeld}
 use Rattle.bw_lex.specs.Pieces.{piece}
-use Rattle.bw_lex.specs.Refusals.{Stops, Refuses, IsRefused}
+use Rattle.bw_lex.specs.Refusals.{Stops, MeetsFault, IsTextRefused}
 use Rattle.bw_lex.specs.Laws.{IsRefusedExactly, IsReadOrRefused}
 use Rattle.bw_lex.specs.Refusals as refusals
 use Rattle.bw_lex.specs.Tokens.{scan, onto, piece_len, Reading, fault_at, tokens_of}
@@ -39,14 +39,14 @@ rest-fails tokens (Err other) fault e = e
 
 step : (bad : Bool) (p : Piece) (at b : ℕ) (bs : List ℕ) (fault : LexFault) → piece bad (b ∷ bs) ≡ p → Ends p (length (b ∷ bs))
     → scan bad 0 at (b ∷ bs) ≡ Err fault →
-    ((at n : ℕ) → 1 ≤ n → scan bad 0 at (drop n (b ∷ bs)) ≡ Err fault → Refuses bad at (drop n (b ∷ bs)) fault) → Refuses bad at (b ∷ bs) fault
+    ((at n : ℕ) → 1 ≤ n → scan bad 0 at (drop n (b ∷ bs)) ≡ Err fault → MeetsFault bad at (drop n (b ∷ bs)) fault) → MeetsFault bad at (b ∷ bs) fault
 step bad (pieces.Gap n) at b bs fault e ends read rest =
     let bytes = b ∷ bs in
     let own = take n bytes in
     let on = rest (at + n) n ends.0 (sym (scan-piece bad at n bytes (pieces.Gap n) e refl ends.0 ends.1) ∙ read) in
-    subst (λ l. Refuses bad at l fault) (take-append-drop n bytes)
+    subst (λ l. MeetsFault bad at l fault) (take-append-drop n bytes)
     (refusals.gap at own (drop n bytes) fault (piece-means bad bytes (pieces.Gap n) e) (longest bad bytes n (ap piece_len e) ends.0 ends.1)
-    (subst (λ m. Refuses bad (at + m) (drop n bytes) fault) (sym (length-take-le n bytes ends.1)) on))
+    (subst (λ m. MeetsFault bad (at + m) (drop n bytes) fault) (sym (length-take-le n bytes ends.1)) on))
 step bad (pieces.Token kind n) at b bs fault e ends read rest =
     let bytes = b ∷ bs in
     let own = take n bytes in
@@ -55,15 +55,15 @@ step bad (pieces.Token kind n) at b bs fault e ends read rest =
     rest (at + n) n ends.0 (rest-fails tokens (scan bad 0 (at + n) (drop n bytes)) fault
     (sym (scan-piece bad at n bytes (pieces.Token kind n) e refl ends.0 ends.1) ∙ read)) in
     let means : HasForm kind own × IsHeld kind = piece-means bad bytes (pieces.Token kind n) e in
-    subst (λ l. Refuses bad at l fault) (take-append-drop n bytes)
+    subst (λ l. MeetsFault bad at l fault) (take-append-drop n bytes)
     (refusals.token at kind own (drop n bytes) fault means.0 means.1 (longest bad bytes n (ap piece_len e) ends.0 ends.1)
-    (subst (λ m. Refuses bad (at + m) (drop n bytes) fault) (sym (length-take-le n bytes ends.1)) on))
+    (subst (λ m. MeetsFault bad (at + m) (drop n bytes) fault) (sym (length-take-le n bytes ends.1)) on))
 step bad (pieces.Fault kind n) at b bs fault e ends read rest =
     let found = sym (scan-fault bad at n (b ∷ bs) kind e (omega arith)) ∙ read in
     let is : fault_at kind (at + n) ≡ fault = cc in
     refusals.stop at (b ∷ bs) fault (subst (Stops bad at (b ∷ bs)) is (subst (StopsAt bad at (b ∷ bs)) e (piece-stops bad at b bs)))
 
-refused : (bad : Bool) (most at : ℕ) (bytes : List ℕ) (fault : LexFault) → length bytes ≤ most → scan bad 0 at bytes ≡ Err fault → Refuses bad at bytes fault
+refused : (bad : Bool) (most at : ℕ) (bytes : List ℕ) (fault : LexFault) → length bytes ≤ most → scan bad 0 at bytes ≡ Err fault → MeetsFault bad at bytes fault
 unfolding scan
 refused true most at [] fault h e =
     let is : lexical.BadByte at ≡ fault = cc in
@@ -107,7 +107,7 @@ stopped bad at bytes fault (refusals.big_number v own rest h g) =
     at_once bad at 0 (own ++ rest) faults.NumberTooBig _ (number-too-big bad v own rest h g)
     (omega (arith, form_has_bytes (kinds.Number v) own h, length-append own rest)) (ap lexical.NumberTooBig (omega arith))
 
-found : (bad : Bool) (at : ℕ) (bytes : List ℕ) (fault : LexFault) → Refuses bad at bytes fault → scan bad 0 at bytes ≡ Err fault
+found : (bad : Bool) (at : ℕ) (bytes : List ℕ) (fault : LexFault) → MeetsFault bad at bytes fault → scan bad 0 at bytes ≡ Err fault
 found bad at bytes fault (refusals.stop n bs f h) = stopped bad n bs f h
 found bad at bytes fault (refusals.gap n own rest f form long others) =
     scanned bad n own rest (pieces.Gap (length own)) (gap-exact bad own rest form long) refl (gap_has_bytes own form)
@@ -146,13 +146,13 @@ valid_front bs h = record {
 pub refused_exactly : IsRefusedExactly
 refused_exactly bytes fault = (to, from)
   where
-    to : IsRefused bytes fault → tokens_of bytes ≡ Err fault
+    to : IsTextRefused bytes fault → tokens_of bytes ≡ Err fault
     to (inl h) = whole bytes h.0 ∙ found false 0 bytes fault h.1
     to (inr h) =
         let n = utf8_valid_len-IsValidUpTo bytes h.0 h.1 in
         sym (cut_off bytes h.0 (sym n) h.1.short) ∙ found true 0 (take h.0 bytes) fault h.2
 
-    from : tokens_of bytes ≡ Err fault → IsRefused bytes fault
+    from : tokens_of bytes ≡ Err fault → IsTextRefused bytes fault
     from e = elim (cases_lt (utf8_valid_len bytes) (length bytes)) [
       | inl h ↦
           let n = utf8_valid_len bytes in
@@ -169,20 +169,20 @@ refused_exactly bytes fault = (to, from)
 pub read_or_refused : IsReadOrRefused
 read_or_refused bytes = go (tokens_of bytes) refl
   where
-    go : (answer : Reading) → tokens_of bytes ≡ answer → ((tokens : List Token) × AreTokens bytes tokens) ⊎ ((fault : LexFault) × IsRefused bytes fault)
+    go : (answer : Reading) → tokens_of bytes ≡ answer → ((tokens : List Token) × AreTokens bytes tokens) ⊎ ((fault : LexFault) × IsTextRefused bytes fault)
     go (Ok tokens) e = inl (tokens, tokens-found bytes tokens e)
     go (Err fault) e = inr (fault, (refused_exactly bytes fault).1 e)
 
 -- what that says of an answer
 pub if_refused : {X : Type 0} (answer : Result X LexFault) (bytes : List ℕ)
     → IfErr answer (λ fault. (fault ≡ lexical.Memory) ⊎ (tokens_of bytes ≡ Err fault))
-    → IfErr answer (λ fault. (fault ≡ lexical.Memory) ⊎ IsRefused bytes fault)
+    → IfErr answer (λ fault. (fault ≡ lexical.Memory) ⊎ IsTextRefused bytes fault)
 if_refused (Ok x) bytes h = h
 if_refused (Err fault) bytes (inl h) = inl h
 if_refused (Err fault) bytes (inr h) = inr ((refused_exactly bytes fault).1 h)
 
 pub only_refused : (answer : Reading) (bytes : List ℕ) → IfOk answer (λ tokens. tokens_of bytes ≡ Ok tokens)
-    → IfErr answer (λ fault. (fault ≡ lexical.Memory) ⊎ (tokens_of bytes ≡ Err fault)) → (fault : LexFault) → IsRefused bytes fault
+    → IfErr answer (λ fault. (fault ≡ lexical.Memory) ⊎ (tokens_of bytes ≡ Err fault)) → (fault : LexFault) → IsTextRefused bytes fault
     → (answer ≡ Err lexical.Memory) ⊎ (answer ≡ Err fault)
 only_refused (Ok tokens) bytes h g fault is = let e = (refused_exactly bytes fault).0 is in absurd (cc)
 only_refused (Err other) bytes h (inl g) fault is = inl (ap (λ f. Err f) g)

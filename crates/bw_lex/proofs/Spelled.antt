@@ -7,7 +7,7 @@ use Rattle.bw_lang.specs.declared.token.TokenKind.TheVariants as kinds
 use Rattle.bw_lex.specs.declared.pieces.Piece.TheVariants as pieces
 use Rattle.bw_lex.specs.declared.pieces.StringByte.{StringByte}
 use Rattle.bw_lex.specs.declared.pieces.StringByte.TheVariants as inside
-use Rattle.bw_lang.specs.TokenForms.{StandsFor, SpellsText}
+use Rattle.bw_lang.specs.Text.TokenForms.{StandsFor, SpellsText}
 use Rattle.bw_lex.specs.Pieces.{string_byte, string_at, string}
 use Rattle.bw_lex.proofs.Strings.{stands_plain, stands_escaped, escapes_is, closes_is}
 

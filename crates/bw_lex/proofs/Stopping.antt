@@ -14,9 +14,9 @@ use Rattle.bw_lex.specs.declared.pieces.Piece.{Piece}
 use Rattle.bw_lex.specs.declared.pieces.Piece.TheVariants as pieces
 use Rattle.bw_lex.specs.declared.pieces.StringByte.{StringByte}
 use Rattle.bw_lex.specs.declared.pieces.StringByte.TheVariants as inside
-use Rattle.bw_lang.specs.Bytes.{is_blank, is_digit, is_letter, is_sign, is_pair}
-use Rattle.bw_lang.specs.TokenForms.{HasForm, IsGap, IsNumber, StandsFor, SpellsText, HasNoEnd}
-use Rattle.bw_lang.specs.TokenForms.{value}
+use Rattle.bw_lang.specs.Text.Bytes.{is_blank, is_digit, is_letter, is_sign, is_pair}
+use Rattle.bw_lang.specs.Text.TokenForms.{HasForm, IsGap, IsNumber, StandsFor, SpellsText, HasNoEnd}
+use Rattle.bw_lang.specs.Text.TokenForms.{value}
 use Rattle.bw_lex.specs.Pieces.{number, string_byte, string_at, string, template, sign, piece}
 use Rattle.bw_lex.specs.Refusals.{BeginsNothing, Stops, stray_byte, bad_byte_in_string, no_escape, broken_string, open_string, bad_byte_in_template}
 use Rattle.bw_lex.specs.Refusals.{open_template, big_number}

@@ -6,7 +6,7 @@ use Rattle.std.proofs.lemmas.Bool.{cases_lt}
 use Rattle.std.proofs.lemmas.List.{drop_more, take_rest, length-append}
 use Rattle.bw_lang.specs.declared.token.TokenKind.{TokenKind}
 use Rattle.bw_lex.specs.declared.pieces.Piece.{Piece}
-use Rattle.bw_lang.specs.TokenForms.{HasNoEnd}
+use Rattle.bw_lang.specs.Text.TokenForms.{HasNoEnd}
 use Rattle.bw_lex.proofs.Branches.{starts, starts_there, if_branch}
 use Rattle.bw_lex.proofs.Passes.{true_or_false}
 use Rattle.bw_lang.specs.declared.token.TokenKind.TheVariants as kinds

@@ -9,9 +9,9 @@ use Rattle.bw_lex.specs.declared.pieces.FaultKind.TheVariants as faults
 use Rattle.bw_lex.specs.declared.pieces.Piece.{Piece}
 use Rattle.bw_lex.specs.declared.pieces.Piece.TheVariants as pieces
 use Rattle.bw_lex.specs.declared.pieces.StringByte.TheVariants as inside
-use Rattle.bw_lang.specs.Bytes.{is_digit, is_word_byte, is_on_line, is_sign, is_pair}
-use Rattle.bw_lang.specs.TokenForms.{IsTokenPiece, IsNumber, SpellsText, HasNoEnd}
-use Rattle.bw_lang.specs.TokenForms.{value}
+use Rattle.bw_lang.specs.Text.Bytes.{is_digit, is_word_byte, is_on_line, is_sign, is_pair}
+use Rattle.bw_lang.specs.Text.TokenForms.{IsTokenPiece, IsNumber, SpellsText, HasNoEnd}
+use Rattle.bw_lang.specs.Text.TokenForms.{value}
 use Rattle.bw_lex.specs.Pieces.{string_byte, string_at, string, template, sign, piece}
 use Rattle.bw_lex.specs.Refusals.{EndsNoEscape, BeginsNothing}
 use Rattle.bw_lex.proofs.Branches.{Branch, blank, word, digits, quoted, comment, markup, other, branch, starts}

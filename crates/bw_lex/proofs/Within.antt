@@ -6,9 +6,9 @@ use Rattle.std.proofs.lemmas.List.{append_assoc, append-nil, length-append, take
 use Rattle.bw_lang.specs.declared.token.Token.{Token}
 use Rattle.bw_lang.specs.declared.token.TokenKind.{TokenKind}
 use Rattle.bw_lang.specs.declared.token.TokenKind.TheVariants as kinds
-use Rattle.bw_lang.specs.Cuts.{Cuts, AreTokens, HasText, IsWithin}
-use Rattle.bw_lang.specs.Cuts as cuts
-use Rattle.bw_lang.specs.TokenForms.{HasForm, IsHeld, StandsFor, SpellsText}
+use Rattle.bw_lang.specs.Text.Cuts.{Cuts, AreTokens, HasText, StandsIn}
+use Rattle.bw_lang.specs.Text.Cuts as cuts
+use Rattle.bw_lang.specs.Text.TokenForms.{HasForm, IsHeld, StandsFor, SpellsText}
 use Rattle.bw_lex.proofs.Spelled.{SpellsText-append}
 use Rattle.bw_lex.proofs.Utf8.{front, behind, joined}
 
@@ -48,7 +48,7 @@ has_text before own rest kinds.Sign h u = tt
 
 -- each token stands in the bytes that are cut
 at_place : (front own rest bytes : List ℕ) (kind : TokenKind) (at : ℕ) → bytes ≡ front ++ (own ++ rest) → at ≡ length front → HasForm kind own
-    → IsHeld kind → IsUtf8 bytes → IsWithin bytes (record { what = kind; start = at; end = at + length own })
+    → IsHeld kind → IsUtf8 bytes → StandsIn bytes (record { what = kind; start = at; end = at + length own })
 at_place front own rest bytes kind at e l form held u =
     let some = form_has_bytes kind own form in
     let slice : slice_range bytes at (at + length own) ≡ own =
@@ -64,7 +64,7 @@ at_place front own rest bytes kind at e l form held u =
     }
 
 within : (front bytes text : List ℕ) (at : ℕ) (tokens : List Token) → text ≡ front ++ bytes → at ≡ length front → Cuts at bytes tokens → IsUtf8 text
-    → All (IsWithin text) tokens
+    → All (StandsIn text) tokens
 within front bytes text at tokens e l (cuts.nothing n) u k d h = absurd (omega (arith, h))
 within front bytes text at tokens e l (cuts.gap n own rest ts form long others) u k d h =
     within (front ++ own) rest text (n + length own) ts (e ∙ sym (append_assoc front own rest)) (omega (arith, l, length-append front own)) others u k d h
@@ -73,5 +73,5 @@ within front bytes text at tokens e l (cuts.token n kind own rest ts form held l
     within (front ++ own) rest text (n + length own) ts (e ∙ sym (append_assoc front own rest)) (omega (arith, l, length-append front own))
     others u k d (omega (arith, h))
 
-pub all-within : (bytes : List ℕ) (tokens : List Token) → AreTokens bytes tokens → All (IsWithin bytes) tokens
+pub all-within : (bytes : List ℕ) (tokens : List Token) → AreTokens bytes tokens → All (StandsIn bytes) tokens
 all-within bytes tokens h = within [] bytes bytes 0 tokens refl refl h.1 h.0

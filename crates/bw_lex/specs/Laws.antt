@@ -1,9 +1,9 @@
 -- Laws of tokens.
 use Rattle.std.specs.Prelude.{◌≡◌, ◌⊎◌, ◌↔◌, ℕ, List, Ok, Err}
 use Rattle.bw_lang.specs.declared.token.Token.{Token}
-use Rattle.bw_lang.specs.Cuts.{AreTokens}
+use Rattle.bw_lang.specs.Text.Cuts.{AreTokens}
 use Rattle.bw_lex.specs.declared.LexFault.{LexFault}
-use Rattle.bw_lex.specs.Refusals.{IsRefused}
+use Rattle.bw_lex.specs.Refusals.{IsTextRefused}
 use Rattle.bw_lex.specs.Tokens.{tokens_of}
 
 -- a text has no two lists of tokens
@@ -16,8 +16,8 @@ IsReadExactly = (bytes : List ℕ) (tokens : List Token) → AreTokens bytes tok
 
 -- a text is read as a fault exactly where that is its first
 abbrev pub IsRefusedExactly : Type 0
-IsRefusedExactly = (bytes : List ℕ) (fault : LexFault) → IsRefused bytes fault ↔ (tokens_of bytes ≡ Err fault)
+IsRefusedExactly = (bytes : List ℕ) (fault : LexFault) → IsTextRefused bytes fault ↔ (tokens_of bytes ≡ Err fault)
 
 -- each text has its tokens or a first fault
 abbrev pub IsReadOrRefused : Type 0
-IsReadOrRefused = (bytes : List ℕ) → ((tokens : List Token) × AreTokens bytes tokens) ⊎ ((fault : LexFault) × IsRefused bytes fault)
+IsReadOrRefused = (bytes : List ℕ) → ((tokens : List Token) × AreTokens bytes tokens) ⊎ ((fault : LexFault) × IsTextRefused bytes fault)

@@ -8,8 +8,8 @@ use Rattle.bw_lex.specs.declared.pieces.Piece.{Piece}
 use Rattle.bw_lex.specs.declared.pieces.Piece.TheVariants as pieces
 use Rattle.bw_lex.specs.declared.pieces.StringByte.{StringByte}
 use Rattle.bw_lex.specs.declared.pieces.StringByte.TheVariants as inside
-use Rattle.bw_lang.specs.Bytes.{is_blank, is_letter, is_digit, is_word_byte, is_on_line, is_sign, is_pair}
-use Rattle.bw_lang.specs.TokenForms.{value}
+use Rattle.bw_lang.specs.Text.Bytes.{is_blank, is_letter, is_digit, is_word_byte, is_on_line, is_sign, is_pair}
+use Rattle.bw_lang.specs.Text.TokenForms.{value}
 
 -- the digits at the front, as a number
 abbrev pub number : List ℕ → Piece

@@ -4,8 +4,8 @@ use Rattle.std.specs.Str.{IsUtf8, IsValidUpTo, byte}
 use Rattle.bw_lang.specs.declared.token.TokenKind.{TokenKind}
 use Rattle.bw_lex.specs.declared.LexFault.{LexFault}
 use Rattle.bw_lex.specs.declared.LexFault.TheVariants as faults
-use Rattle.bw_lang.specs.Cuts.{IsLongest}
-use Rattle.bw_lang.specs.TokenForms.{HasForm, IsHeld, IsGap, IsTokenPiece, IsNumber, SpellsText, HasNoEnd}
+use Rattle.bw_lang.specs.Text.Cuts.{IsLongest}
+use Rattle.bw_lang.specs.Text.TokenForms.{HasForm, IsHeld, IsGap, IsTokenPiece, IsNumber, SpellsText, HasNoEnd}
 
 -- none of the three that may stand behind a backslash
 abbrev pub EndsNoEscape : List ℕ → Type 0
@@ -41,13 +41,13 @@ pub data Stops (bad : Bool) (at : ℕ) : List ℕ → LexFault → Type 0 where
 
 -- The bytes from place at on are blanks, comments and tokens, each the longest piece that begins at its place, up to
 -- this fault.
-pub data Refuses (bad : Bool) : ℕ → List ℕ → LexFault → Type 0 where
-  stop : (at : ℕ) (bytes : List ℕ) (fault : LexFault) → Stops bad at bytes fault → Refuses bad at bytes fault
+pub data MeetsFault (bad : Bool) : ℕ → List ℕ → LexFault → Type 0 where
+  stop : (at : ℕ) (bytes : List ℕ) (fault : LexFault) → Stops bad at bytes fault → MeetsFault bad at bytes fault
   gap : (at : ℕ) (own rest : List ℕ) (fault : LexFault) → IsGap own → IsLongest own rest →
-      Refuses bad (at + length own) rest fault → Refuses bad at (own ++ rest) fault
+      MeetsFault bad (at + length own) rest fault → MeetsFault bad at (own ++ rest) fault
   token : (at : ℕ) (kind : TokenKind) (own rest : List ℕ) (fault : LexFault) → HasForm kind own → IsHeld kind → IsLongest own rest →
-      Refuses bad (at + length own) rest fault → Refuses bad at (own ++ rest) fault
+      MeetsFault bad (at + length own) rest fault → MeetsFault bad at (own ++ rest) fault
 
 -- the first fault of a text: in it, or in its longest front that is UTF-8 and at the byte behind that
-abbrev pub IsRefused : List ℕ → LexFault → Type 0
-IsRefused bytes fault = (IsUtf8 bytes × Refuses false 0 bytes fault) ⊎ ((n : ℕ) × IsValidUpTo bytes n × Refuses true 0 (take n bytes) fault)
+abbrev pub IsTextRefused : List ℕ → LexFault → Type 0
+IsTextRefused bytes fault = (IsUtf8 bytes × MeetsFault false 0 bytes fault) ⊎ ((n : ℕ) × IsValidUpTo bytes n × MeetsFault true 0 (take n bytes) fault)

@@ -16,8 +16,8 @@ mod pieces;
 ghost use Rattle.std.specs.Prelude.{◌≡◌, ◌⊎◌, List, All, IfOk, IfErr, Ok, Err};
 ghost use Rattle.std.specs.Str.{IsUtf8};
 ghost use Rattle.bw_lang.specs.declared.token.Token.{Token};
-ghost use Rattle.bw_lang.specs.Cuts.{AreTokens, IsWithin};
-ghost use Rattle.bw_lex.specs.Refusals.{IsRefused};
+ghost use Rattle.bw_lang.specs.Text.Cuts.{AreTokens, StandsIn};
+ghost use Rattle.bw_lex.specs.Refusals.{IsTextRefused};
 ghost use Rattle.bw_lex.specs.Tokens.{scan, tokens_of, fault_at};
 ghost use Rattle.bw_lex.specs.declared.LexFault.{LexFault};
 ghost use Rattle.bw_lex.specs.declared.LexFault.TheVariants.{Memory as OutOfMemory};
@@ -114,14 +114,14 @@ pub fn lex(alloc: Global, bytes: &[u8]) -> Result<Tokens, LexFault>
     // The tokens, and the first fault, as a relation that says what stands where.
     ensures tokens { IfOk result (λ tokens. AreTokens bytes.now tokens) }
     ensures only_tokens { (tokens : List Token) → AreTokens bytes.now tokens → (result ≡ Err OutOfMemory) ⊎ (result ≡ Ok tokens) }
-    ensures refused { IfErr result (λ fault. (fault ≡ OutOfMemory) ⊎ IsRefused bytes.now fault) }
-    ensures only_refused { (fault : LexFault) → IsRefused bytes.now fault → (result ≡ Err OutOfMemory) ⊎ (result ≡ Err fault) }
+    ensures refused { IfErr result (λ fault. (fault ≡ OutOfMemory) ⊎ IsTextRefused bytes.now fault) }
+    ensures only_refused { (fault : LexFault) → IsTextRefused bytes.now fault → (result ≡ Err OutOfMemory) ⊎ (result ≡ Err fault) }
 
     // The same as a function of the bytes.
     ensures ok { IfOk result (λ tokens. tokens_of bytes.now ≡ Ok tokens) }
     ensures fault { IfErr result (λ fault. (fault ≡ OutOfMemory) ⊎ (tokens_of bytes.now ≡ Err fault)) }
 
-    ensures spans { IfOk result (λ tokens. All (IsWithin bytes.now) tokens) }
+    ensures spans { IfOk result (λ tokens. All (StandsIn bytes.now) tokens) }
 {
     match str::from_utf8(bytes) {
         Ok(_) => scan(alloc, false, bytes),

@@ -2,8 +2,8 @@
 ghost use Rattle.std.specs.Prelude.{◌≡◌, ℕ, ◌+◌, ◌<◌, ◌≤◌, false, nat_le, [], length, slice_index, drop, IfOk, MatchOption};
 ghost use Rattle.std.specs.List.{prefix_len, AllPass};
 ghost use Rattle.std.specs.Str.{IsUtf8, byte};
-ghost use Rattle.bw_lang.specs.Bytes.{is_letter, is_digit, is_word_byte, is_on_line, is_sign, is_pair};
-ghost use Rattle.bw_lang.specs.TokenForms.{value};
+ghost use Rattle.bw_lang.specs.Text.Bytes.{is_letter, is_digit, is_word_byte, is_on_line, is_sign, is_pair};
+ghost use Rattle.bw_lang.specs.Text.TokenForms.{value};
 ghost use Rattle.bw_lex.specs.Pieces.{number, string_byte, string, template, sign, piece};
 
 use bw_lang::{Memory, Text, TokenKind, is_blank};

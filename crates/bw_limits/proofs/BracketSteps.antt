@@ -1,6 +1,6 @@
 -- One lexeme more.
 use Rattle.std.proofs.Common.{◌≡◌, ℕ, suc, ◌+◌, ◌-◌, ◌<◌, ◌≤◌, Bool, true, false, if◌then◌else◌, List, ◌∷◌, length, get_or, drop, refl, ap, arith, max, find}
-use Rattle.bw_lang.specs.Brackets.{is_opening, is_closing, depth_behind, deepest, ends_stretch, stretches}
+use Rattle.bw_lang.specs.Text.Brackets.{is_opening, is_closing, depth_behind, deepest, ends_stretch, stretches}
 use Rattle.bw_lang.specs.declared.token.Lexeme.{Lexeme}
 use Rattle.bw_lang.specs.declared.token.Lexeme.TheVariants as lex
 use Rattle.std.proofs.lemmas.List.{drop_more}

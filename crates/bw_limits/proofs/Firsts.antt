@@ -10,14 +10,14 @@ use Rattle.bw_lang.specs.declared.items.Item.TheVariants as items
 use Rattle.bw_lang.specs.declared.limits.Leaf.{Leaf}
 use Rattle.bw_lang.specs.declared.stmt.Stmt.{Stmt}
 use Rattle.bw_lang.specs.declared.stmt.Stmt.TheVariants as stmts
-use Rattle.bw_lang.specs.Code.{Code, done}
-use Rattle.bw_lang.specs.CodeView.{code}
-use Rattle.bw_lang.specs.CodeView as code_view
-use Rattle.bw_lang.specs.Forest.{Forest, none}
-use Rattle.bw_lang.specs.Limits.{name_length, term_lengths, pair_lengths, code_lengths, item_lengths}
-use Rattle.bw_lang.specs.TermView.{term, fillings}
-use Rattle.bw_lang.specs.View.{forest}
-use Rattle.bw_lang.specs.View as view
+use Rattle.bw_lang.specs.Service.Code.{Code, done}
+use Rattle.bw_lang.specs.Service.CodeView.{code}
+use Rattle.bw_lang.specs.Service.CodeView as code_view
+use Rattle.bw_lang.specs.Document.Forest.{Forest, none}
+use Rattle.bw_lang.specs.Service.Limits.{name_length, term_lengths, pair_lengths, code_lengths, item_lengths}
+use Rattle.bw_lang.specs.Service.TermView.{term, fillings}
+use Rattle.bw_lang.specs.Document.View.{forest}
+use Rattle.bw_lang.specs.Document.View as view
 use Rattle.std.proofs.lemmas.List.{drop_more}
 use Rattle.bw_limits.proofs.Sorts.{sort_numbers}
 

@@ -3,9 +3,9 @@ use Rattle.std.proofs.Common.{◌≡◌, ℕ, ◌+◌, ◌<◌, ◌≤◌, List,
 use Rattle.std.proofs.Common.{append_assoc, append-nil, length-append}
 use Rattle.std.proofs.lemmas.List.{take_more, take-append-drop}
 use Rattle.bw_lang.specs.declared.stmt.Stmt.{Stmt}
-use Rattle.bw_lang.specs.Code.{Code, done, declare, assign, if_then, if_else, while_loop, block, for_each, show, exit, append}
-use Rattle.bw_lang.specs.CodeView.{code, before}
-use Rattle.bw_lang.specs.CodeNames.{local_names}
+use Rattle.bw_lang.specs.Service.Code.{Code, done, declare, assign, if_then, if_else, while_loop, block, for_each, show, exit, append}
+use Rattle.bw_lang.specs.Service.CodeView.{code, before}
+use Rattle.bw_lang.specs.Service.CodeNames.{local_names}
 use Rattle.bw_lang.proofs.Codes.{code-append, statements_take}
 
 local_names-append : (a b : Code) → local_names (append a b) ≡ local_names a ++ local_names b

@@ -1,6 +1,6 @@
 //! The limits that are decided on the tokens of a service alone.
 ghost use Rattle.std.specs.Prelude.{◌≡◌, ◌-◌, ◌<◌, ◌^◌, find, nat_lt};
-ghost use Rattle.bw_lang.specs.Brackets as spec;
+ghost use Rattle.bw_lang.specs.Text.Brackets as spec;
 
 use crate::passing::{over, passed};
 use bw_lang::{Lexeme, Limit};

@@ -2,11 +2,11 @@
 ghost use Rattle.std.specs.Prelude.{◌≡◌, ◌<◌, ◌^◌, find, length, map, nat_lt, IfOk};
 ghost use Rattle.std.specs.List.{All};
 ghost use Rattle.std.specs.Option.{IfSome, is_some, option_to_list};
-ghost use Rattle.bw_lang.specs.CodeNames.{local_names};
-ghost use Rattle.bw_lang.specs.Limits as spec;
-ghost use Rattle.bw_lang.specs.Measures.{constant_weight};
-ghost use Rattle.bw_lang.specs.Sorted as sorted;
-ghost use Rattle.bw_limits.specs.Parts.{declared_limit, size_limit};
+ghost use Rattle.bw_lang.specs.Service.CodeNames.{local_names};
+ghost use Rattle.bw_lang.specs.Service.Limits as spec;
+ghost use Rattle.bw_lang.specs.Document.Measures.{constant_weight};
+ghost use Rattle.bw_lang.specs.Service.Sorted as sorted;
+ghost use Rattle.bw_limits.specs.Steps.Parts.{declared_limit, size_limit};
 
 use crate::fields::different_fields;
 use crate::lengths::Search;

@@ -1,7 +1,7 @@
 //! The different names of controls and receives.
 ghost use Rattle.std.specs.Prelude.{◌≡◌, flat_map, IfOk, OnOk};
-ghost use Rattle.bw_lang.specs.Limits as spec;
-ghost use Rattle.bw_lang.specs.Names.{with_names};
+ghost use Rattle.bw_lang.specs.Service.Limits as spec;
+ghost use Rattle.bw_lang.specs.Table.Names.{with_names};
 
 use bw_lang::{Declaration, Memory, NameTable};
 use std::alloc::Global;

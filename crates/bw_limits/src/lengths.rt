@@ -1,13 +1,13 @@
 //! The lengths of names, or of the texts of strings.
 ghost use Rattle.std.specs.Prelude.{◌≡◌, ◌&&◌, ◌++◌, codes, find, flat_map, nat_lt};
-ghost use Rattle.bw_lang.specs.Code.{done};
-ghost use Rattle.bw_lang.specs.CodeView as code;
-ghost use Rattle.bw_lang.specs.Controls as controls;
-ghost use Rattle.bw_lang.specs.Forest.{none};
-ghost use Rattle.bw_lang.specs.Limits as spec;
-ghost use Rattle.bw_lang.specs.Names.{same};
-ghost use Rattle.bw_lang.specs.TermView.{term};
-ghost use Rattle.bw_lang.specs.View as view;
+ghost use Rattle.bw_lang.specs.Service.Code.{done};
+ghost use Rattle.bw_lang.specs.Service.CodeView as code;
+ghost use Rattle.bw_lang.specs.Template.Controls as controls;
+ghost use Rattle.bw_lang.specs.Document.Forest.{none};
+ghost use Rattle.bw_lang.specs.Service.Limits as spec;
+ghost use Rattle.bw_lang.specs.Table.Names.{same};
+ghost use Rattle.bw_lang.specs.Service.TermView.{term};
+ghost use Rattle.bw_lang.specs.Document.View as view;
 
 use crate::passing::over;
 use bw_lang::controls::is_control;

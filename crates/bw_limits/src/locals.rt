@@ -1,8 +1,8 @@
 //! The locals that a session declares.
 ghost use Rattle.std.specs.Prelude.{◌≡◌, ◌<◌, ◌^◌, length};
-ghost use Rattle.bw_lang.specs.Code.{done};
-ghost use Rattle.bw_lang.specs.CodeView.{before};
-ghost use Rattle.bw_lang.specs.CodeNames.{local_names};
+ghost use Rattle.bw_lang.specs.Service.Code.{done};
+ghost use Rattle.bw_lang.specs.Service.CodeView.{before};
+ghost use Rattle.bw_lang.specs.Service.CodeNames.{local_names};
 
 use bw_lang::{Block, Stmt};
 

@@ -6,14 +6,14 @@ use Rattle.bw_lang.specs.declared.service.Service.{Service}
 use Rattle.bw_lang.specs.declared.stmt.Receive.{Receive}
 use Rattle.bw_lang.specs.declared.turn.TurnFault.{TurnFault}
 use Rattle.bw_lang.specs.declared.turn.TurnFault.TheVariants.{Spent, PageTooLong, SessionHeavy, SharedHeavy}
-use Rattle.bw_lang.specs.Code.{Code, done, declare, assign, if_then, if_else, while_loop, block, for_each, show, exit, numbered}
-use Rattle.bw_lang.specs.Names.{beside}
-use Rattle.bw_lang.specs.Numbers.{first_number}
-use Rattle.bw_lang.specs.Submissions.{values_of}
-use Rattle.bw_lang.specs.Term.{Term}
+use Rattle.bw_lang.specs.Service.Code.{Code, done, declare, assign, if_then, if_else, while_loop, block, for_each, show, exit, numbered}
+use Rattle.bw_lang.specs.Table.Names.{beside}
+use Rattle.bw_lang.specs.Service.Numbers.{first_number}
+use Rattle.bw_lang.specs.Service.Submissions.{values_of}
+use Rattle.bw_lang.specs.Service.Term.{Term}
 use Rattle.bw_meaning.specs.Expressions.{Evaluated, Gives, Faults, eval}
 use Rattle.bw_meaning.specs.Forms.{received_value}
-use Rattle.bw_meaning.specs.GoOn.{with_rest, behind, body_of}
+use Rattle.bw_meaning.specs.GoOn.{with_rest, go_on_behind, body_of}
 use Rattle.bw_meaning.specs.Operators.{truth_of, list_of, document_of}
 use Rattle.bw_meaning.specs.Orders.{IsReordered, AreInputsAlike, no_input, one_input, AreStatesAlike, states, AreOutcomesAlike, went, shown, exited, failed}
 use Rattle.bw_meaning.specs.Orders.{answers, StatementsSeeNoOrder, TurnsSeeNoOrder, GoingOnSeesNoOrder}
@@ -242,7 +242,7 @@ module _ (service : Service) (at : ℕ) (l m : Values) (form : Form) (s t : Valu
   abbrev other : Rests → Answered
   other rests = record { at = at; locals = m; rests = rests; input = record { form = form; shared = t }; later = js }
 
-  behind_alike : (c : Code) (n around : ℕ) (rests : Rests) → AreOutcomesAlike (behind service c n around (one rests)) (behind service c n around (other rests))
+  behind_alike : (c : Code) (n around : ℕ) (rests : Rests) → AreOutcomesAlike (go_on_behind service c n around (one rests)) (go_on_behind service c n around (other rests))
   behind_alike done n around rests = failed Spent 0
   behind_alike (declare kind w e rest) n around rests = behind_alike rest (n + 1) around rests
   behind_alike (assign w e rest) n around rests = behind_alike rest (n + 1) around rests

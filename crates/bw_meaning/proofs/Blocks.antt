@@ -3,9 +3,9 @@ use Rattle.std.proofs.Common.{◌≡◌, ℕ, ◌+◌, Bool, true, false, List, 
 use Rattle.std.specs.Prelude.{if◌then◌else◌, nat_lt}
 use Rattle.std.specs.List.{list_any}
 use Rattle.bw_lang.specs.declared.turn.TurnFault.TheVariants.{Spent}
-use Rattle.bw_lang.specs.Code.{numbered}
-use Rattle.bw_lang.specs.Names.{same, beside}
-use Rattle.bw_meaning.specs.GoOn.{behind}
+use Rattle.bw_lang.specs.Service.Code.{numbered}
+use Rattle.bw_lang.specs.Table.Names.{same, beside}
+use Rattle.bw_meaning.specs.GoOn.{go_on_behind}
 use Rattle.bw_meaning.specs.NameLaws.{BlocksLeave, AnsweredBlocksLeave}
 use Rattle.bw_meaning.specs.States.{State, Outcome, Went, Shown, Exited, Failed}
 use Rattle.bw_meaning.specs.Statements.{declared, leave, then_do, exec}
@@ -34,5 +34,5 @@ reached false o st e = cc
 
 pub answered_blocks_leave : AnsweredBlocksLeave
 answered_blocks_leave service c n around a st w e h =
-    let o = behind service c n around a in
+    let o = go_on_behind service c n around a in
     gone (declared c) o st w (reached (nat_lt a.at (n + numbered c)) (then_do (leave (declared c) o) Went) st e) h

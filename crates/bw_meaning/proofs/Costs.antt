@@ -4,13 +4,13 @@ use Rattle.std.specs.Prelude.{◌==◌, nat_lt, if◌then◌else◌}
 use Rattle.bw_lang.specs.declared.service.Service.{Service}
 use Rattle.bw_lang.specs.declared.stmt.Receive.{Receive}
 use Rattle.bw_lang.specs.declared.turn.TurnFault.{TurnFault}
-use Rattle.bw_lang.specs.Code.{Code, done, declare, assign, if_then, if_else, while_loop, block, for_each, show, exit, numbered}
-use Rattle.bw_lang.specs.Term.{Term}
+use Rattle.bw_lang.specs.Service.Code.{Code, done, declare, assign, if_then, if_else, while_loop, block, for_each, show, exit, numbered}
+use Rattle.bw_lang.specs.Service.Term.{Term}
 use Rattle.bw_meaning.specs.Expressions.{Evaluated, Gives, Faults, eval}
-use Rattle.bw_lang.specs.Submissions.{values_of}
+use Rattle.bw_lang.specs.Service.Submissions.{values_of}
 use Rattle.bw_meaning.specs.Forms.{received_value}
-use Rattle.bw_lang.specs.Numbers.{first_number}
-use Rattle.bw_meaning.specs.GoOn.{with_rest, behind, body_of, turn, go_on}
+use Rattle.bw_lang.specs.Service.Numbers.{first_number}
+use Rattle.bw_meaning.specs.GoOn.{with_rest, go_on_behind, body_of, turn, go_on}
 use Rattle.bw_meaning.specs.Laws.{TurnCosts, GoingOnCosts}
 use Rattle.bw_meaning.specs.Operators.{truth_of, list_of, document_of}
 use Rattle.bw_meaning.specs.Pages.{show_fault, exit_fault}
@@ -158,45 +158,45 @@ within_with : (rests : Rests) (go : List (List ℕ) → Rests → Outcome) → (
 within_with [] go h = omega arith
 within_with (vs ∷ inner) go h = h vs inner
 
-behind_within : (service : Service) (c : Code) (n around : ℕ) (a : Answered) → Within (behind service c n around a)
+behind_within : (service : Service) (c : Code) (n around : ℕ) (a : Answered) → Within (go_on_behind service c n around a)
 behind_within service done n around a = omega arith
 behind_within service (declare kind w e rest) n around a = behind_within service rest (n + 1) around a
 behind_within service (assign w e rest) n around a = behind_within service rest (n + 1) around a
 behind_within service (exit p rest) n around a = behind_within service rest (n + 1) around a
 behind_within service (show p rs rest) n around a =
-    within_if (a.at == n) (exec service rest (n + 1) around (taken rs a.locals a.input a.later)) (behind service rest (n + 1) around a)
+    within_if (a.at == n) (exec service rest (n + 1) around (taken rs a.locals a.input a.later)) (go_on_behind service rest (n + 1) around a)
     (exec_within service rest (n + 1) around (taken rs a.locals a.input a.later) (taken_units rs a.locals a.input a.later))
     (behind_within service rest (n + 1) around a)
 behind_within service (block b rest) n around a =
     let m = n + numbered b in
-    within_if (nat_lt a.at m) (then_do (leave (declared b) (behind service b n around a)) (exec service rest m around)) (behind service rest m around a)
-    (within_then (leave (declared b) (behind service b n around a)) (exec service rest m around)
-    (within_leave (declared b) (behind service b n around a) (behind_within service b n around a)) (exec_within service rest m around))
+    within_if (nat_lt a.at m) (then_do (leave (declared b) (go_on_behind service b n around a)) (exec service rest m around)) (go_on_behind service rest m around a)
+    (within_then (leave (declared b) (go_on_behind service b n around a)) (exec service rest m around)
+    (within_leave (declared b) (go_on_behind service b n around a) (behind_within service b n around a)) (exec_within service rest m around))
     (behind_within service rest m around a)
 behind_within service (if_then t y rest) n around a =
     let m = n + 1 + numbered y in
-    within_if (nat_lt a.at m) (then_do (leave (declared y) (behind service y (n + 1) around a)) (exec service rest m around)) (behind service rest m around a)
-    (within_then (leave (declared y) (behind service y (n + 1) around a)) (exec service rest m around)
-    (within_leave (declared y) (behind service y (n + 1) around a) (behind_within service y (n + 1) around a)) (exec_within service rest m around))
+    within_if (nat_lt a.at m) (then_do (leave (declared y) (go_on_behind service y (n + 1) around a)) (exec service rest m around)) (go_on_behind service rest m around a)
+    (within_then (leave (declared y) (go_on_behind service y (n + 1) around a)) (exec service rest m around)
+    (within_leave (declared y) (go_on_behind service y (n + 1) around a) (behind_within service y (n + 1) around a)) (exec_within service rest m around))
     (behind_within service rest m around a)
 behind_within service (if_else t y z rest) n around a =
     let j = n + 1 + numbered y in
     let m = j + numbered z in
-    let p = then_do (leave (declared y) (behind service y (n + 1) around a)) (exec service rest m around) in
-    let q = then_do (leave (declared z) (behind service z j around a)) (exec service rest m around) in
-    within_if (nat_lt a.at j) p (if nat_lt a.at m then q else behind service rest m around a)
-    (within_then (leave (declared y) (behind service y (n + 1) around a)) (exec service rest m around)
-    (within_leave (declared y) (behind service y (n + 1) around a) (behind_within service y (n + 1) around a)) (exec_within service rest m around))
-    (within_if (nat_lt a.at m) q (behind service rest m around a)
-    (within_then (leave (declared z) (behind service z j around a)) (exec service rest m around)
-    (within_leave (declared z) (behind service z j around a) (behind_within service z j around a)) (exec_within service rest m around))
+    let p = then_do (leave (declared y) (go_on_behind service y (n + 1) around a)) (exec service rest m around) in
+    let q = then_do (leave (declared z) (go_on_behind service z j around a)) (exec service rest m around) in
+    within_if (nat_lt a.at j) p (if nat_lt a.at m then q else go_on_behind service rest m around a)
+    (within_then (leave (declared y) (go_on_behind service y (n + 1) around a)) (exec service rest m around)
+    (within_leave (declared y) (go_on_behind service y (n + 1) around a) (behind_within service y (n + 1) around a)) (exec_within service rest m around))
+    (within_if (nat_lt a.at m) q (go_on_behind service rest m around a)
+    (within_then (leave (declared z) (go_on_behind service z j around a)) (exec service rest m around)
+    (within_leave (declared z) (go_on_behind service z j around a) (behind_within service z j around a)) (exec_within service rest m around))
     (behind_within service rest m around a))
 behind_within service (while_loop t b rest) n around a =
     let m = n + 1 + numbered b in
-    let o = leave (declared b) (behind service b (n + 1) around a) in
-    within_if (nat_lt a.at m) (then_do o (exec service (while_loop t b rest) n around)) (behind service rest m around a)
+    let o = leave (declared b) (go_on_behind service b (n + 1) around a) in
+    within_if (nat_lt a.at m) (then_do o (exec service (while_loop t b rest) n around)) (go_on_behind service rest m around a)
     (within_then o (exec service (while_loop t b rest) n around)
-    (within_leave (declared b) (behind service b (n + 1) around a) (behind_within service b (n + 1) around a))
+    (within_leave (declared b) (go_on_behind service b (n + 1) around a) (behind_within service b (n + 1) around a))
     (exec_within service (while_loop t b rest) n around))
     (behind_within service rest m around a)
 behind_within service (for_each w e b rest) n around a =
@@ -204,13 +204,13 @@ behind_within service (for_each w e b rest) n around a =
     let names = w ∷ declared b in
     let run = λ (vs : List (List ℕ)) (st2 : State). exec service b (n + 1) (around + list_weight vs) st2 in
     let o = λ (vs : List (List ℕ)) (inner : Rests).
-    then_do (leave names (add_rest vs (behind service b (n + 1) (around + list_weight vs) (record a { rests = inner })))) (each vs w names run) in
-    within_if (nat_lt a.at m) (then_do (with_rest a.rests o) (exec service rest m around)) (behind service rest m around a)
+    then_do (leave names (add_rest vs (go_on_behind service b (n + 1) (around + list_weight vs) (record a { rests = inner })))) (each vs w names run) in
+    within_if (nat_lt a.at m) (then_do (with_rest a.rests o) (exec service rest m around)) (go_on_behind service rest m around a)
     (within_then (with_rest a.rests o) (exec service rest m around)
     (within_with a.rests o (λ vs inner. within_then
-    (leave names (add_rest vs (behind service b (n + 1) (around + list_weight vs) (record a { rests = inner })))) (each vs w names run)
-    (within_leave names (add_rest vs (behind service b (n + 1) (around + list_weight vs) (record a { rests = inner })))
-    (within_rest vs (behind service b (n + 1) (around + list_weight vs) (record a { rests = inner }))
+    (leave names (add_rest vs (go_on_behind service b (n + 1) (around + list_weight vs) (record a { rests = inner })))) (each vs w names run)
+    (within_leave names (add_rest vs (go_on_behind service b (n + 1) (around + list_weight vs) (record a { rests = inner })))
+    (within_rest vs (go_on_behind service b (n + 1) (around + list_weight vs) (record a { rests = inner }))
     (behind_within service b (n + 1) (around + list_weight vs) (record a { rests = inner }))))
     (within_each vs w names run (λ ws. exec_within service b (n + 1) (around + list_weight ws)))))
     (exec_within service rest m around))

@@ -2,8 +2,8 @@
 use Rattle.std.proofs.Common.{◌≡◌, ℕ, ◌+◌, List, [], ◌∷◌, ◌++◌, refl, sym, ap, ◌∙◌, arith}
 use Rattle.std.specs.Prelude.{◌==◌, nat_lt, if◌then◌else◌}
 use Rattle.bw_lang.specs.declared.service.Service.{Service}
-use Rattle.bw_lang.specs.Code.{Code, done, declare, assign, if_then, if_else, while_loop, block, for_each, show, exit, numbered}
-use Rattle.bw_meaning.specs.GoOn.{with_rest, behind}
+use Rattle.bw_lang.specs.Service.Code.{Code, done, declare, assign, if_then, if_else, while_loop, block, for_each, show, exit, numbered}
+use Rattle.bw_meaning.specs.GoOn.{with_rest, go_on_behind}
 use Rattle.bw_meaning.specs.Laws.{answered}
 use Rattle.bw_meaning.specs.Operators.{truth_of, list_of, document_of}
 use Rattle.bw_meaning.specs.Pages.{show_fault, exit_fault}
@@ -23,106 +23,106 @@ good_with lo hi r (vs ∷ inner) go h = h vs inner
 
 -- what is behind an answered show keeps within one budget and the inputs behind it
 pub behind_good : (service : Service) (c : Code) (n around : ℕ) (a : Answered) →
-    Good n (n + numbered c) (budget + refills a.later) (behind service c n around a)
+    Good n (n + numbered c) (budget + refills a.later) (go_on_behind service c n around a)
 behind_good service done n around a = tt
 behind_good service (declare kind w e rest) n around a =
     good_more (n + 1) (n + 1 + numbered rest) (budget + refills a.later) n (n + (1 + numbered rest)) (budget + refills a.later)
-    (behind service rest (n + 1) around a) (omega arith) (omega arith) (omega arith) (behind_good service rest (n + 1) around a)
+    (go_on_behind service rest (n + 1) around a) (omega arith) (omega arith) (omega arith) (behind_good service rest (n + 1) around a)
 behind_good service (assign w e rest) n around a =
     good_more (n + 1) (n + 1 + numbered rest) (budget + refills a.later) n (n + (1 + numbered rest)) (budget + refills a.later)
-    (behind service rest (n + 1) around a) (omega arith) (omega arith) (omega arith) (behind_good service rest (n + 1) around a)
+    (go_on_behind service rest (n + 1) around a) (omega arith) (omega arith) (omega arith) (behind_good service rest (n + 1) around a)
 behind_good service (exit p rest) n around a =
     good_more (n + 1) (n + 1 + numbered rest) (budget + refills a.later) n (n + (1 + numbered rest)) (budget + refills a.later)
-    (behind service rest (n + 1) around a) (omega arith) (omega arith) (omega arith) (behind_good service rest (n + 1) around a)
+    (go_on_behind service rest (n + 1) around a) (omega arith) (omega arith) (omega arith) (behind_good service rest (n + 1) around a)
 behind_good service (show p rs rest) n around a =
     let r = budget + refills a.later in
     let hi = n + (1 + numbered rest) in
     let st = taken rs a.locals a.input a.later in
     let e = taken_room rs a.locals a.input a.later in
-    good_if n hi r (a.at == n) (exec service rest (n + 1) around st) (behind service rest (n + 1) around a)
+    good_if n hi r (a.at == n) (exec service rest (n + 1) around st) (go_on_behind service rest (n + 1) around a)
     (good_more (n + 1) (n + 1 + numbered rest) (room st) n hi r (exec service rest (n + 1) around st) (omega arith) (omega arith) (omega arith)
     (exec_good service rest (n + 1) around st))
-    (good_more (n + 1) (n + 1 + numbered rest) r n hi r (behind service rest (n + 1) around a) (omega arith) (omega arith) (omega arith)
+    (good_more (n + 1) (n + 1 + numbered rest) r n hi r (go_on_behind service rest (n + 1) around a) (omega arith) (omega arith) (omega arith)
     (behind_good service rest (n + 1) around a))
 behind_good service (block b rest) n around a =
     let r = budget + refills a.later in
     let m = n + numbered b in
     let hi = n + (numbered b + numbered rest) in
-    good_if n hi r (nat_lt a.at m) (then_do (leave (declared b) (behind service b n around a)) (exec service rest m around)) (behind service rest m around a)
-    (good_step n m (m + numbered rest) hi r (leave (declared b) (behind service b n around a)) (exec service rest m around) (omega arith) (omega arith)
+    good_if n hi r (nat_lt a.at m) (then_do (leave (declared b) (go_on_behind service b n around a)) (exec service rest m around)) (go_on_behind service rest m around a)
+    (good_step n m (m + numbered rest) hi r (leave (declared b) (go_on_behind service b n around a)) (exec service rest m around) (omega arith) (omega arith)
     (omega arith)
-    (good_leave n m r (declared b) (behind service b n around a) (behind_good service b n around a))
+    (good_leave n m r (declared b) (go_on_behind service b n around a) (behind_good service b n around a))
     (λ st. exec_good service rest m around st))
-    (good_more m (m + numbered rest) r n hi r (behind service rest m around a) (omega arith) (omega arith) (omega arith) (behind_good service rest m around a))
+    (good_more m (m + numbered rest) r n hi r (go_on_behind service rest m around a) (omega arith) (omega arith) (omega arith) (behind_good service rest m around a))
 behind_good service (if_then t y rest) n around a =
     let r = budget + refills a.later in
     let m = n + 1 + numbered y in
     let hi = n + (1 + numbered y + numbered rest) in
-    good_if n hi r (nat_lt a.at m) (then_do (leave (declared y) (behind service y (n + 1) around a)) (exec service rest m around))
-    (behind service rest m around a)
-    (good_step n m (m + numbered rest) hi r (leave (declared y) (behind service y (n + 1) around a)) (exec service rest m around) (omega arith) (omega arith)
+    good_if n hi r (nat_lt a.at m) (then_do (leave (declared y) (go_on_behind service y (n + 1) around a)) (exec service rest m around))
+    (go_on_behind service rest m around a)
+    (good_step n m (m + numbered rest) hi r (leave (declared y) (go_on_behind service y (n + 1) around a)) (exec service rest m around) (omega arith) (omega arith)
     (omega arith)
-    (good_inner n m r (declared y) (behind service y (n + 1) around a) (behind_good service y (n + 1) around a))
+    (good_inner n m r (declared y) (go_on_behind service y (n + 1) around a) (behind_good service y (n + 1) around a))
     (λ st. exec_good service rest m around st))
-    (good_more m (m + numbered rest) r n hi r (behind service rest m around a) (omega arith) (omega arith) (omega arith) (behind_good service rest m around a))
+    (good_more m (m + numbered rest) r n hi r (go_on_behind service rest m around a) (omega arith) (omega arith) (omega arith) (behind_good service rest m around a))
 behind_good service (if_else t y z rest) n around a =
     let r = budget + refills a.later in
     let k = n + 1 + numbered y in
     let m = k + numbered z in
     let hi = n + (1 + numbered y + numbered z + numbered rest) in
-    let p = then_do (leave (declared y) (behind service y (n + 1) around a)) (exec service rest m around) in
-    let q = then_do (leave (declared z) (behind service z k around a)) (exec service rest m around) in
-    good_if n hi r (nat_lt a.at k) p (if nat_lt a.at m then q else behind service rest m around a)
-    (good_step n m (m + numbered rest) hi r (leave (declared y) (behind service y (n + 1) around a)) (exec service rest m around) (omega arith) (omega arith)
+    let p = then_do (leave (declared y) (go_on_behind service y (n + 1) around a)) (exec service rest m around) in
+    let q = then_do (leave (declared z) (go_on_behind service z k around a)) (exec service rest m around) in
+    good_if n hi r (nat_lt a.at k) p (if nat_lt a.at m then q else go_on_behind service rest m around a)
+    (good_step n m (m + numbered rest) hi r (leave (declared y) (go_on_behind service y (n + 1) around a)) (exec service rest m around) (omega arith) (omega arith)
     (omega arith)
-    (good_inner n m r (declared y) (behind service y (n + 1) around a)
-    (good_more (n + 1) k r (n + 1) m r (behind service y (n + 1) around a) (omega arith) (omega arith) (omega arith) (behind_good service y (n + 1) around a)))
+    (good_inner n m r (declared y) (go_on_behind service y (n + 1) around a)
+    (good_more (n + 1) k r (n + 1) m r (go_on_behind service y (n + 1) around a) (omega arith) (omega arith) (omega arith) (behind_good service y (n + 1) around a)))
     (λ st. exec_good service rest m around st))
-    (good_if n hi r (nat_lt a.at m) q (behind service rest m around a)
-    (good_step n m (m + numbered rest) hi r (leave (declared z) (behind service z k around a)) (exec service rest m around) (omega arith) (omega arith)
+    (good_if n hi r (nat_lt a.at m) q (go_on_behind service rest m around a)
+    (good_step n m (m + numbered rest) hi r (leave (declared z) (go_on_behind service z k around a)) (exec service rest m around) (omega arith) (omega arith)
     (omega arith)
-    (good_leave n m r (declared z) (behind service z k around a)
-    (good_more k m r n m r (behind service z k around a) (omega arith) (omega arith) (omega arith) (behind_good service z k around a)))
+    (good_leave n m r (declared z) (go_on_behind service z k around a)
+    (good_more k m r n m r (go_on_behind service z k around a) (omega arith) (omega arith) (omega arith) (behind_good service z k around a)))
     (λ st. exec_good service rest m around st))
-    (good_more m (m + numbered rest) r n hi r (behind service rest m around a) (omega arith) (omega arith) (omega arith) (behind_good service rest m around a)))
+    (good_more m (m + numbered rest) r n hi r (go_on_behind service rest m around a) (omega arith) (omega arith) (omega arith) (behind_good service rest m around a)))
 behind_good service (while_loop t b rest) n around a =
     let r = budget + refills a.later in
     let m = n + 1 + numbered b in
     let hi = n + (1 + numbered b + numbered rest) in
-    let o = leave (declared b) (behind service b (n + 1) around a) in
-    good_if n hi r (nat_lt a.at m) (then_do o (exec service (while_loop t b rest) n around)) (behind service rest m around a)
+    let o = leave (declared b) (go_on_behind service b (n + 1) around a) in
+    good_if n hi r (nat_lt a.at m) (then_do o (exec service (while_loop t b rest) n around)) (go_on_behind service rest m around a)
     (good_then n hi r o (exec service (while_loop t b rest) n around)
     (good_more n m r n hi r o (omega arith) (omega arith) (omega arith)
-    (good_inner n m r (declared b) (behind service b (n + 1) around a) (behind_good service b (n + 1) around a)))
+    (good_inner n m r (declared b) (go_on_behind service b (n + 1) around a) (behind_good service b (n + 1) around a)))
     (λ st le. good_more n hi (room st) n hi r (exec service (while_loop t b rest) n around st) (omega arith) (omega arith) le
     (exec_good service (while_loop t b rest) n around st)))
-    (good_more m (m + numbered rest) r n hi r (behind service rest m around a) (omega arith) (omega arith) (omega arith) (behind_good service rest m around a))
+    (good_more m (m + numbered rest) r n hi r (go_on_behind service rest m around a) (omega arith) (omega arith) (omega arith) (behind_good service rest m around a))
 behind_good service (for_each w e b rest) n around a =
     let r = budget + refills a.later in
     let m = n + 1 + numbered b in
     let hi = n + (1 + numbered b + numbered rest) in
     let names = w ∷ declared b in
     let o = λ (vs : List (List ℕ)) (inner : Rests).
-    then_do (leave names (add_rest vs (behind service b (n + 1) (around + list_weight vs) (record a { rests = inner }))))
+    then_do (leave names (add_rest vs (go_on_behind service b (n + 1) (around + list_weight vs) (record a { rests = inner }))))
     (each vs w names (λ later. exec service b (n + 1) (around + list_weight later))) in
-    good_if n hi r (nat_lt a.at m) (then_do (with_rest a.rests o) (exec service rest m around)) (behind service rest m around a)
+    good_if n hi r (nat_lt a.at m) (then_do (with_rest a.rests o) (exec service rest m around)) (go_on_behind service rest m around a)
     (good_step n m (m + numbered rest) hi r (with_rest a.rests o) (exec service rest m around) (omega arith) (omega arith) (omega arith)
     (good_with n m r a.rests o (λ vs inner.
-    good_then n m r (leave names (add_rest vs (behind service b (n + 1) (around + list_weight vs) (record a { rests = inner }))))
+    good_then n m r (leave names (add_rest vs (go_on_behind service b (n + 1) (around + list_weight vs) (record a { rests = inner }))))
     (each vs w names (λ later. exec service b (n + 1) (around + list_weight later)))
-    (good_leave n m r names (add_rest vs (behind service b (n + 1) (around + list_weight vs) (record a { rests = inner })))
-    (good_rest n m r vs (behind service b (n + 1) (around + list_weight vs) (record a { rests = inner }))
-    (good_more (n + 1) m r n m r (behind service b (n + 1) (around + list_weight vs) (record a { rests = inner })) (omega arith) (omega arith) (omega arith)
+    (good_leave n m r names (add_rest vs (go_on_behind service b (n + 1) (around + list_weight vs) (record a { rests = inner })))
+    (good_rest n m r vs (go_on_behind service b (n + 1) (around + list_weight vs) (record a { rests = inner }))
+    (good_more (n + 1) m r n m r (go_on_behind service b (n + 1) (around + list_weight vs) (record a { rests = inner })) (omega arith) (omega arith) (omega arith)
     (behind_good service b (n + 1) (around + list_weight vs) (record a { rests = inner })))))
     (λ st le. good_each n m r vs w names (λ later. exec service b (n + 1) (around + list_weight later)) st le
     (λ ws st2. good_more (n + 1) m (room st2) n m (room st2) (exec service b (n + 1) (around + list_weight ws) st2) (omega arith) (omega arith) (omega arith)
     (exec_good service b (n + 1) (around + list_weight ws) st2)))))
     (λ st. exec_good service rest m around st))
-    (good_more m (m + numbered rest) r n hi r (behind service rest m around a) (omega arith) (omega arith) (omega arith) (behind_good service rest m around a))
+    (good_more m (m + numbered rest) r n hi r (go_on_behind service rest m around a) (omega arith) (omega arith) (omega arith) (behind_good service rest m around a))
 
 -- what comes behind a show of these statements that this input answers
 abbrev pub back : Service → Code → ℕ → ℕ → Input → Back
-back service c n around i = λ k l rs. behind service c n around (answered k l rs i)
+back service c n around i = λ k l rs. go_on_behind service c n around (answered k l rs i)
 
 pub exec_law : (service : Service) (c : Code) (n around : ℕ) (st : State) (i : Input) →
     exec service c n around (more i st) ≡ onward i (back service c n around i) (exec service c n around st)
@@ -149,7 +149,7 @@ exec_law service (if_then t y rest) n around st i =
     let m = n + 1 + numbered y in
     let next = exec service rest m around in
     let b = back service (if_then t y rest) n around i in
-    let a = λ (k : ℕ) (l : Values) (rs : Rests). leave (declared y) (behind service y (n + 1) around (answered k l rs i)) in
+    let a = λ (k : ℕ) (l : Values) (rs : Rests). leave (declared y) (go_on_behind service y (n + 1) around (answered k l rs i)) in
     let go = λ (v : Value) (st1 : State). if truth_of v then leave (declared y) (exec service y (n + 1) around st1) else Went st1 in
     ap (λ o. then_do o next) (law_begin service t st i a go go
     (λ v st1 lt. law_if (truth_of v) i a (leave (declared y) (exec service y (n + 1) around (more i st1))) (Went (more i st1))
@@ -165,15 +165,15 @@ exec_law service (if_then t y rest) n around st i =
     (exec_good service y (n + 1) around st1)))
     (omega arith)))
     (λ st1. exec_good service rest m around st1) (λ st1. exec_law service rest m around st1 i)
-    (λ k l rs x lt. sym (if_below k m (then_do (a k l rs) next) (behind service rest m around (answered k l rs i)) lt))
-    (λ k l rs le x. sym (if_above k m (then_do (a k l rs) next) (behind service rest m around (answered k l rs i)) le))
+    (λ k l rs x lt. sym (if_below k m (then_do (a k l rs) next) (go_on_behind service rest m around (answered k l rs i)) lt))
+    (λ k l rs le x. sym (if_above k m (then_do (a k l rs) next) (go_on_behind service rest m around (answered k l rs i)) le))
 exec_law service (if_else t y z rest) n around st i =
     let j = n + 1 + numbered y in
     let m = j + numbered z in
     let next = exec service rest m around in
     let b = back service (if_else t y z rest) n around i in
-    let p = λ (k : ℕ) (l : Values) (rs : Rests). leave (declared y) (behind service y (n + 1) around (answered k l rs i)) in
-    let q = λ (k : ℕ) (l : Values) (rs : Rests). leave (declared z) (behind service z j around (answered k l rs i)) in
+    let p = λ (k : ℕ) (l : Values) (rs : Rests). leave (declared y) (go_on_behind service y (n + 1) around (answered k l rs i)) in
+    let q = λ (k : ℕ) (l : Values) (rs : Rests). leave (declared z) (go_on_behind service z j around (answered k l rs i)) in
     let a = λ (k : ℕ) (l : Values) (rs : Rests). if nat_lt k j then p k l rs else q k l rs in
     let go = λ (v : Value) (st1 : State). if truth_of v then leave (declared y) (exec service y (n + 1) around st1) else leave (declared z)
     (exec service z j around st1) in
@@ -201,23 +201,23 @@ exec_law service (if_else t y z rest) n around st i =
     (λ st1. exec_good service rest m around st1) (λ st1. exec_law service rest m around st1 i)
     (λ k l rs x lt. then_if (nat_lt k j) (p k l rs) (q k l rs) next
     ∙ ap (λ o. if nat_lt k j then then_do (p k l rs) next else o)
-    (sym (if_below k m (then_do (q k l rs) next) (behind service rest m around (answered k l rs i)) lt)))
+    (sym (if_below k m (then_do (q k l rs) next) (go_on_behind service rest m around (answered k l rs i)) lt)))
     (λ k l rs le x. sym (if_above k j (then_do (p k l rs) next)
-    (if nat_lt k m then then_do (q k l rs) next else behind service rest m around (answered k l rs i)) (omega arith)
-    ∙ if_above k m (then_do (q k l rs) next) (behind service rest m around (answered k l rs i)) le))
+    (if nat_lt k m then then_do (q k l rs) next else go_on_behind service rest m around (answered k l rs i)) (omega arith)
+    ∙ if_above k m (then_do (q k l rs) next) (go_on_behind service rest m around (answered k l rs i)) le))
 exec_law service (while_loop t b rest) n around st i =
     let m = n + 1 + numbered b in
     let next = exec service rest m around in
     let run = λ (st1 : State). leave (declared b) (exec service b (n + 1) around st1) in
-    let body = λ (k : ℕ) (l : Values) (rs : Rests). leave (declared b) (behind service b (n + 1) around (answered k l rs i)) in
+    let body = λ (k : ℕ) (l : Values) (rs : Rests). leave (declared b) (go_on_behind service b (n + 1) around (answered k l rs i)) in
     let loop = λ (st1 : State). turns (room st1) service t run st1 in
     let a = λ (k : ℕ) (l : Values) (rs : Rests). then_do (body k l rs) loop in
     ap (λ o. then_do o next) (law_turns (n + 1) m (room st) (room (more i st)) service t run body i st
     (λ st1. good_leave (n + 1) m (room st1) (declared b) (exec service b (n + 1) around st1) (exec_good service b (n + 1) around st1))
     (λ st1. ap (leave (declared b)) (exec_law service b (n + 1) around st1 i)
     ∙ law_leave (declared b) i (back service b (n + 1) around i) (exec service b (n + 1) around st1))
-    (λ k l rs x y. good_leave (n + 1) m budget (declared b) (behind service b (n + 1) around (answered k l rs i))
-    (good_more (n + 1) m (budget + 0) (n + 1) m budget (behind service b (n + 1) around (answered k l rs i)) (omega arith) (omega arith) (omega arith)
+    (λ k l rs x y. good_leave (n + 1) m budget (declared b) (go_on_behind service b (n + 1) around (answered k l rs i))
+    (good_more (n + 1) m (budget + 0) (n + 1) m budget (go_on_behind service b (n + 1) around (answered k l rs i)) (omega arith) (omega arith) (omega arith)
     (behind_good service b (n + 1) around (answered k l rs i))))
     (omega arith) (omega arith))
     ∙ law_step n m (m + numbered rest) (room st) i a (back service (while_loop t b rest) n around i) (back service rest m around i)
@@ -226,28 +226,28 @@ exec_law service (while_loop t b rest) n around st i =
     (λ st1. good_inner n m (room st1) (declared b) (exec service b (n + 1) around st1) (exec_good service b (n + 1) around st1)))
     (λ st1. exec_good service rest m around st1) (λ st1. exec_law service rest m around st1 i)
     (λ k l rs x lt. then_then (body k l rs) loop next
-    ∙ sym (if_below k m (then_do (body k l rs) (exec service (while_loop t b rest) n around)) (behind service rest m around (answered k l rs i)) lt))
-    (λ k l rs le x. sym (if_above k m (then_do (body k l rs) (exec service (while_loop t b rest) n around)) (behind service rest m around (answered k l rs i))
+    ∙ sym (if_below k m (then_do (body k l rs) (exec service (while_loop t b rest) n around)) (go_on_behind service rest m around (answered k l rs i)) lt))
+    (λ k l rs le x. sym (if_above k m (then_do (body k l rs) (exec service (while_loop t b rest) n around)) (go_on_behind service rest m around (answered k l rs i))
     le))
 exec_law service (block b rest) n around st i =
     let m = n + numbered b in
     let next = exec service rest m around in
-    let a = λ (k : ℕ) (l : Values) (rs : Rests). leave (declared b) (behind service b n around (answered k l rs i)) in
+    let a = λ (k : ℕ) (l : Values) (rs : Rests). leave (declared b) (go_on_behind service b n around (answered k l rs i)) in
     ap (λ o. then_do o next) (ap (leave (declared b)) (exec_law service b n around st i)
     ∙ law_leave (declared b) i (back service b n around i) (exec service b n around st))
     ∙ law_step n m (m + numbered rest) (room st) i a (back service (block b rest) n around i) (back service rest m around i)
     (leave (declared b) (exec service b n around st)) next
     (good_leave n m (room st) (declared b) (exec service b n around st) (exec_good service b n around st))
     (λ st1. exec_good service rest m around st1) (λ st1. exec_law service rest m around st1 i)
-    (λ k l rs x lt. sym (if_below k m (then_do (a k l rs) next) (behind service rest m around (answered k l rs i)) lt))
-    (λ k l rs le x. sym (if_above k m (then_do (a k l rs) next) (behind service rest m around (answered k l rs i)) le))
+    (λ k l rs x lt. sym (if_below k m (then_do (a k l rs) next) (go_on_behind service rest m around (answered k l rs i)) lt))
+    (λ k l rs le x. sym (if_above k m (then_do (a k l rs) next) (go_on_behind service rest m around (answered k l rs i)) le))
 exec_law service (for_each w e b rest) n around st i =
     let m = n + 1 + numbered b in
     let next = exec service rest m around in
     let names = w ∷ declared b in
     let run = λ (vs : List (List ℕ)) (st2 : State). exec service b (n + 1) (around + list_weight vs) st2 in
     let go = λ (v : Value) (st1 : State). each (list_of v) w names run st1 in
-    let inner = λ (vs : List (List ℕ)) (k : ℕ) (l : Values) (rs : Rests). behind service b (n + 1) (around + list_weight vs) (answered k l rs i) in
+    let inner = λ (vs : List (List ℕ)) (k : ℕ) (l : Values) (rs : Rests). go_on_behind service b (n + 1) (around + list_weight vs) (answered k l rs i) in
     let a = λ (k : ℕ) (l : Values) (rs : Rests). with_rest rs (λ vs others. then_do (leave names (add_rest vs (inner vs k l others))) (each vs w names run)) in
     ap (λ o. then_do o next) (law_value service e st i a go go
     (λ v st1. law_each (n + 1) m w (list_of v) names run inner a i st1
@@ -260,8 +260,8 @@ exec_law service (for_each w e b rest) n around st i =
     (λ vs st2. good_more (n + 1) m (room st2) n m (room st2) (exec service b (n + 1) (around + list_weight vs) st2) (omega arith) (omega arith) (omega arith)
     (exec_good service b (n + 1) (around + list_weight vs) st2))))
     (λ st1. exec_good service rest m around st1) (λ st1. exec_law service rest m around st1 i)
-    (λ k l rs x lt. sym (if_below k m (then_do (a k l rs) next) (behind service rest m around (answered k l rs i)) lt))
-    (λ k l rs le x. sym (if_above k m (then_do (a k l rs) next) (behind service rest m around (answered k l rs i)) le))
+    (λ k l rs x lt. sym (if_below k m (then_do (a k l rs) next) (go_on_behind service rest m around (answered k l rs i)) lt))
+    (λ k l rs le x. sym (if_above k m (then_do (a k l rs) next) (go_on_behind service rest m around (answered k l rs i)) le))
 exec_law service (show p fs rest) n around st i =
     let m = n + 1 in
     let next = exec service rest m around in
@@ -276,8 +276,8 @@ exec_law service (show p fs rest) n around st i =
     (λ v st1 lt. good_unless n m (room st) (show_fault (document_of v) st1.locals around st1.shared) st1.units (wait n fs (document_of v) st1 st1.inputs)
     (good_wait n m (room st) n fs (document_of v) st1 st1.inputs (omega arith) (omega arith) (omega arith))))
     (λ st1. exec_good service rest m around st1) (λ st1. exec_law service rest m around st1 i)
-    (λ k l rs x lt. sym (if_at k n (next (taken fs l i [])) (behind service rest m around (answered k l rs i)) x lt))
-    (λ k l rs le x. sym (if_past k n (next (taken fs l i [])) (behind service rest m around (answered k l rs i)) le))
+    (λ k l rs x lt. sym (if_at k n (next (taken fs l i [])) (go_on_behind service rest m around (answered k l rs i)) x lt))
+    (λ k l rs le x. sym (if_past k n (next (taken fs l i [])) (go_on_behind service rest m around (answered k l rs i)) le))
 exec_law service (exit p rest) n around st i =
     let b = back service (exit p rest) n around i in
     let go = λ (v : Value) (st1 : State). exits (document_of v) st1 in

@@ -4,11 +4,11 @@ use Rattle.std.specs.Prelude.{if◌then◌else◌}
 use Rattle.bw_lang.specs.declared.service.Service.{Service}
 use Rattle.bw_lang.specs.declared.stmt.Receive.{Receive}
 use Rattle.bw_lang.specs.declared.turn.TurnFault.{TurnFault}
-use Rattle.bw_lang.specs.Code.{Code, done, declare, assign, if_then, if_else, while_loop, block, for_each, show, exit, numbered}
-use Rattle.bw_lang.specs.Names as names
-use Rattle.bw_lang.specs.Term.{Term, int, truth, string, name, paren, not, neg, binary, call, plug, nothing, Fillings, no_more, filling}
+use Rattle.bw_lang.specs.Service.Code.{Code, done, declare, assign, if_then, if_else, while_loop, block, for_each, show, exit, numbered}
+use Rattle.bw_lang.specs.Table.Names as names
+use Rattle.bw_lang.specs.Service.Term.{Term, int, truth, string, name, paren, not, neg, binary, call, plug, nothing, Fillings, no_more, filling}
 use Rattle.bw_meaning.specs.Expressions.{Evaluated, Gives, Faults, paid, and_then, given, eval, fill}
-use Rattle.bw_lang.specs.Submissions.{values_of}
+use Rattle.bw_lang.specs.Service.Submissions.{values_of}
 use Rattle.bw_meaning.specs.Forms.{received_value}
 use Rattle.bw_meaning.specs.Operators.{truth_of, list_of, document_of, decides, combined, filled}
 use Rattle.bw_meaning.specs.Pages.{show_fault, exit_fault}
@@ -66,9 +66,9 @@ mutual
   fill_leaves service l s no_more d u = omega arith
   fill_leaves service l s (filling g e ps) d u =
       leaves_then u (eval service l s e u) (λ v x.
-      and_then (given (filled (names.number service.gaps g) v (document_of d)) x) (λ d1 y. fill service l s ps d1 y)) (eval_leaves service l s e u)
-      (λ v x. leaves_then x (given (filled (names.number service.gaps g) v (document_of d)) x)
-      (λ d1 y. fill service l s ps d1 y) (leaves_given (filled (names.number service.gaps g) v (document_of d)) x) (λ d1 y. fill_leaves service l s ps d1 y))
+      and_then (given (filled (names.name_number service.gaps g) v (document_of d)) x) (λ d1 y. fill service l s ps d1 y)) (eval_leaves service l s e u)
+      (λ v x. leaves_then x (given (filled (names.name_number service.gaps g) v (document_of d)) x)
+      (λ d1 y. fill service l s ps d1 y) (leaves_given (filled (names.name_number service.gaps g) v (document_of d)) x) (λ d1 y. fill_leaves service l s ps d1 y))
 
 -- ---- outcomes
 

@@ -2,8 +2,8 @@
 use Rattle.std.proofs.Common.{◌≡◌, ℕ, zero, suc, ◌+◌, ap, refl, ◌∙◌, arith}
 use Rattle.std.specs.Prelude.{if◌then◌else◌}
 use Rattle.bw_lang.specs.declared.service.Service.{Service}
-use Rattle.bw_lang.specs.Code.{while_loop, numbered}
-use Rattle.bw_lang.specs.Term.{Term}
+use Rattle.bw_lang.specs.Service.Code.{while_loop, numbered}
+use Rattle.bw_lang.specs.Service.Term.{Term}
 use Rattle.bw_meaning.specs.Expressions.{Evaluated, Gives, Faults, eval}
 use Rattle.bw_meaning.specs.Laws.{LoopsAgain}
 use Rattle.bw_meaning.specs.Operators.{truth_of}

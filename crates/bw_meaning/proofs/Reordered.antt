@@ -8,7 +8,7 @@ use Rattle.std.proofs.lemmas.List.Elements.{filter-append}
 use Rattle.std.proofs.lemmas.List.Sorted.{IsPermutation-map}
 use Rattle.std.proofs.lemmas.List.Sums.{sum_by-cons}
 use Rattle.std.proofs.lemmas.Map.Keys.{IsDistinct-IsPermutation}
-use Rattle.bw_lang.specs.Names.{same, beside}
+use Rattle.bw_lang.specs.Table.Names.{same, beside}
 use Rattle.bw_meaning.specs.NameLaws.{Agree}
 use Rattle.bw_meaning.specs.Orders.{of_name, IsReordered, OrdersAreReordered}
 use Rattle.bw_meaning.specs.Values.{Value, Values, names_of, weight, weights, replaced, without}

@@ -4,8 +4,8 @@ use Rattle.std.specs.Prelude.{if◌then◌else◌, unwrap_or, pos, neg_ℤ}
 use Rattle.std.specs.Prelude as std
 use Rattle.std.specs.Option.{option_or}
 use Rattle.bw_lang.specs.declared.service.Service.{Service}
-use Rattle.bw_lang.specs.Names as names
-use Rattle.bw_lang.specs.Term.{Term, int, truth, string, name, paren, not, neg, binary, call, plug, nothing, Fillings, no_more, filling}
+use Rattle.bw_lang.specs.Table.Names as names
+use Rattle.bw_lang.specs.Service.Term.{Term, int, truth, string, name, paren, not, neg, binary, call, plug, nothing, Fillings, no_more, filling}
 use Rattle.bw_meaning.specs.Expressions.{Evaluated, Gives, Faults, paid, and_then, given, eval, fill}
 use Rattle.bw_meaning.specs.NameLaws.{Agree, ExpressionsSeeNames}
 use Rattle.bw_meaning.specs.Operators.{number_of, truth_of, document_of, held, decides, combined, called, filled}
@@ -52,10 +52,10 @@ module _ (service : Service) (l m s t : Values) (locals : Agree l m) (shared : A
     fill_alike : (ps : Fillings) (d : Value) (units : ℕ) → fill service l s ps d units ≡ fill service m t ps d units
     fill_alike no_more d units = refl
     fill_alike (filling g e ps) d units =
-        ap (λ o. and_then o (λ v u1. and_then (given (filled (names.number service.gaps g) v (document_of d)) u1) (λ d1 u2. fill service l s ps d1 u2)))
+        ap (λ o. and_then o (λ v u1. and_then (given (filled (names.name_number service.gaps g) v (document_of d)) u1) (λ d1 u2. fill service l s ps d1 u2)))
         (eval_alike e units)
         ∙ then_alike (eval service m t e units) _ _ (λ v u1.
-        then_alike (given (filled (names.number service.gaps g) v (document_of d)) u1) _ _ (λ d1 u2. fill_alike ps d1 u2))
+        then_alike (given (filled (names.name_number service.gaps g) v (document_of d)) u1) _ _ (λ d1 u2. fill_alike ps d1 u2))
 
 pub expressions_see_names : ExpressionsSeeNames
 expressions_see_names service l m s t e units locals shared = eval_alike service l m s t locals shared e units

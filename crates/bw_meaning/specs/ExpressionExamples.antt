@@ -2,8 +2,8 @@
 use Rattle.std.specs.Prelude.{◌≡◌, ◌+◌, pos, negsuc, true, false, [], ◌∷◌, codes, Some, None}
 use Rattle.bw_lang.specs.declared.expr.Fun.TheVariants as funs
 use Rattle.bw_lang.specs.declared.expr.Op.TheVariants as ops
-use Rattle.bw_lang.specs.Code.{done}
-use Rattle.bw_lang.specs.Term.{truth, string, name, paren, not, neg, binary, call, plug, nothing, no_more}
+use Rattle.bw_lang.specs.Service.Code.{done}
+use Rattle.bw_lang.specs.Service.Term.{truth, string, name, paren, not, neg, binary, call, plug, nothing, no_more}
 use Rattle.bw_meaning.specs.Expressions.{Gives}
 use Rattle.bw_meaning.specs.Numbers.{spelled}
 use Rattle.bw_meaning.specs.Samples.{n, s, c, nat, list_name, row_name, aligned_name, rows, with_n, with_a, list_items, least, greatest, of_session, value_of}

@@ -4,10 +4,10 @@ use Rattle.std.specs.List.{repeat}
 use Rattle.bw_lang.specs.declared.turn.TurnFault.{TurnFault}
 use Rattle.bw_lang.specs.declared.expr.Op.TheVariants as ops
 use Rattle.bw_lang.specs.declared.turn.TurnFault.TheVariants as faults
-use Rattle.bw_lang.specs.Code.{Code, done, assign, while_loop, show, exit}
-use Rattle.bw_lang.specs.Forest.{Forest}
-use Rattle.bw_lang.specs.Forest as forest
-use Rattle.bw_lang.specs.Term.{int, string, paren, neg, binary}
+use Rattle.bw_lang.specs.Service.Code.{Code, done, assign, while_loop, show, exit}
+use Rattle.bw_lang.specs.Document.Forest.{Forest}
+use Rattle.bw_lang.specs.Document.Forest as forest
+use Rattle.bw_lang.specs.Service.Term.{int, string, paren, neg, binary}
 use Rattle.bw_meaning.specs.Expressions.{Gives, Faults, eval}
 use Rattle.bw_meaning.specs.Operators.{document_of, filled}
 use Rattle.bw_meaning.specs.Pages.{page_length, exit_fault, show_fault}

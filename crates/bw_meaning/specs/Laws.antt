@@ -1,8 +1,8 @@
 -- Laws of turns.
 use Rattle.std.specs.Prelude.{◌≡◌, ℕ, ◌+◌, if◌then◌else◌, List, [], ◌∷◌, ◌++◌}
 use Rattle.bw_lang.specs.declared.service.Service.{Service}
-use Rattle.bw_lang.specs.Code.{Code, while_loop, numbered}
-use Rattle.bw_lang.specs.Term.{Term}
+use Rattle.bw_lang.specs.Service.Code.{Code, while_loop, numbered}
+use Rattle.bw_lang.specs.Service.Term.{Term}
 use Rattle.bw_meaning.specs.GoOn.{turn, go_on}
 use Rattle.bw_meaning.specs.Operators.{truth_of}
 use Rattle.bw_meaning.specs.States.{Input, State, Shown, Answered, Rests, budget, units_left, cost}

@@ -4,11 +4,11 @@ use Rattle.std.specs.Prelude.{◌≡◌, ℕ, true, List, [], ◌∷◌, ◌++�
 use Rattle.std.specs.List.{list_any, IsDistinct}
 use Rattle.std.specs.Option.{option_map, option_or}
 use Rattle.bw_lang.specs.declared.service.Service.{Service}
-use Rattle.bw_lang.specs.Code.{Code, done, block}
-use Rattle.bw_lang.specs.Names.{same, beside}
-use Rattle.bw_lang.specs.Term.{Term}
+use Rattle.bw_lang.specs.Service.Code.{Code, done, block}
+use Rattle.bw_lang.specs.Table.Names.{same, beside}
+use Rattle.bw_lang.specs.Service.Term.{Term}
 use Rattle.bw_meaning.specs.Expressions.{eval}
-use Rattle.bw_meaning.specs.GoOn.{behind}
+use Rattle.bw_meaning.specs.GoOn.{go_on_behind}
 use Rattle.bw_meaning.specs.States.{State, Went, Answered}
 use Rattle.bw_meaning.specs.Statements.{declared, exec}
 use Rattle.bw_meaning.specs.Values.{Value, Values, names_of, weights, replaced, without}
@@ -65,4 +65,4 @@ BlocksLeave =
 abbrev pub AnsweredBlocksLeave : Type 0
 AnsweredBlocksLeave =
     (service : Service) (c : Code) (n around : ℕ) (a : Answered) (st : State) (w : List ℕ) →
-    behind service (block c done) n around a ≡ Went st → list_any (same w) (declared c) ≡ true → beside w st.locals ≡ None
+    go_on_behind service (block c done) n around a ≡ Went st → list_any (same w) (declared c) ≡ true → beside w st.locals ≡ None

@@ -3,8 +3,8 @@ use Rattle.std.specs.Prelude.{◌≡◌, ℕ, List, [], ◌∷◌, filter, IsPer
 use Rattle.std.specs.List.{IsDistinct}
 use Rattle.bw_lang.specs.declared.service.Service.{Service}
 use Rattle.bw_lang.specs.declared.turn.TurnFault.{TurnFault}
-use Rattle.bw_lang.specs.Code.{Code}
-use Rattle.bw_lang.specs.Names.{same}
+use Rattle.bw_lang.specs.Service.Code.{Code}
+use Rattle.bw_lang.specs.Table.Names.{same}
 use Rattle.bw_meaning.specs.GoOn.{turn, go_on}
 use Rattle.bw_meaning.specs.States.{Form, Rests, Input, State, Outcome, Went, Shown, Exited, Failed, Answered}
 use Rattle.bw_meaning.specs.Statements.{exec}

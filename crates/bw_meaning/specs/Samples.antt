@@ -6,11 +6,11 @@ use Rattle.bw_lang.specs.declared.service.Literal.TheVariants as literals
 use Rattle.bw_lang.specs.declared.service.Service.{Service}
 use Rattle.bw_lang.specs.declared.service.Sort.TheVariants as sorts
 use Rattle.bw_lang.specs.declared.stmt.Kind.TheVariants as kinds
-use Rattle.bw_lang.specs.Code.{Code, done}
-use Rattle.bw_lang.specs.Forest.{Forest}
-use Rattle.bw_lang.specs.Forest as forest
-use Rattle.bw_lang.specs.Print.{print}
-use Rattle.bw_lang.specs.Term.{Term, int, name, plug, Fillings, no_more, filling}
+use Rattle.bw_lang.specs.Service.Code.{Code, done}
+use Rattle.bw_lang.specs.Document.Forest.{Forest}
+use Rattle.bw_lang.specs.Document.Forest as forest
+use Rattle.bw_lang.specs.Document.Print.{print}
+use Rattle.bw_lang.specs.Service.Term.{Term, int, name, plug, Fillings, no_more, filling}
 use Rattle.bw_meaning.specs.Expressions.{Evaluated, Gives, Faults, eval}
 use Rattle.bw_meaning.specs.Operators.{document_of}
 use Rattle.bw_meaning.specs.States.{Form, Input, State, Outcome, Went, Shown, Exited, Failed}

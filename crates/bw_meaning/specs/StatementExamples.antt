@@ -3,8 +3,8 @@
 use Rattle.std.specs.Prelude.{◌≡◌, ℕ, pos, true, false, List, [], ◌∷◌, ◌++◌, codes}
 use Rattle.bw_lang.specs.declared.expr.Op.TheVariants as ops
 use Rattle.bw_lang.specs.declared.stmt.Kind.TheVariants as kinds
-use Rattle.bw_lang.specs.Code.{Code, done, declare, assign, if_then, if_else, while_loop, block, for_each, show, exit}
-use Rattle.bw_lang.specs.Term.{truth, name, nothing, binary}
+use Rattle.bw_lang.specs.Service.Code.{Code, done, declare, assign, if_then, if_else, while_loop, block, for_each, show, exit}
+use Rattle.bw_lang.specs.Service.Term.{truth, name, nothing, binary}
 use Rattle.bw_meaning.specs.Samples.{n, s, c, x, nat, list_name, list_items, locals, shared, of_session, state, after, two, sent}
 use Rattle.bw_meaning.specs.States.{Input, Outcome, Went, Shown, Exited}
 use Rattle.bw_meaning.specs.Statements.{exec}

@@ -3,8 +3,8 @@ use Rattle.std.specs.Prelude.{◌≡◌, ℕ, ◌+◌, ◌*◌, pos, List, [], �
 use Rattle.bw_lang.specs.declared.expr.Fun.TheVariants as funs
 use Rattle.bw_lang.specs.declared.expr.Op.TheVariants as ops
 use Rattle.bw_lang.specs.declared.stmt.Kind.TheVariants as kinds
-use Rattle.bw_lang.specs.Code.{Code, done, declare, assign, while_loop, for_each, show, exit}
-use Rattle.bw_lang.specs.Term.{Term, name, paren, binary, call, plug, nothing, no_more}
+use Rattle.bw_lang.specs.Service.Code.{Code, done, declare, assign, while_loop, for_each, show, exit}
+use Rattle.bw_lang.specs.Service.Term.{Term, name, paren, binary, call, plug, nothing, no_more}
 use Rattle.bw_meaning.specs.GoOn.{turn, go_on}
 use Rattle.bw_meaning.specs.Laws.{answered}
 use Rattle.bw_meaning.specs.Samples.{n, c, d, nat, list_name, list_items, row_name, rows, with_n, row_of_x, shared, of_session, two, sent, page}

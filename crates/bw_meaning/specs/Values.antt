@@ -5,9 +5,9 @@ use Rattle.bw_lang.specs.declared.measure.Measure.{Measure}
 use Rattle.bw_lang.specs.declared.service.Literal.{Literal}
 use Rattle.bw_lang.specs.declared.service.Literal.TheVariants as literals
 use Rattle.bw_lang.specs.declared.service.Service.{Service}
-use Rattle.bw_lang.specs.Forest.{Forest, none}
-use Rattle.bw_lang.specs.Measures.{constant_measure}
-use Rattle.bw_lang.specs.Names.{same}
+use Rattle.bw_lang.specs.Document.Forest.{Forest, none}
+use Rattle.bw_lang.specs.Document.Measures.{constant_measure}
+use Rattle.bw_lang.specs.Table.Names.{same}
 
 -- a document value: what it holds, and its measure by how it was made
 pub record Document : Type 0 where

@@ -8,8 +8,8 @@ use Rattle.bw_http.specs.declared.request.Path.{Path}
 use Rattle.bw_http.specs.declared.request.Path.TheVariants as paths
 use Rattle.bw_lang.specs.declared.service.Service.{Service}
 use Rattle.bw_lang.specs.declared.stmt.Kind.TheVariants as kinds
-use Rattle.bw_lang.specs.Code.{done, declare, show, exit}
-use Rattle.bw_lang.specs.Term.{string, plug, no_more}
+use Rattle.bw_lang.specs.Service.Code.{done, declare, show, exit}
+use Rattle.bw_lang.specs.Service.Term.{string, plug, no_more}
 use Rattle.bw_meaning.specs.Samples.{of_session, list_name, row_name, with_n, x}
 use Rattle.bw_meaning.specs.States.{Form}
 use Rattle.bw_model.specs.Sessions.{World, empty}

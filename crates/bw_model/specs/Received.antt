@@ -6,10 +6,10 @@ use Rattle.bw_http.specs.declared.replies.Reply.{Reply}
 use Rattle.bw_http.specs.declared.replies.Reply.TheVariants as replies
 use Rattle.bw_lang.specs.declared.service.Service.{Service}
 use Rattle.bw_lang.specs.declared.stmt.Receive.{Receive}
-use Rattle.bw_lang.specs.Code.{Code, done, declare, assign, if_then, if_else, while_loop, block, for_each, show, exit, numbered}
-use Rattle.bw_lang.specs.Names.{beside, number, with_names}
-use Rattle.bw_lang.specs.Numbers.{first_number}
-use Rattle.bw_lang.specs.Submissions.{values_of}
+use Rattle.bw_lang.specs.Service.Code.{Code, done, declare, assign, if_then, if_else, while_loop, block, for_each, show, exit, numbered}
+use Rattle.bw_lang.specs.Table.Names.{beside, name_number, with_names}
+use Rattle.bw_lang.specs.Service.Numbers.{first_number}
+use Rattle.bw_lang.specs.Service.Submissions.{values_of}
 use Rattle.bw_meaning.specs.GoOn.{body_of}
 use Rattle.bw_meaning.specs.States.{Form}
 use Rattle.bw_meaning.specs.Values.{Value, Values, list}
@@ -35,7 +35,7 @@ receives_of service session at = receives_at (body_of service session) (first_nu
 
 -- the number of a field, which replies know it by: its place among the names of all fields
 abbrev pub number_of_field : Service → List ℕ → ℕ
-number_of_field service field = number (with_names [] (field_names service)) field
+number_of_field service field = name_number (with_names [] (field_names service)) field
 
 -- some value has more than 16,384 bytes
 abbrev pub long_refusal : ℕ → List (List ℕ) → Option Reply

@@ -8,7 +8,7 @@ use Rattle.bw_http.specs.declared.request.Request.{Request}
 use Rattle.bw_http.specs.Cuts.{Cut}
 use Rattle.bw_http.specs.Replies.{bytes_of}
 use Rattle.bw_lang.specs.declared.service.Service.{Service}
-use Rattle.bw_lang.specs.Names.{with_names}
+use Rattle.bw_lang.specs.Table.Names.{with_names}
 use Rattle.bw_out.specs.Told.{Coming, later_words}
 use Rattle.bw_types.specs.Fields.{field_names}
 use Rattle.bw_model.specs.Sessions.{World}

@@ -11,7 +11,7 @@ use Rattle.bw_http.specs.declared.request.Path.TheVariants as paths
 use Rattle.bw_http.specs.declared.request.Request.{Request}
 use Rattle.bw_http.specs.Paths.{spelling}
 use Rattle.bw_lang.specs.declared.service.Service.{Service}
-use Rattle.bw_lang.specs.Print.{print}
+use Rattle.bw_lang.specs.Document.Print.{print}
 use Rattle.bw_meaning.specs.States.{Form}
 use Rattle.bw_types.specs.Scopes.{session_of}
 use Rattle.bw_page.specs.Pages.{show_page, exit_page}

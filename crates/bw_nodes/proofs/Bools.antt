@@ -1,9 +1,9 @@
 -- Tests, and lists of which some or all members pass one.
 use Rattle.std.proofs.Common.{◌≡◌, ◌⊎◌, inl, inr, ℕ, zero, suc, ◌<◌, Bool, true, false, ◌||◌, ◌&&◌, not, List, [], ◌∷◌, length, get_or, refl, sym, ap, ◌∙◌, arith}
 use Rattle.std.specs.List.{list_any, list_all, Contains}
-use Rattle.std.proofs.lemmas.Bool.{false≢true, cases_Bool, or_cases}
+use Rattle.std.proofs.lemmas.Bool.{false≢true, cases_Bool, or_cases, or_left, or_right}
 use Rattle.std.proofs.lemmas.Slice.Eq.{bytes_eq-Decides}
-use Rattle.bw_lang.specs.Names.{same}
+use Rattle.bw_lang.specs.Table.Names.{same}
 
 pub and_parts : (a b : Bool) → (a && b) ≡ true → (a ≡ true) × (b ≡ true)
 and_parts true b h = (refl, h)
@@ -12,14 +12,6 @@ and_parts false b h = absurd (false≢true h)
 pub and_both : (a b : Bool) → a ≡ true → b ≡ true → (a && b) ≡ true
 and_both true b p q = q
 and_both false b p q = absurd (false≢true p)
-
-pub or_first : (a b : Bool) → a ≡ true → (a || b) ≡ true
-or_first true b h = refl
-or_first false b h = absurd (false≢true h)
-
-pub or_second : (a b : Bool) → b ≡ true → (a || b) ≡ true
-or_second true b h = refl
-or_second false b h = h
 
 pub or_parts : (a b : Bool) → (a || b) ≡ false → (a ≡ false) × (b ≡ false)
 or_parts true b h = absurd (false≢true (sym h))
@@ -58,8 +50,8 @@ all_at p xs x c h = at_all p xs c.0 x c.1 c.2 h
 
 at_any : {X : Type 0} (p : X → Bool) (xs : List X) (k : ℕ) (x : X) → k < length xs → get_or xs k x ≡ x → p x ≡ true → list_any p xs ≡ true
 at_any p [] k x l e h = absurd (omega arith)
-at_any p (y ∷ xs) zero x l e h = or_first (p y) (list_any p xs) (ap p e ∙ h)
-at_any p (y ∷ xs) (suc k) x l e h = or_second (p y) (list_any p xs) (at_any p xs k x (omega (arith, l)) e h)
+at_any p (y ∷ xs) zero x l e h = or_left (p y) (list_any p xs) (ap p e ∙ h)
+at_any p (y ∷ xs) (suc k) x l e h = or_right (p y) (list_any p xs) (at_any p xs k x (omega (arith, l)) e h)
 
 pub any_at : {X : Type 0} (p : X → Bool) (xs : List X) (x : X) → Contains xs x → p x ≡ true → list_any p xs ≡ true
 any_at p xs x c h = at_any p xs c.0 x c.1 c.2 h

@@ -2,7 +2,7 @@
 use Rattle.std.proofs.Common.{◌≡◌, ◌⊎◌, inl, inr, ℕ, zero, suc, ◌+◌, ◌<◌, ◌≤◌, ◌==◌, Bool, true, false, ◌||◌, ◌&&◌, not, if◌then◌else◌, List, [], ◌∷◌, ◌++◌, length, replicate, get_or, refl, ap, sym, ◌∙◌, subst, arith}
 use Rattle.std.specs.List.{list_any, list_all, All}
 use Rattle.std.proofs.lemmas.List.{get_or-replicate, get_or_past, append-nil, length-replicate}
-use Rattle.std.proofs.lemmas.Bool.{false≢true, cases_Bool, or_cases, cases_lt}
+use Rattle.std.proofs.lemmas.Bool.{false≢true, cases_Bool, or_cases, cases_lt, or_left, or_right}
 use Rattle.std.proofs.lemmas.List.Elements.{All-cons}
 use Rattle.std.specs.List.{AllByRecursion}
 use Rattle.std.proofs.lemmas.Cmp.{tied_itself, nat_cmp_total}
@@ -12,7 +12,7 @@ use Rattle.std.specs.declared.cmp.Ordering.{Ordering}
 use Rattle.std.specs.declared.cmp.Ordering.TheVariants.{Less, Equal, Greater}
 use Rattle.std.specs.Ordering.{nat_cmp, is_eq, ordering_then}
 use borrow.Author.Tests.{eqb-true}
-use Rattle.bw_lang.specs.Names.{same}
+use Rattle.bw_lang.specs.Table.Names.{same}
 use Rattle.bw_solve.specs.Sets.{has}
 use Rattle.bw_strings.specs.declared.strings.StrSet.{StrSet}
 use Rattle.bw_strings.specs.declared.strings.StrSet.TheVariants.{Any, Of}
@@ -25,7 +25,7 @@ use Rattle.bw_sum.specs.declared.summary.Summary.{Summary}
 use Rattle.bw_nodes.specs.Nodes.{Node, no_node, node_at, among}
 use Rattle.bw_nodes.specs.Fits.{Fits, AreStrings}
 use Rattle.bw_nodes.specs.Parts.{links_of, opens_of, sayings_of, gaps_of, wordy_of, grown, link_part, open_part, said_part, GrowsNodes, GrowsSaid}
-use Rattle.bw_nodes.proofs.Bools.{and_parts, and_both, or_first, or_second, not_true, fails_at, any_at, all_at, passes_at, same_itself}
+use Rattle.bw_nodes.proofs.Bools.{and_parts, and_both, not_true, fails_at, any_at, all_at, passes_at, same_itself}
 use Rattle.std.proofs.lemmas.Slice.Eq.{bytes_eq-Decides}
 
 then_eq : (a b : Ordering) → is_eq (ordering_then a b) ≡ (is_eq a && is_eq b)
@@ -84,7 +84,7 @@ strings_are literals n g w (l ∷ ls) =
 some_string : (literals : List (List ℕ)) (S : StrSet) → IsHeld S → (w : List ℕ) × (has_string literals S w ≡ true)
 some_string literals Any h = ([], refl)
 some_string literals (Of []) h = absurd (false≢true (sym h.1))
-some_string literals (Of (n ∷ ns)) h = (text_of literals n, or_first (same (text_of literals n) (text_of literals n)) (list_any (λ k. same (text_of literals k) (text_of literals n)) ns) (same_itself (text_of literals n)))
+some_string literals (Of (n ∷ ns)) h = (text_of literals n, or_left (same (text_of literals n) (text_of literals n)) (list_any (λ k. same (text_of literals k) (text_of literals n)) ns) (same_itself (text_of literals n)))
 
 wordy_string : (literals : List (List ℕ)) (S : StrSet) → blank literals S ≡ false → (w : List ℕ) × (has_string literals S w ≡ true) × (is_blank w ≡ false)
 wordy_string literals Any h = (97 ∷ [], refl, refl)
@@ -109,15 +109,15 @@ among_if false x xs g = refl
 pub said_to : (literals : List (List ℕ)) (n g : ℕ) (labels : List ((ℕ × ℕ) × StrSet)) → AreLabels labels → among (gaps_of (sayings_of n labels)) g ≡ true → (w : List ℕ) × (list_any (at_gap literals n g w) labels ≡ true)
 said_to literals n g [] t h = absurd (false≢true h)
 said_to literals n g (l ∷ ls) t h = elim (or_cases ((l.0.0 == n) && (l.0.1 == g)) (among (gaps_of (sayings_of n ls)) g) (sym (among_if (l.0.0 == n) (l.0.1, l.1) (sayings_of n ls) g) ∙ h)) [
-  | inl it ↦ let s = some_string literals l.1 t.1.0 in (s.0, or_first (at_gap literals n g s.0 l) (list_any (at_gap literals n g s.0) ls) (and_both _ _ it s.1))
-  | inr it ↦ let r = said_to literals n g ls t.1.1 it in (r.0, or_second (at_gap literals n g r.0 l) _ r.1)
+  | inl it ↦ let s = some_string literals l.1 t.1.0 in (s.0, or_left (at_gap literals n g s.0 l) (list_any (at_gap literals n g s.0) ls) (and_both _ _ it s.1))
+  | inr it ↦ let r = said_to literals n g ls t.1.1 it in (r.0, or_right (at_gap literals n g r.0 l) _ r.1)
 ]
 
 pub saying_from : (literals : List (List ℕ)) (n g : ℕ) (w : List ℕ) (labels : List ((ℕ × ℕ) × StrSet)) → list_any (at_gap literals n g w) labels ≡ true → among (gaps_of (sayings_of n labels)) g ≡ true
 saying_from literals n g w [] h = absurd (false≢true h)
 saying_from literals n g w (l ∷ ls) h = among_if (l.0.0 == n) (l.0.1, l.1) (sayings_of n ls) g ∙ elim (or_cases (at_gap literals n g w l) (list_any (at_gap literals n g w) ls) h) [
-  | inl it ↦ or_first ((l.0.0 == n) && (l.0.1 == g)) (among (gaps_of (sayings_of n ls)) g) (and_parts _ _ it).0
-  | inr it ↦ or_second ((l.0.0 == n) && (l.0.1 == g)) _ (saying_from literals n g w ls it)
+  | inl it ↦ or_left ((l.0.0 == n) && (l.0.1 == g)) (among (gaps_of (sayings_of n ls)) g) (and_parts _ _ it).0
+  | inr it ↦ or_right ((l.0.0 == n) && (l.0.1 == g)) _ (saying_from literals n g w ls it)
 ]
 
 wordy_cons : (b : Bool) (x g : ℕ) (xs : List ℕ) → among (if b then xs else x ∷ xs) g ≡ ((not b && (x == g)) || among xs g)
@@ -138,8 +138,8 @@ wordy_to literals n g (l ∷ ls) h =
           let p = and_parts (l.0.0 == n) (not (blank literals l.1) && (l.0.1 == g)) it in
           let q = and_parts (not (blank literals l.1)) (l.0.1 == g) p.1 in
           let s = wordy_string literals l.1 (not_true _ q.0) in
-          (s.0, or_first (at_gap literals n g s.0 l) (list_any (at_gap literals n g s.0) ls) (and_both _ _ (and_both _ _ p.0 q.1) s.1), s.2)
-      | inr it ↦ let r = wordy_to literals n g ls it in (r.0, or_second (at_gap literals n g r.0 l) _ r.1, r.2)
+          (s.0, or_left (at_gap literals n g s.0 l) (list_any (at_gap literals n g s.0) ls) (and_both _ _ (and_both _ _ p.0 q.1) s.1), s.2)
+      | inr it ↦ let r = wordy_to literals n g ls it in (r.0, or_right (at_gap literals n g r.0 l) _ r.1, r.2)
     ]
 
 pub wording_from : (literals : List (List ℕ)) (n g : ℕ) (w : List ℕ) (labels : List ((ℕ × ℕ) × StrSet)) → list_any (at_gap literals n g w) labels ≡ true → is_blank w ≡ false
@@ -149,8 +149,8 @@ wording_from literals n g w (l ∷ ls) h k = wordy_if literals (l.0.0 == n) (l.0
   | inl it ↦
       let p = and_parts ((l.0.0 == n) && (l.0.1 == g)) (has_string literals l.1 w) it in
       let q = and_parts (l.0.0 == n) (l.0.1 == g) p.0 in
-      or_first ((l.0.0 == n) && (not (blank literals l.1) && (l.0.1 == g))) (among (wordy_of literals (sayings_of n ls)) g) (and_both _ _ q.0 (and_both _ _ (ap not (blank_string literals l.1 w p.1 k)) q.1))
-  | inr it ↦ or_second ((l.0.0 == n) && (not (blank literals l.1) && (l.0.1 == g))) _ (wording_from literals n g w ls it k)
+      or_left ((l.0.0 == n) && (not (blank literals l.1) && (l.0.1 == g))) (among (wordy_of literals (sayings_of n ls)) g) (and_both _ _ q.0 (and_both _ _ (ap not (blank_string literals l.1 w p.1 k)) q.1))
+  | inr it ↦ or_right ((l.0.0 == n) && (not (blank literals l.1) && (l.0.1 == g))) _ (wording_from literals n g w ls it k)
 ]
 
 -- the strings at a gap are those of its label

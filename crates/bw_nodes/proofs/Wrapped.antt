@@ -3,8 +3,8 @@ use Rattle.std.proofs.Common.{◌≡◌, ℕ, zero, suc, ◌+◌, ◌<◌, List,
 use Rattle.std.proofs.lemmas.List.{length-append, length-map}
 use Rattle.bw_lang.specs.declared.service.Service.{Service}
 use Rattle.bw_lang.specs.declared.service.Template.{Template}
-use Rattle.bw_lang.specs.Forest.{Forest, none}
-use Rattle.bw_lang.specs.Wrappers.{show_wrapper, exit_wrapper}
+use Rattle.bw_lang.specs.Document.Forest.{Forest, none}
+use Rattle.bw_lang.specs.Document.Wrappers.{show_wrapper, exit_wrapper}
 use Rattle.bw_sum.specs.Templates.{all_items}
 
 -- what stands behind the templates

@@ -1,4 +1,4 @@
-pub mod Templates
-pub mod Nodes
 pub mod Fits
+pub mod Nodes
 pub mod Parts
+pub mod Templates

@@ -16,14 +16,14 @@ pub struct TemplateItems<'a> {
 
 impl<'a> Model for TemplateItems<'a> {
     ghost use Rattle.std.specs.Prelude.{List, [], ◌∷◌, ◌++◌, map};
-    ghost use Rattle.bw_lang.specs.Forest.{Forest};
+    ghost use Rattle.bw_lang.specs.Document.Forest.{Forest};
 
     ghost Value = { List Forest };
 
     ghost use Rattle.std.specs.Coded.{codes};
-    ghost use Rattle.bw_lang.specs.ForestCode.{coded_forest};
+    ghost use Rattle.bw_lang.specs.Encoding.ForestEncoding.{encoded_forest};
 
-    ghost coded = { Prim.hlevel (codes, coded_forest) };
+    ghost coded = { Prim.hlevel (codes, encoded_forest) };
 
     ghost view = { λ t. map (λ x. x.items) t.templates.now ++ t.show.now ∷ t.exit.now ∷ [] };
 }

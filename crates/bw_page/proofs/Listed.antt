@@ -2,10 +2,10 @@
 use Rattle.std.proofs.Common.{◌≡◌, ℕ, ◌+◌, ◌<◌, List, [], ◌∷◌, ◌++◌, length, get_or, take, refl, ap, sym, ◌∙◌}
 use Rattle.std.proofs.lemmas.List.{append_assoc, append-nil}
 use Rattle.bw_lang.specs.declared.items.Item.{Item}
-use Rattle.bw_lang.specs.Forest.{Forest, none, text, gap, element}
-use Rattle.bw_lang.specs.View.{forest, before}
-use Rattle.bw_lang.specs.Documents.{append}
-use Rattle.bw_lang.specs.Controls.{fields, field_of}
+use Rattle.bw_lang.specs.Document.Forest.{Forest, none, text, gap, element}
+use Rattle.bw_lang.specs.Document.View.{forest, before}
+use Rattle.bw_lang.specs.Document.Documents.{append}
+use Rattle.bw_lang.specs.Template.Controls.{fields, field_of}
 use Rattle.bw_lang.proofs.Forests.{forest_at_read, size_at_read}
 
 pub fields-append : (a b : Forest) → fields (append a b) ≡ fields a ++ fields b

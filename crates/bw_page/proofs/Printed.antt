@@ -5,13 +5,13 @@ use Rattle.bw_lang.specs.declared.items.Attr.{Attr}
 use Rattle.bw_lang.specs.declared.items.AttrValue.TheVariants.{Fixed}
 use Rattle.bw_lang.specs.declared.items.Item.{Item}
 use Rattle.std.specs.Prelude.{codes}
-use Rattle.bw_lang.specs.Forest.{Forest, none, text, gap, element}
-use Rattle.bw_lang.specs.View.{forest, before}
-use Rattle.bw_lang.specs.Documents.{append}
+use Rattle.bw_lang.specs.Document.Forest.{Forest, none, text, gap, element}
+use Rattle.bw_lang.specs.Document.View.{forest, before}
+use Rattle.bw_lang.specs.Document.Documents.{append}
 use Rattle.bw_lang.proofs.Forests.{forest-take, forest-split, forest_at_read, size_at_read}
 use Rattle.bw_lang.proofs.PrintLaws.{escaped-append}
-use Rattle.bw_lang.specs.Markup.{escaped, escaped_byte, is_void}
-use Rattle.bw_lang.specs.Print.{print, printed_attr, printed_attrs, printed_element, printed_start, printed_end}
+use Rattle.bw_lang.specs.Template.Markup.{escaped, escaped_byte, is_void}
+use Rattle.bw_lang.specs.Document.Print.{print, printed_attr, printed_attrs, printed_element, printed_start, printed_end}
 
 pub print-append : (a b : Forest) → print (append a b) ≡ print a ++ print b
 print-append none b = refl

@@ -5,13 +5,13 @@ use Rattle.std.proofs.lemmas.Bool.{eqb-true}
 use Rattle.std.proofs.lemmas.List.Sums.{list_all-from_AllPass}
 use Rattle.bw_lang.specs.declared.items.Attr.{Attr}
 use Rattle.bw_lang.specs.declared.items.AttrValue.TheVariants.{Fixed}
-use Rattle.bw_lang.specs.Forest.{Forest, none, text, element}
-use Rattle.bw_lang.specs.Documents.{append, close}
-use Rattle.bw_lang.specs.Markup.{is_void, escaped, escaped_byte}
-use Rattle.bw_lang.specs.Print.{print, printed_attr, printed_attrs, printed_start, printed_end}
+use Rattle.bw_lang.specs.Document.Forest.{Forest, none, text, element}
+use Rattle.bw_lang.specs.Document.Documents.{append, close}
+use Rattle.bw_lang.specs.Template.Markup.{is_void, escaped, escaped_byte}
+use Rattle.bw_lang.specs.Document.Print.{print, printed_attr, printed_attrs, printed_start, printed_end}
 use Rattle.bw_lang.proofs.PrintLaws.{escaped-append, closed_alike}
 use Rattle.bw_page.specs.Bytes.{is_plain, is_word_byte, is_digit, is_hex_digit}
-use Rattle.bw_lang.specs.Wrappers.{button, attr}
+use Rattle.bw_lang.specs.Document.Wrappers.{button, attr}
 use Rattle.bw_page.specs.Pages.{show_page, exit_page}
 use Rattle.bw_page.specs.Laws.{ExitLength, ShowLength, TurnLength, turn_target}
 use Rattle.bw_page.proofs.Printed.{print-append}

@@ -1,8 +1,8 @@
 -- The pages that documents are wrapped into: the wrappers, plugged with the title, the target and the closed document.
 use Rattle.std.specs.Prelude.{ℕ, ◌+◌, List}
-use Rattle.bw_lang.specs.Forest.{Forest}
-use Rattle.bw_lang.specs.Documents.{plug, plug_text, close}
-use Rattle.bw_lang.specs.Wrappers.{show_wrapper, exit_wrapper}
+use Rattle.bw_lang.specs.Document.Forest.{Forest}
+use Rattle.bw_lang.specs.Document.Documents.{plug, plug_text, close}
+use Rattle.bw_lang.specs.Document.Wrappers.{show_wrapper, exit_wrapper}
 
 -- the wrapper of a shown page, plugged with the title, the target and the closed document
 abbrev pub show_page_at : ℕ → List ℕ → List ℕ → Forest → Forest

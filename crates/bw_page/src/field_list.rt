@@ -1,8 +1,8 @@
 //! The fields of a page: what a client sends when it submits the page's form.
 ghost use Rattle.std.specs.Prelude.{◌≡◌, ◌++◌, ◌∷◌, [], map, IfOk, OnOk, OnErr};
-ghost use Rattle.bw_lang.specs.Forest.{none};
-ghost use Rattle.bw_lang.specs.View.{before};
-ghost use Rattle.bw_lang.specs.Controls as spec;
+ghost use Rattle.bw_lang.specs.Document.Forest.{none};
+ghost use Rattle.bw_lang.specs.Document.View.{before};
+ghost use Rattle.bw_lang.specs.Template.Controls as spec;
 ghost use Rattle.bw_page.specs.Fields.{name_and_kind};
 
 use bw_lang::{Element, FieldKind, Item, Items, Memory, Text, Tree};

@@ -1,9 +1,9 @@
 //! The length of a printed document.
 ghost use Rattle.std.specs.Prelude.{◌≡◌, ◌^◌, ◌<◌, length};
-ghost use Rattle.bw_lang.specs.Forest.{none};
-ghost use Rattle.bw_lang.specs.View.{before};
-ghost use Rattle.bw_lang.specs.Markup.{escaped_byte, escaped};
-ghost use Rattle.bw_lang.specs.Print as spec;
+ghost use Rattle.bw_lang.specs.Document.Forest.{none};
+ghost use Rattle.bw_lang.specs.Document.View.{before};
+ghost use Rattle.bw_lang.specs.Template.Markup.{escaped_byte, escaped};
+ghost use Rattle.bw_lang.specs.Document.Print as spec;
 
 use bw_lang::{Attr, AttrValue, Attrs, Item, Items, Tree, is_void};
 

@@ -1,8 +1,8 @@
 //! Printing of documents.
-ghost use Rattle.bw_lang.specs.Forest.{none};
-ghost use Rattle.bw_lang.specs.View.{before};
-ghost use Rattle.bw_lang.specs.Markup.{escaped_byte, escaped};
-ghost use Rattle.bw_lang.specs.Print as spec;
+ghost use Rattle.bw_lang.specs.Document.Forest.{none};
+ghost use Rattle.bw_lang.specs.Document.View.{before};
+ghost use Rattle.bw_lang.specs.Template.Markup.{escaped_byte, escaped};
+ghost use Rattle.bw_lang.specs.Document.Print as spec;
 ghost use Rattle.bw_out.specs.Sends.{Sends};
 
 use bw_lang::{Attr, AttrValue, Attrs, Item, Items, Name, Tree, is_void};

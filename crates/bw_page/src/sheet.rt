@@ -1,6 +1,6 @@
 //! Bodies ready to be sent.
 ghost use Rattle.std.specs.Prelude.{◌≡◌, [], Some, IfOk, length};
-ghost use Rattle.bw_lang.specs.Print.{print};
+ghost use Rattle.bw_lang.specs.Document.Print.{print};
 ghost use Rattle.bw_out.specs.Sends.{Sends};
 
 use crate::printing::print;

@@ -3,7 +3,7 @@ use Rattle.std.proofs.Common.{◌≡◌, ◌⊎◌, ◌∙◌, inl, inr, ℕ, Li
 use Rattle.bw_lang.specs.declared.declaration.Draft.{Draft}
 use Rattle.bw_lang.specs.declared.token.Lexeme.{Lexeme}
 use Rattle.bw_parse.specs.Laws.{IsSpelled, SpelledOrNot}
-use Rattle.bw_parse.specs.Services.{parse_service}
+use Rattle.bw_parse.specs.Steps.Services.{parse_service}
 use Rattle.bw_parse.proofs.Drafts.{service_is, service_gives}
 
 by_parse : (ts : List Lexeme) (o : Option (List ℕ × List Draft)) → parse_service ts ≡ o →

@@ -1,19 +1,19 @@
 -- Statements that are spelled so are parsed.
 use Rattle.std.proofs.Common.{◌≡◌, ℕ, ◌+◌, ◌*◌, List, ◌∷◌, length, Some, None, refl, sym, ◌∙◌, arith, codes}
-use Rattle.bw_lang.specs.Code.{Code, done, declare, assign, if_then, if_else, while_loop, block, for_each, show, exit, append}
+use Rattle.bw_lang.specs.Service.Code.{Code, done, declare, assign, if_then, if_else, while_loop, block, for_each, show, exit, append}
 use Rattle.bw_lang.specs.declared.stmt.Kind.{Kind}
 use Rattle.bw_lang.specs.declared.stmt.Kind.TheVariants as kinds
 use Rattle.bw_lang.specs.declared.stmt.Receive.{Receive}
 use Rattle.bw_lang.specs.declared.token.Lexeme.{Lexeme}
 use Rattle.bw_lang.specs.declared.token.Lexeme.TheVariants as lex
-use Rattle.bw_lang.specs.Levels.{Levelled}
-use Rattle.bw_lang.specs.Spelling.{spell, spell_test, spell_value, spell_code, spell_receives, IsCode, HaveTargets}
-use Rattle.bw_lang.specs.Term.{Term}
-use Rattle.bw_lang.specs.Words.{IsName, kind_word}
-use Rattle.bw_parse.specs.Expressions.{parse_inside}
-use Rattle.bw_parse.specs.Fronts.{behind, keyword, word, named}
-use Rattle.bw_parse.specs.Statements.{condition, each_head, valued, simple, parse_show, parse_exit, parse_declare, parse_assign, code_of, one, braces}
-use Rattle.bw_parse.specs.Statements.{parse_code}
+use Rattle.bw_lang.specs.Text.Levels.{Levelled}
+use Rattle.bw_lang.specs.Text.Spelling.{spell, spell_test, spell_value, spell_code, spell_receives, IsCode, HaveTargets}
+use Rattle.bw_lang.specs.Service.Term.{Term}
+use Rattle.bw_lang.specs.Text.Words.{IsName, kind_word}
+use Rattle.bw_parse.specs.Steps.Expressions.{parse_inside}
+use Rattle.bw_parse.specs.Steps.Fronts.{behind, keyword, word, named}
+use Rattle.bw_parse.specs.Steps.Statements.{condition, each_head, valued, simple, parse_show, parse_exit, parse_declare, parse_assign, code_of, one, braces}
+use Rattle.bw_parse.specs.Steps.Statements.{parse_code}
 use Rattle.bw_parse.proofs.CodeSteps.{code_is}
 use Rattle.bw_parse.proofs.Comes.{Comes, later}
 use Rattle.bw_parse.proofs.FrontLaws.{no_keyword, no_kind, kind_self}

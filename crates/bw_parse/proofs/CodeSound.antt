@@ -1,18 +1,18 @@
 -- Statements that are parsed are spelled so.
 use Rattle.std.proofs.Common.{◌≡◌, ℕ, zero, suc, List, ◌∷◌, Some, refl, sym, ap, ◌∙◌, subst, inl, inr, codes}
-use Rattle.bw_lang.specs.Code.{Code, done, declare, assign, if_then, if_else, while_loop, block, for_each, show, exit, append}
+use Rattle.bw_lang.specs.Service.Code.{Code, done, declare, assign, if_then, if_else, while_loop, block, for_each, show, exit, append}
 use Rattle.bw_lang.specs.declared.stmt.Kind.{Kind}
 use Rattle.bw_lang.specs.declared.token.Lexeme.{Lexeme}
 use Rattle.bw_lang.specs.declared.token.Lexeme.TheVariants as lex
-use Rattle.bw_lang.specs.Levels.{Levelled}
-use Rattle.bw_lang.specs.Spelling.{spell, spell_test, spell_value, spell_code, spell_receives, IsCode}
-use Rattle.bw_lang.specs.Term.{Term}
-use Rattle.bw_lang.specs.Words.{IsName, kind_word}
-use Rattle.bw_parse.specs.Expressions.{parse, parse_inside, steps}
-use Rattle.bw_lang.specs.Options.{◌>>=◌}
-use Rattle.bw_parse.specs.Fronts.{behind, keyword, named, kind}
-use Rattle.bw_parse.specs.Statements.{condition, each_head, valued, parse_receives, parse_show, parse_exit, parse_declare, parse_assign, simple}
-use Rattle.bw_parse.specs.Statements.{code_of, one, braces}
+use Rattle.bw_lang.specs.Text.Levels.{Levelled}
+use Rattle.bw_lang.specs.Text.Spelling.{spell, spell_test, spell_value, spell_code, spell_receives, IsCode}
+use Rattle.bw_lang.specs.Service.Term.{Term}
+use Rattle.bw_lang.specs.Text.Words.{IsName, kind_word}
+use Rattle.bw_parse.specs.Steps.Expressions.{parse, parse_inside, steps}
+use Rattle.bw_lang.specs.Table.Options.{◌>>=◌}
+use Rattle.bw_parse.specs.Steps.Fronts.{behind, keyword, named, kind}
+use Rattle.bw_parse.specs.Steps.Statements.{condition, each_head, valued, parse_receives, parse_show, parse_exit, parse_declare, parse_assign, simple}
+use Rattle.bw_parse.specs.Steps.Statements.{code_of, one, braces}
 use Rattle.bw_lang.proofs.Options.{bind_some, where_cases, some_is}
 use Rattle.bw_parse.proofs.FrontLaws.{some, behind_is, keyword_is, named_is, kind_is}
 use Rattle.bw_parse.proofs.Receives.{sound_receives}

@@ -1,17 +1,17 @@
 -- More steps than can be needed change nothing, so the parser of statements meets its own equations.
 use Rattle.std.proofs.Common.{◌≡◌, ℕ, zero, suc, ◌+◌, ◌*◌, ◌<◌, ◌≤◌, List, [], ◌∷◌, ◌++◌, length, Some, None, refl, sym, ap, ◌∙◌, arith, codes}
-use Rattle.bw_lang.specs.Code.{Code, done, declare, assign, if_then, if_else, while_loop, block, for_each, show, exit, append}
-use Rattle.bw_lang.specs.CodeView.{code, before}
+use Rattle.bw_lang.specs.Service.Code.{Code, done, declare, assign, if_then, if_else, while_loop, block, for_each, show, exit, append}
+use Rattle.bw_lang.specs.Service.CodeView.{code, before}
 use Rattle.bw_lang.specs.declared.stmt.Receive.{Receive}
 use Rattle.bw_lang.specs.declared.stmt.Stmt.{Stmt}
 use Rattle.bw_lang.specs.declared.token.Lexeme.{Lexeme}
 use Rattle.bw_lang.specs.declared.token.Lexeme.TheVariants as lex
-use Rattle.bw_lang.specs.Spelling.{spell_code, spell_receives, spell_each}
-use Rattle.bw_lang.specs.Term.{Term}
-use Rattle.bw_lang.specs.Options.{◌>>=◌, where_some}
-use Rattle.bw_parse.specs.Fronts.{Read, behind, keyword}
-use Rattle.bw_parse.specs.Statements.{condition, each_head, simple, code_of, one, braces, parse_code, parse_one, parse_braces, with_code, parse_if}
-use Rattle.bw_parse.specs.Statements.{parse_while, parse_each}
+use Rattle.bw_lang.specs.Text.Spelling.{spell_code, spell_receives, spell_each}
+use Rattle.bw_lang.specs.Service.Term.{Term}
+use Rattle.bw_lang.specs.Table.Options.{◌>>=◌, where_some}
+use Rattle.bw_parse.specs.Steps.Fronts.{Read, behind, keyword}
+use Rattle.bw_parse.specs.Steps.Statements.{condition, each_head, simple, code_of, one, braces, parse_code, parse_one, parse_braces, with_code, parse_if}
+use Rattle.bw_parse.specs.Steps.Statements.{parse_while, parse_each}
 use Rattle.bw_lang.proofs.Codes.{append_code_assoc, append_done, code-append}
 use Rattle.bw_parse.proofs.CodeSound.{condition_is, each_is, IsStatement, sound_one, sound_braces}
 use Rattle.bw_parse.proofs.FrontLaws.{keyword_is}

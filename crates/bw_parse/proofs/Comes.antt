@@ -5,17 +5,17 @@ use Rattle.std.specs.Prelude.{if◌then◌else◌, codes}
 use Rattle.std.proofs.lemmas.Bool.Decides.{nat_tests}
 use Rattle.bw_lang.specs.declared.expr.Op.{Op}
 use Rattle.bw_lang.specs.declared.expr.Op.TheVariants.{Or, And, Eq, Ne, Lt, Le, Gt, Ge, Add, Sub, Mul, Div, Rem}
-use Rattle.bw_lang.specs.Keywords.{is}
+use Rattle.bw_lang.specs.Text.Keywords.{is}
 use Rattle.bw_lang.specs.declared.token.Lexeme.{Lexeme}
 use Rattle.bw_lang.specs.declared.token.Lexeme.TheVariants as lex
-use Rattle.bw_lang.specs.Levels.{op_level, level, Levelled}
-use Rattle.bw_lang.specs.Spelling.{spell, spell_pairs}
-use Rattle.bw_lang.specs.Term.{Term, int, truth, string, name, paren, not, neg, binary, call, plug, nothing}
-use Rattle.bw_lang.specs.Words.{op_sign}
-use Rattle.bw_lang.specs.Options.{◌>>=◌}
-use Rattle.bw_parse.specs.Fronts.{Read, behind, op_of, if_level, operator}
-use Rattle.bw_parse.specs.Expressions.{pairs}
-use Rattle.bw_parse.specs.Follow.{binds, op_binds}
+use Rattle.bw_lang.specs.Text.Levels.{op_level, level, Levelled}
+use Rattle.bw_lang.specs.Text.Spelling.{spell, spell_pairs}
+use Rattle.bw_lang.specs.Service.Term.{Term, int, truth, string, name, paren, not, neg, binary, call, plug, nothing}
+use Rattle.bw_lang.specs.Text.Words.{op_sign}
+use Rattle.bw_lang.specs.Table.Options.{◌>>=◌}
+use Rattle.bw_parse.specs.Steps.Fronts.{Read, behind, op_of, if_level, operator}
+use Rattle.bw_parse.specs.Steps.Expressions.{pairs}
+use Rattle.bw_parse.specs.Steps.Follow.{binds, op_binds}
 use Rattle.bw_parse.proofs.FrontLaws.{is_same}
 
 -- from some number of steps on it gives x

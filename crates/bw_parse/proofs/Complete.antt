@@ -7,19 +7,19 @@ use Rattle.bw_lang.specs.declared.expr.Op.{Op}
 use Rattle.bw_lang.specs.declared.expr.Op.TheVariants.{Or, And, Eq, Ne, Lt, Le, Gt, Ge, Add, Sub, Mul, Div, Rem}
 use Rattle.bw_lang.specs.declared.expr.Fun.{Fun}
 use Rattle.bw_lang.specs.declared.expr.Fun.TheVariants as funs
-use Rattle.bw_lang.specs.Keywords.{is_keyword}
+use Rattle.bw_lang.specs.Text.Keywords.{is_keyword}
 use Rattle.bw_lang.specs.declared.token.Lexeme.{Lexeme}
 use Rattle.bw_lang.specs.declared.token.Lexeme.TheVariants as lex
-use Rattle.bw_lang.specs.Levels.{op_level, level, Levelled, AreLevelled}
-use Rattle.bw_lang.specs.Spelling.{spell, spell_pairs}
-use Rattle.bw_lang.specs.Term.{Term, int, truth, string, name, paren, not, neg, binary, call, plug, nothing, Fillings, no_more, filling, append_fillings}
-use Rattle.bw_lang.specs.Words.{truth_word, fun_word}
+use Rattle.bw_lang.specs.Text.Levels.{op_level, level, Levelled, AreLevelled}
+use Rattle.bw_lang.specs.Text.Spelling.{spell, spell_pairs}
+use Rattle.bw_lang.specs.Service.Term.{Term, int, truth, string, name, paren, not, neg, binary, call, plug, nothing, Fillings, no_more, filling, append_fillings}
+use Rattle.bw_lang.specs.Text.Words.{truth_word, fun_word}
 use Rattle.bw_lang.proofs.Terms.{append_fillings_assoc}
 use Rattle.bw_parse.specs.declared.lexemes.Meaning.{Meaning}
 use Rattle.bw_parse.specs.declared.lexemes.Meaning.TheVariants.{Truth, Function, Nothing, Free}
-use Rattle.bw_parse.specs.Fronts.{behind, word, meaning}
-use Rattle.bw_parse.specs.Expressions.{expr, plugs, pairs, atom, inside, by_meaning}
-use Rattle.bw_parse.specs.Follow.{binds}
+use Rattle.bw_parse.specs.Steps.Fronts.{behind, word, meaning}
+use Rattle.bw_parse.specs.Steps.Expressions.{expr, plugs, pairs, atom, inside, by_meaning}
+use Rattle.bw_parse.specs.Steps.Follow.{binds}
 use Rattle.bw_parse.proofs.FrontLaws.{some, free_meaning}
 use Rattle.bw_parse.proofs.Comes.{Comes, Got, Gives, later}
 use Rattle.bw_parse.proofs.Ways.{AtLevel, Base, Atom, base_from, Whole, whole_tight, bang_seven, minus_seven, whole_prefix, whole_binary}

@@ -2,9 +2,9 @@
 use Rattle.std.proofs.Common.{◌≡◌, List, [], ◌∷◌, ◌++◌, Some, None, ap, ◌∙◌, codes}
 use Rattle.bw_lang.specs.declared.declaration.Draft.{Draft}
 use Rattle.bw_lang.specs.declared.token.Lexeme.{Lexeme}
-use Rattle.bw_lang.specs.Options.{◌>>=◌, where_some}
-use Rattle.bw_parse.specs.Fronts.{Read, behind}
-use Rattle.bw_parse.specs.Services.{draft, parse_drafts}
+use Rattle.bw_lang.specs.Table.Options.{◌>>=◌, where_some}
+use Rattle.bw_parse.specs.Steps.Fronts.{Read, behind}
+use Rattle.bw_parse.specs.Steps.Services.{draft, parse_drafts}
 use Rattle.bw_parse.proofs.Drafts.{parse_drafts_is}
 
 pub drafts_end : (front : List Draft) (ts k : List Lexeme) → behind (codes "}") ts ≡ Some k → parse_drafts front ts ≡ Some (front, k)

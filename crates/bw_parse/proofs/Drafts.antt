@@ -9,15 +9,15 @@ use Rattle.bw_lang.specs.declared.declaration.Written.{Written}
 use Rattle.bw_lang.specs.declared.declaration.Written.TheVariants as written
 use Rattle.bw_lang.specs.declared.token.Lexeme.{Lexeme}
 use Rattle.bw_lang.specs.declared.token.Lexeme.TheVariants as lex
-use Rattle.bw_lang.specs.Drafts.{IsWritten, spell_literal, spell_draft, spell_drafts, spell_service, IsFormed, AreFormed}
-use Rattle.bw_lang.specs.Words.{IsName, kind_word}
+use Rattle.bw_lang.specs.Service.Drafts.{IsWritten, spell_literal, spell_draft, spell_drafts, spell_service, IsFormed, AreFormed}
+use Rattle.bw_lang.specs.Text.Words.{IsName, kind_word}
 use Rattle.bw_parse.specs.declared.lexemes.Meaning.{Meaning}
 use Rattle.bw_parse.specs.declared.lexemes.Meaning.TheVariants.{Truth, Function, Nothing, Other, Free}
-use Rattle.bw_lang.specs.Options.{◌>>=◌, where_some}
-use Rattle.bw_parse.specs.Fronts.{Read, behind, keyword, word, named, shared_kind, meaning}
-use Rattle.bw_parse.specs.Services.{template_token, number_token, word_literal, plain_literal, literal, parse_template, parse_shared, parse_session}
-use Rattle.bw_parse.specs.Services.{draft, drafts_from, parse_drafts, if_last, parse_service}
-use Rattle.bw_parse.specs.Statements.{parse_code}
+use Rattle.bw_lang.specs.Table.Options.{◌>>=◌, where_some}
+use Rattle.bw_parse.specs.Steps.Fronts.{Read, behind, keyword, word, named, shared_kind, meaning}
+use Rattle.bw_parse.specs.Steps.Services.{template_token, number_token, word_literal, plain_literal, literal, parse_template, parse_shared, parse_session}
+use Rattle.bw_parse.specs.Steps.Services.{draft, drafts_from, parse_drafts, if_last, parse_service}
+use Rattle.bw_parse.specs.Steps.Statements.{parse_code}
 use Rattle.bw_parse.proofs.CodeComplete.{parse_code_gives}
 use Rattle.bw_parse.proofs.CodeSound.{sound_code}
 use Rattle.bw_parse.proofs.CodeSteps.{code_longer}

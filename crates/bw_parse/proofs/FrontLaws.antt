@@ -9,16 +9,16 @@ use Rattle.bw_lang.specs.declared.expr.Op.{Op}
 use Rattle.bw_lang.specs.declared.expr.Op.TheVariants as ops
 use Rattle.bw_lang.specs.declared.stmt.Kind.{Kind}
 use Rattle.bw_lang.specs.declared.stmt.Kind.TheVariants as kinds
-use Rattle.bw_lang.specs.Drafts.{IsShareable}
-use Rattle.bw_lang.specs.Keywords.{is, is_keyword}
-use Rattle.bw_lang.specs.Levels.{op_level}
+use Rattle.bw_lang.specs.Service.Drafts.{IsShareable}
+use Rattle.bw_lang.specs.Text.Keywords.{is, is_keyword}
+use Rattle.bw_lang.specs.Text.Levels.{op_level}
 use Rattle.bw_lang.specs.declared.token.Lexeme.{Lexeme}
 use Rattle.bw_lang.specs.declared.token.Lexeme.TheVariants as lex
 use Rattle.bw_lang.proofs.Options.{some_is, bind_some, chosen}
-use Rattle.bw_lang.specs.Words.{op_sign, truth_word, fun_word, kind_word}
+use Rattle.bw_lang.specs.Text.Words.{op_sign, truth_word, fun_word, kind_word}
 use Rattle.bw_parse.specs.declared.lexemes.Meaning.{Meaning}
 use Rattle.bw_parse.specs.declared.lexemes.Meaning.TheVariants.{Truth, Function, Nothing, Other, Free}
-use Rattle.bw_parse.specs.Fronts.{behind, keyword, word, named, op_of, if_level, operator, meaning, kind_of, kind, is_list, shared_kind}
+use Rattle.bw_parse.specs.Steps.Fronts.{behind, keyword, word, named, op_of, if_level, operator, meaning, kind_of, kind, is_list, shared_kind}
 
 abbrev pub some : {A : Type 0} → A → Option A
 some x = Some x

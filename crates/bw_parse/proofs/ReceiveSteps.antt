@@ -2,9 +2,9 @@
 use Rattle.std.proofs.Common.{◌≡◌, List, [], ◌∷◌, ◌++◌, Some, None, ap, ◌∙◌, codes}
 use Rattle.bw_lang.specs.declared.stmt.Receive.{Receive}
 use Rattle.bw_lang.specs.declared.token.Lexeme.{Lexeme}
-use Rattle.bw_lang.specs.Options.{◌>>=◌, where_some}
-use Rattle.bw_parse.specs.Fronts.{Read, behind}
-use Rattle.bw_parse.specs.Statements.{receive, parse_list}
+use Rattle.bw_lang.specs.Table.Options.{◌>>=◌, where_some}
+use Rattle.bw_parse.specs.Steps.Fronts.{Read, behind}
+use Rattle.bw_parse.specs.Steps.Statements.{receive, parse_list}
 use Rattle.bw_parse.proofs.Receives.{parse_list_is}
 
 at : (front : List Receive) (ts : List Lexeme) (o : Read Receive) → receive ts ≡ o

@@ -4,12 +4,12 @@ use Rattle.std.proofs.Common.{append_assoc, codes}
 use Rattle.bw_lang.specs.declared.stmt.Receive.{Receive}
 use Rattle.bw_lang.specs.declared.token.Lexeme.{Lexeme}
 use Rattle.bw_lang.specs.declared.token.Lexeme.TheVariants as lex
-use Rattle.bw_lang.specs.Spelling.{spell_each, spell_receives, HaveTargets}
-use Rattle.bw_lang.specs.Words.{IsName}
-use Rattle.bw_parse.specs.Follow.{binds}
-use Rattle.bw_lang.specs.Options.{◌>>=◌, where_some}
-use Rattle.bw_parse.specs.Fronts.{behind, keyword, word, named}
-use Rattle.bw_parse.specs.Statements.{receive, receives_from, parse_list, parse_receives}
+use Rattle.bw_lang.specs.Text.Spelling.{spell_each, spell_receives, HaveTargets}
+use Rattle.bw_lang.specs.Text.Words.{IsName}
+use Rattle.bw_parse.specs.Steps.Follow.{binds}
+use Rattle.bw_lang.specs.Table.Options.{◌>>=◌, where_some}
+use Rattle.bw_parse.specs.Steps.Fronts.{behind, keyword, word, named}
+use Rattle.bw_parse.specs.Steps.Statements.{receive, receives_from, parse_list, parse_receives}
 use Rattle.bw_lang.proofs.Options.{bind_some, where_cases, some_is}
 use Rattle.bw_parse.proofs.FrontLaws.{behind_is, keyword_is, named_is, word_is}
 use Rattle.bw_parse.proofs.Stable.{bind_same, where_same}

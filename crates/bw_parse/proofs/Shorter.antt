@@ -5,12 +5,12 @@ use Rattle.std.specs.Prelude.{codes}
 use Rattle.bw_lang.specs.declared.expr.Op.{Op}
 use Rattle.bw_lang.specs.declared.token.Lexeme.{Lexeme}
 use Rattle.bw_lang.specs.declared.token.Lexeme.TheVariants as lex
-use Rattle.bw_lang.specs.Levels.{IsSome}
-use Rattle.bw_lang.specs.Spelling.{spell, spell_pairs}
-use Rattle.bw_lang.specs.Term.{Term, int, truth, string, name, paren, not, neg, binary, call, plug, nothing, Fillings, no_more, filling}
-use Rattle.bw_lang.specs.Words.{op_sign}
-use Rattle.bw_parse.specs.Fronts.{behind, word, operator}
-use Rattle.bw_parse.specs.Expressions.{expr, pairs, atom, inside}
+use Rattle.bw_lang.specs.Text.Levels.{IsSome}
+use Rattle.bw_lang.specs.Text.Spelling.{spell, spell_pairs}
+use Rattle.bw_lang.specs.Service.Term.{Term, int, truth, string, name, paren, not, neg, binary, call, plug, nothing, Fillings, no_more, filling}
+use Rattle.bw_lang.specs.Text.Words.{op_sign}
+use Rattle.bw_parse.specs.Steps.Fronts.{behind, word, operator}
+use Rattle.bw_parse.specs.Steps.Expressions.{expr, pairs, atom, inside}
 use Rattle.bw_parse.proofs.FrontLaws.{behind_is, word_is, operator_is}
 use Rattle.bw_parse.proofs.Sound.{sound_expr, sound_atom, sound_pairs, sound_inside}
 

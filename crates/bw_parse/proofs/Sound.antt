@@ -5,16 +5,16 @@ use Rattle.std.proofs.lemmas.Bool.Decides.{nat_tests}
 use Rattle.std.proofs.lemmas.Bool.{eqb-true, ltb-true}
 use Rattle.bw_lang.specs.declared.token.Lexeme.{Lexeme}
 use Rattle.bw_lang.specs.declared.token.Lexeme.TheVariants as lex
-use Rattle.bw_lang.specs.Levels.{left_level, level, Levelled, AreLevelled, IsSome}
-use Rattle.bw_lang.specs.Spelling.{spell, spell_pairs}
-use Rattle.bw_lang.specs.Term.{Term, int, truth, string, name, paren, not, neg, binary, call, plug, nothing, Fillings, no_more, filling, append_fillings}
-use Rattle.bw_lang.specs.Words.{op_sign}
+use Rattle.bw_lang.specs.Text.Levels.{left_level, level, Levelled, AreLevelled, IsSome}
+use Rattle.bw_lang.specs.Text.Spelling.{spell, spell_pairs}
+use Rattle.bw_lang.specs.Service.Term.{Term, int, truth, string, name, paren, not, neg, binary, call, plug, nothing, Fillings, no_more, filling, append_fillings}
+use Rattle.bw_lang.specs.Text.Words.{op_sign}
 use Rattle.bw_lang.proofs.Terms.{append_fillings_assoc}
 use Rattle.bw_parse.specs.declared.lexemes.Meaning.{Meaning}
 use Rattle.bw_parse.specs.declared.lexemes.Meaning.TheVariants.{Truth, Function, Nothing, Other, Free}
-use Rattle.bw_lang.specs.Options.{◌>>=◌}
-use Rattle.bw_parse.specs.Fronts.{behind, word, operator, meaning}
-use Rattle.bw_parse.specs.Expressions.{expr, more, prefix, plugs, pairs, atom, inside, by_meaning}
+use Rattle.bw_lang.specs.Table.Options.{◌>>=◌}
+use Rattle.bw_parse.specs.Steps.Fronts.{behind, word, operator, meaning}
+use Rattle.bw_parse.specs.Steps.Expressions.{expr, more, prefix, plugs, pairs, atom, inside, by_meaning}
 use Rattle.bw_lang.proofs.Options.{bind_some, where_cases, chosen, some_is}
 use Rattle.bw_parse.proofs.FrontLaws.{some, behind_is, word_is, operator_is, truth_is, function_is, nothing_is, free_is}
 

@@ -5,13 +5,13 @@ use Rattle.std.specs.Prelude.{nat_lt, codes}
 use Rattle.std.proofs.lemmas.Bool.{eqb-true, eqb-false, ltb-true, ltb-false}
 use Rattle.bw_lang.specs.declared.token.Lexeme.{Lexeme}
 use Rattle.bw_lang.specs.declared.token.Lexeme.TheVariants as lex
-use Rattle.bw_lang.specs.Levels.{left_level}
-use Rattle.bw_lang.specs.Term.{Term, paren, not, neg, binary, call, plug, Fillings, no_more, filling, append_fillings}
+use Rattle.bw_lang.specs.Text.Levels.{left_level}
+use Rattle.bw_lang.specs.Service.Term.{Term, paren, not, neg, binary, call, plug, Fillings, no_more, filling, append_fillings}
 use Rattle.bw_parse.specs.declared.lexemes.Meaning.{Meaning}
 use Rattle.bw_parse.specs.declared.lexemes.Meaning.TheVariants.{Truth, Function, Nothing, Other, Free}
-use Rattle.bw_lang.specs.Options.{◌>>=◌, where_some}
-use Rattle.bw_parse.specs.Fronts.{behind, word, operator, meaning}
-use Rattle.bw_parse.specs.Expressions.{expr, more, prefix, plugs, pairs, atom, inside, by_meaning}
+use Rattle.bw_lang.specs.Table.Options.{◌>>=◌, where_some}
+use Rattle.bw_parse.specs.Steps.Fronts.{behind, word, operator, meaning}
+use Rattle.bw_parse.specs.Steps.Expressions.{expr, more, prefix, plugs, pairs, atom, inside, by_meaning}
 use Rattle.bw_parse.proofs.Shorter.{expr_shorter, atom_shorter, pairs_shorter, behind_shorter, word_shorter, operator_shorter}
 
 -- ---- equal parts

@@ -7,14 +7,14 @@ use Rattle.std.proofs.Common.{◌-◌}
 use Rattle.bw_lang.specs.declared.expr.Fun.{Fun}
 use Rattle.bw_lang.specs.declared.token.Lexeme.{Lexeme}
 use Rattle.bw_lang.specs.declared.token.Lexeme.TheVariants as lex
-use Rattle.bw_lang.specs.Levels.{left_level}
-use Rattle.bw_lang.specs.Term.{Term, truth, string, name, paren, not, neg, binary, call, plug, nothing, Fillings, no_more, filling, append_fillings}
+use Rattle.bw_lang.specs.Text.Levels.{left_level}
+use Rattle.bw_lang.specs.Service.Term.{Term, truth, string, name, paren, not, neg, binary, call, plug, nothing, Fillings, no_more, filling, append_fillings}
 use Rattle.bw_parse.specs.declared.lexemes.Meaning.{Meaning}
 use Rattle.bw_parse.specs.declared.lexemes.Meaning.TheVariants.{Truth, Function, Nothing, Other, Free}
-use Rattle.bw_lang.specs.Options.{◌>>=◌, where_some}
-use Rattle.bw_parse.specs.Fronts.{Read, behind, word, operator, meaning}
-use Rattle.bw_parse.specs.Expressions.{number_at, expr, more, prefix, plugs, pairs, atom, inside, by_meaning}
-use Rattle.bw_parse.specs.Expressions.{steps, parse, parse_more, parse_prefix, parse_plugs, parse_pairs, parse_atom, parse_inside, parse_word}
+use Rattle.bw_lang.specs.Table.Options.{◌>>=◌, where_some}
+use Rattle.bw_parse.specs.Steps.Fronts.{Read, behind, word, operator, meaning}
+use Rattle.bw_parse.specs.Steps.Expressions.{number_at, expr, more, prefix, plugs, pairs, atom, inside, by_meaning}
+use Rattle.bw_parse.specs.Steps.Expressions.{steps, parse, parse_more, parse_prefix, parse_plugs, parse_pairs, parse_atom, parse_inside, parse_word}
 use Rattle.bw_parse.proofs.Shorter.{expr_shorter, atom_shorter, pairs_shorter, behind_shorter, word_shorter, operator_shorter}
 use Rattle.bw_parse.proofs.Stable.{bind_same, where_same, if_same, stable_expr, stable_more, stable_prefix, stable_plugs, stable_pairs, stable_atom, stable_inside, stable_word}
 

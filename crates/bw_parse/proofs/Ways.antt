@@ -6,13 +6,13 @@ use Rattle.std.proofs.lemmas.Bool.Decides.{nat_tests}
 use Rattle.bw_lang.specs.declared.expr.Op.{Op}
 use Rattle.bw_lang.specs.declared.token.Lexeme.{Lexeme}
 use Rattle.bw_lang.specs.declared.token.Lexeme.TheVariants as lex
-use Rattle.bw_lang.specs.Levels.{op_level, left_level, level, Levelled}
-use Rattle.bw_lang.specs.Spelling.{spell}
-use Rattle.bw_lang.specs.Term.{Term, not, neg, binary}
-use Rattle.bw_lang.specs.Words.{op_sign}
-use Rattle.bw_parse.specs.Fronts.{Read, behind}
-use Rattle.bw_parse.specs.Expressions.{expr, more, prefix, plugs, atom}
-use Rattle.bw_parse.specs.Follow.{binds}
+use Rattle.bw_lang.specs.Text.Levels.{op_level, left_level, level, Levelled}
+use Rattle.bw_lang.specs.Text.Spelling.{spell}
+use Rattle.bw_lang.specs.Service.Term.{Term, not, neg, binary}
+use Rattle.bw_lang.specs.Text.Words.{op_sign}
+use Rattle.bw_parse.specs.Steps.Fronts.{Read, behind}
+use Rattle.bw_parse.specs.Steps.Expressions.{expr, more, prefix, plugs, atom}
+use Rattle.bw_parse.specs.Steps.Follow.{binds}
 use Rattle.bw_parse.proofs.Comes.{Got, Gives, later, no_operator, no_plug, the_operator, op_binds_is, op_small, no_prefix}
 
 -- ---- each way to go on

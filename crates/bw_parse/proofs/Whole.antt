@@ -1,11 +1,11 @@
 -- Of all the tokens: what is parsed is spelled so, and what is spelled so is parsed.
 use Rattle.std.proofs.Common.{◌≡◌, ◌+◌, ◌*◌, ◌<◌, List, length, Some, sym, ◌∙◌, arith}
-use Rattle.bw_lang.specs.Levels.{Levelled}
+use Rattle.bw_lang.specs.Text.Levels.{Levelled}
 use Rattle.bw_lang.specs.declared.token.Lexeme.{Lexeme}
-use Rattle.bw_lang.specs.Spelling.{spell}
-use Rattle.bw_lang.specs.Term.{Term}
-use Rattle.bw_parse.specs.Expressions.{parse, steps}
-use Rattle.bw_parse.specs.Follow.{binds}
+use Rattle.bw_lang.specs.Text.Spelling.{spell}
+use Rattle.bw_lang.specs.Service.Term.{Term}
+use Rattle.bw_parse.specs.Steps.Expressions.{parse, steps}
+use Rattle.bw_parse.specs.Steps.Follow.{binds}
 use Rattle.bw_parse.proofs.Sound.{Reads, sound_expr}
 use Rattle.bw_parse.proofs.Ways.{AtLevel}
 use Rattle.bw_parse.proofs.Complete.{complete, one_le}

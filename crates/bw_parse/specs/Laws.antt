@@ -2,8 +2,8 @@
 use Rattle.std.specs.Prelude.{◌≡◌, ◌⊎◌, ℕ, List}
 use Rattle.bw_lang.specs.declared.declaration.Draft.{Draft}
 use Rattle.bw_lang.specs.declared.token.Lexeme.{Lexeme}
-use Rattle.bw_lang.specs.Drafts.{AreFormed, spell_service}
-use Rattle.bw_lang.specs.Words.{IsName}
+use Rattle.bw_lang.specs.Service.Drafts.{AreFormed, spell_service}
+use Rattle.bw_lang.specs.Text.Words.{IsName}
 
 -- no two services that are formed are written with the same lexemes
 abbrev pub OneSpelling : Type 0

@@ -1,8 +1,8 @@
 //! Expressions are parsed.
 ghost use Rattle.std.specs.Prelude.{◌≡◌, ◌==◌, ◌+◌, ◌<◌, ◌≤◌, ◌^◌, pos, length, IfOk};
-ghost use Rattle.bw_lang.specs.Levels.{left_level};
-ghost use Rattle.bw_lang.specs.TermView.{term};
-ghost use Rattle.bw_parse.specs.Expressions.{parse, parse_more, parse_prefix, parse_plugs, parse_pairs, parse_atom, parse_inside, parse_word, number_at};
+ghost use Rattle.bw_lang.specs.Text.Levels.{left_level};
+ghost use Rattle.bw_lang.specs.Service.TermView.{term};
+ghost use Rattle.bw_parse.specs.Steps.Expressions.{parse, parse_more, parse_prefix, parse_plugs, parse_pairs, parse_atom, parse_inside, parse_word, number_at};
 ghost use Rattle.bw_parse.specs.Gives.{Gives};
 
 use crate::fault::ParseFault;

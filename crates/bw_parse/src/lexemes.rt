@@ -1,8 +1,8 @@
 //! What tokens say, and what stands at the front of a list of them.
 ghost use Rattle.std.specs.Prelude.{◌≡◌, ◌<◌, ◌∷◌, [], length, IfSome, MatchOption};
-ghost use Rattle.bw_lang.specs.Words.{op_sign};
-ghost use Rattle.bw_lang.specs.Levels.{op_level};
-ghost use Rattle.bw_parse.specs.Fronts as front;
+ghost use Rattle.bw_lang.specs.Text.Words.{op_sign};
+ghost use Rattle.bw_lang.specs.Text.Levels.{op_level};
+ghost use Rattle.bw_parse.specs.Steps.Fronts as front;
 ghost use Rattle.bw_parse.specs.Gives.{Finds};
 
 use bw_lang::{Fun, Kind, Lexeme, Name, Op, is_keyword};
@@ -54,7 +54,7 @@ fn level_of(op: Op) -> u8
     }
 }
 
-#[tactic(auto, unfolding(crate::specs::Fronts::meaning))]
+#[tactic(auto, unfolding(crate::specs::Steps::Fronts::meaning))]
 pub(crate) fn meaning_of(word: &str) -> Meaning
     ensures { result ≡ front.meaning word.now }
 {
@@ -100,7 +100,7 @@ pub(crate) fn first(lexemes: &[Lexeme]) -> Option<(&Lexeme, &[Lexeme])>
 }
 
 /// What follows this sign.
-#[tactic(auto, unfolding(crate::specs::Fronts::behind))]
+#[tactic(auto, unfolding(crate::specs::Steps::Fronts::behind))]
 pub(crate) fn after<'a>(sign: &[u8], lexemes: &'a [Lexeme]) -> Option<&'a [Lexeme]>
     ensures value { Finds (λ k. k.now) result (front.behind sign.now lexemes.now) }
     ensures shorter { IfSome result (λ k. length k.now < length lexemes.now) }
@@ -118,7 +118,7 @@ pub(crate) fn after<'a>(sign: &[u8], lexemes: &'a [Lexeme]) -> Option<&'a [Lexem
 }
 
 /// What follows this keyword.
-#[tactic(auto, unfolding(crate::specs::Fronts::keyword))]
+#[tactic(auto, unfolding(crate::specs::Steps::Fronts::keyword))]
 pub(crate) fn keyword<'a>(word: &str, lexemes: &'a [Lexeme]) -> Option<&'a [Lexeme]>
     ensures value { Finds (λ k. k.now) result (front.keyword word.now lexemes.now) }
     ensures shorter { IfSome result (λ k. length k.now < length lexemes.now) }
@@ -136,7 +136,7 @@ pub(crate) fn keyword<'a>(word: &str, lexemes: &'a [Lexeme]) -> Option<&'a [Lexe
 }
 
 /// A word, and what follows it.
-#[tactic(auto, unfolding(crate::specs::Fronts::word))]
+#[tactic(auto, unfolding(crate::specs::Steps::Fronts::word))]
 pub(crate) fn word(lexemes: &[Lexeme]) -> Option<(&Name, &[Lexeme])>
     ensures value { Finds (λ x. (x.0.now, x.1.now)) result (front.word lexemes.now) }
     ensures shorter { IfSome result (λ x. length x.1.now < length lexemes.now) }
@@ -148,7 +148,7 @@ pub(crate) fn word(lexemes: &[Lexeme]) -> Option<(&Name, &[Lexeme])>
 }
 
 /// A word that is no keyword, and what follows it.
-#[tactic(auto, unfolding(crate::specs::Fronts::named))]
+#[tactic(auto, unfolding(crate::specs::Steps::Fronts::named))]
 pub(crate) fn name(lexemes: &[Lexeme]) -> Option<(&Name, &[Lexeme])>
     ensures value { Finds (λ x. (x.0.now, x.1.now)) result (front.named lexemes.now) }
     ensures shorter { IfSome result (λ x. length x.1.now < length lexemes.now) }
@@ -162,7 +162,7 @@ pub(crate) fn name(lexemes: &[Lexeme]) -> Option<(&Name, &[Lexeme])>
 }
 
 /// A kind, and what follows it.
-#[tactic(auto, unfolding(crate::specs::Fronts::kind))]
+#[tactic(auto, unfolding(crate::specs::Steps::Fronts::kind))]
 pub(crate) fn kind(lexemes: &[Lexeme]) -> Option<(Kind, &[Lexeme])>
     ensures value { Finds (λ x. (x.0, x.1.now)) result (front.kind lexemes.now) }
     ensures shorter { IfSome result (λ x. length x.1.now < length lexemes.now) }
@@ -173,7 +173,7 @@ pub(crate) fn kind(lexemes: &[Lexeme]) -> Option<(Kind, &[Lexeme])>
 }
 
 /// A kind that a shared variable may have, and what follows it.
-#[tactic(auto, unfolding(crate::specs::Fronts::shared_kind))]
+#[tactic(auto, unfolding(crate::specs::Steps::Fronts::shared_kind))]
 pub(crate) fn shared_kind(lexemes: &[Lexeme]) -> Option<(Kind, &[Lexeme])>
     ensures value { Finds (λ x. (x.0, x.1.now)) result (front.shared_kind lexemes.now) }
     ensures shorter { IfSome result (λ x. length x.1.now < length lexemes.now) }
@@ -186,7 +186,7 @@ pub(crate) fn shared_kind(lexemes: &[Lexeme]) -> Option<(Kind, &[Lexeme])>
 }
 
 /// An operator of this level, and what follows it.
-#[tactic(auto, unfolding(crate::specs::Fronts::operator))]
+#[tactic(auto, unfolding(crate::specs::Steps::Fronts::operator))]
 pub(crate) fn operator(level: u8, lexemes: &[Lexeme]) -> Option<(Op, &[Lexeme])>
     ensures value { Finds (λ x. (x.0, x.1.now)) result (front.operator level lexemes.now) }
     ensures shorter { IfSome result (λ x. length x.1.now < length lexemes.now) }

@@ -1,10 +1,10 @@
 //! Declarations and services are parsed.
 ghost use Rattle.std.specs.Prelude.{◌≡◌, ◌<◌, ◌≤◌, ◌++◌, [], List, ℕ, Some, length, IfOk, IfSome};
 ghost use Rattle.bw_lang.specs.declared.declaration.Draft.{Draft as Draft_};
-ghost use Rattle.bw_lang.specs.Drafts.{AreFormed, spell_service};
-ghost use Rattle.bw_lang.specs.Words.{IsName};
+ghost use Rattle.bw_lang.specs.Service.Drafts.{AreFormed, spell_service};
+ghost use Rattle.bw_lang.specs.Text.Words.{IsName};
 ghost use Rattle.bw_parse.specs.Gives.{Gives, Finds};
-ghost use Rattle.bw_parse.specs.Services as spec;
+ghost use Rattle.bw_parse.specs.Steps.Services as spec;
 
 use crate::fault::ParseFault;
 use crate::lexemes::{Meaning, after, keyword, meaning_of, name, shared_kind};
@@ -20,7 +20,7 @@ pub struct ServiceDraft {
 }
 
 /// The inside of a template, and what follows it.
-#[tactic(auto, unfolding(crate::specs::Services::template_token))]
+#[tactic(auto, unfolding(crate::specs::Steps::Services::template_token))]
 fn template_at(lexemes: &[Lexeme]) -> Option<(&Bytes, &[Lexeme])>
     ensures value { Finds (λ x. (x.0.now, x.1.now)) result (spec.template_token lexemes.now) }
     ensures shorter { IfSome result (λ x. length x.1.now < length lexemes.now) }
@@ -32,7 +32,7 @@ fn template_at(lexemes: &[Lexeme]) -> Option<(&Bytes, &[Lexeme])>
 }
 
 /// A number, which is below 2^63 in every text, and what follows it.
-#[tactic(auto, unfolding(crate::specs::Services::number_token))]
+#[tactic(auto, unfolding(crate::specs::Steps::Services::number_token))]
 fn number_at(lexemes: &[Lexeme]) -> Option<(u64, &[Lexeme])>
     ensures value { Finds (λ x. (x.0, x.1.now)) result (spec.number_token lexemes.now) }
     ensures shorter { IfSome result (λ x. length x.1.now < length lexemes.now) }
@@ -61,7 +61,7 @@ fn word_literal(word: &Name) -> Result<Option<Written>, Memory>
 }
 
 /// A literal without `-` in front, and what follows it.
-#[tactic(auto, unfolding(crate::specs::Services::plain_literal))]
+#[tactic(auto, unfolding(crate::specs::Steps::Services::plain_literal))]
 fn plain_literal(lexemes: &[Lexeme]) -> Result<(Written, &[Lexeme]), ParseFault>
     ensures value { Gives (λ x. (x.0, x.1.now)) result (spec.plain_literal lexemes.now) }
     ensures shorter { IfOk result (λ x. length x.1.now < length lexemes.now) }
@@ -84,7 +84,7 @@ fn plain_literal(lexemes: &[Lexeme]) -> Result<(Written, &[Lexeme]), ParseFault>
 }
 
 /// A literal, and what follows it.
-#[tactic(auto, unfolding(crate::specs::Services::literal))]
+#[tactic(auto, unfolding(crate::specs::Steps::Services::literal))]
 fn literal(lexemes: &[Lexeme]) -> Result<(Written, &[Lexeme]), ParseFault>
     ensures value { Gives (λ x. (x.0, x.1.now)) result (spec.literal lexemes.now) }
     ensures shorter { IfOk result (λ x. length x.1.now < length lexemes.now) }
@@ -99,7 +99,7 @@ fn literal(lexemes: &[Lexeme]) -> Result<(Written, &[Lexeme]), ParseFault>
 }
 
 /// Behind `html`.
-#[tactic(auto, unfolding(crate::specs::Services::parse_template))]
+#[tactic(auto, unfolding(crate::specs::Steps::Services::parse_template))]
 fn template(lexemes: &[Lexeme]) -> Result<(Draft, &[Lexeme]), ParseFault>
     ensures value { Gives (λ x. (x.0, x.1.now)) result (spec.parse_template lexemes.now) }
     ensures shorter { IfOk result (λ x. length x.1.now < length lexemes.now) }
@@ -122,7 +122,7 @@ fn template(lexemes: &[Lexeme]) -> Result<(Draft, &[Lexeme]), ParseFault>
 }
 
 /// Behind `shared`.
-#[tactic(auto, unfolding(crate::specs::Services::parse_shared))]
+#[tactic(auto, unfolding(crate::specs::Steps::Services::parse_shared))]
 fn shared(lexemes: &[Lexeme]) -> Result<(Draft, &[Lexeme]), ParseFault>
     ensures value { Gives (λ x. (x.0, x.1.now)) result (spec.parse_shared lexemes.now) }
     ensures shorter { IfOk result (λ x. length x.1.now < length lexemes.now) }
@@ -145,7 +145,7 @@ fn shared(lexemes: &[Lexeme]) -> Result<(Draft, &[Lexeme]), ParseFault>
 }
 
 /// Behind `session`.
-#[tactic(auto, unfolding(crate::specs::Services::parse_session))]
+#[tactic(auto, unfolding(crate::specs::Steps::Services::parse_session))]
 fn session(alloc: Global, lexemes: &[Lexeme]) -> Result<(Draft, &[Lexeme]), ParseFault>
     ensures value { Gives (λ x. (x.0, x.1.now)) result (spec.parse_session lexemes.now) }
     ensures shorter { IfOk result (λ x. length x.1.now < length lexemes.now) }
@@ -168,7 +168,7 @@ fn session(alloc: Global, lexemes: &[Lexeme]) -> Result<(Draft, &[Lexeme]), Pars
 }
 
 /// A declaration, and what follows it.
-#[tactic(auto, unfolding(crate::specs::Services::draft))]
+#[tactic(auto, unfolding(crate::specs::Steps::Services::draft))]
 fn draft(alloc: Global, lexemes: &[Lexeme]) -> Result<(Draft, &[Lexeme]), ParseFault>
     ensures value { Gives (λ x. (x.0, x.1.now)) result (spec.draft lexemes.now) }
     ensures shorter { IfOk result (λ x. length x.1.now < length lexemes.now) }
@@ -203,7 +203,7 @@ fn drafts(alloc: Global, lexemes: &[Lexeme]) -> Result<(Vec<Draft>, &[Lexeme]), 
     }
 }
 
-#[tactic(auto, unfolding(crate::specs::Services::parse_service))]
+#[tactic(auto, unfolding(crate::specs::Steps::Services::parse_service))]
 fn whole_service(alloc: Global, lexemes: &[Lexeme]) -> Result<ServiceDraft, ParseFault>
     ensures { Gives (λ d. (d.name, d.drafts.items)) result (spec.parse_service lexemes.now) }
 {

@@ -1,10 +1,10 @@
 //! Statements are parsed.
 ghost use Rattle.std.specs.Prelude.{◌≡◌, ◌<◌, ◌≤◌, [], length, IfOk};
-ghost use Rattle.bw_lang.specs.Code.{done};
-ghost use Rattle.bw_lang.specs.CodeView.{before};
-ghost use Rattle.bw_lang.specs.TermView.{term};
+ghost use Rattle.bw_lang.specs.Service.Code.{done};
+ghost use Rattle.bw_lang.specs.Service.CodeView.{before};
+ghost use Rattle.bw_lang.specs.Service.TermView.{term};
 ghost use Rattle.bw_parse.specs.Gives.{Gives};
-ghost use Rattle.bw_parse.specs.Statements as spec;
+ghost use Rattle.bw_parse.specs.Steps.Statements as spec;
 
 use crate::expressions::{expr, inside};
 use crate::fault::ParseFault;
@@ -68,7 +68,7 @@ fn statement(alloc: Global, lexemes: &[Lexeme]) -> Result<(Stmt, &[Lexeme]), Par
 
 /// Behind `if`.
 #[cycle(statement)]
-#[tactic(auto, unfolding(crate::specs::Statements::parse_if))]
+#[tactic(auto, unfolding(crate::specs::Steps::Statements::parse_if))]
 fn if_statement(alloc: Global, lexemes: &[Lexeme]) -> Result<(Stmt, &[Lexeme]), ParseFault>
     ensures value { Gives (λ x. (before x.0 done, x.1.now)) result (spec.parse_if lexemes.now) }
     ensures shorter { IfOk result (λ x. length x.1.now < length lexemes.now) }
@@ -94,7 +94,7 @@ fn if_statement(alloc: Global, lexemes: &[Lexeme]) -> Result<(Stmt, &[Lexeme]), 
 
 /// Behind `while`.
 #[cycle(statement)]
-#[tactic(auto, unfolding(crate::specs::Statements::parse_while))]
+#[tactic(auto, unfolding(crate::specs::Steps::Statements::parse_while))]
 fn while_statement(alloc: Global, lexemes: &[Lexeme]) -> Result<(Stmt, &[Lexeme]), ParseFault>
     ensures value { Gives (λ x. (before x.0 done, x.1.now)) result (spec.parse_while lexemes.now) }
     ensures shorter { IfOk result (λ x. length x.1.now < length lexemes.now) }
@@ -106,7 +106,7 @@ fn while_statement(alloc: Global, lexemes: &[Lexeme]) -> Result<(Stmt, &[Lexeme]
 
 /// Behind `foreach`.
 #[cycle(statement)]
-#[tactic(auto, unfolding(crate::specs::Statements::parse_each))]
+#[tactic(auto, unfolding(crate::specs::Steps::Statements::parse_each))]
 fn each_statement(alloc: Global, lexemes: &[Lexeme]) -> Result<(Stmt, &[Lexeme]), ParseFault>
     ensures value { Gives (λ x. (before x.0 done, x.1.now)) result (spec.parse_each lexemes.now) }
     ensures shorter { IfOk result (λ x. length x.1.now < length lexemes.now) }
@@ -117,7 +117,7 @@ fn each_statement(alloc: Global, lexemes: &[Lexeme]) -> Result<(Stmt, &[Lexeme])
 }
 
 /// `(NAME in LIST)`
-#[tactic(auto, unfolding(crate::specs::Statements::each_head))]
+#[tactic(auto, unfolding(crate::specs::Steps::Statements::each_head))]
 fn each_head(alloc: Global, lexemes: &[Lexeme]) -> Result<(Name, Expr, &[Lexeme]), ParseFault>
     ensures value { Gives (λ x. ((x.0, term x.1), x.2.now)) result (spec.each_head lexemes.now) }
     ensures shorter { IfOk result (λ x. length x.2.now < length lexemes.now) }
@@ -136,7 +136,7 @@ fn each_head(alloc: Global, lexemes: &[Lexeme]) -> Result<(Name, Expr, &[Lexeme]
 }
 
 /// A test in parentheses.
-#[tactic(auto, unfolding(crate::specs::Statements::condition))]
+#[tactic(auto, unfolding(crate::specs::Steps::Statements::condition))]
 fn condition(alloc: Global, lexemes: &[Lexeme]) -> Result<(Expr, &[Lexeme]), ParseFault>
     ensures value { Gives (λ x. (term x.0, x.1.now)) result (spec.condition lexemes.now) }
     ensures shorter { IfOk result (λ x. length x.1.now < length lexemes.now) }
@@ -148,7 +148,7 @@ fn condition(alloc: Global, lexemes: &[Lexeme]) -> Result<(Expr, &[Lexeme]), Par
 }
 
 /// A statement without statements in it.
-#[tactic(auto, unfolding(crate::specs::Statements::simple))]
+#[tactic(auto, unfolding(crate::specs::Steps::Statements::simple))]
 fn simple(alloc: Global, lexemes: &[Lexeme]) -> Result<(Stmt, &[Lexeme]), ParseFault>
     ensures value { Gives (λ x. (before x.0 done, x.1.now)) result (spec.simple lexemes.now) }
     ensures shorter { IfOk result (λ x. length x.1.now < length lexemes.now) }
@@ -165,7 +165,7 @@ fn simple(alloc: Global, lexemes: &[Lexeme]) -> Result<(Stmt, &[Lexeme]), ParseF
 }
 
 /// Behind `show`.
-#[tactic(auto, unfolding(crate::specs::Statements::parse_show))]
+#[tactic(auto, unfolding(crate::specs::Steps::Statements::parse_show))]
 fn show_statement(alloc: Global, lexemes: &[Lexeme]) -> Result<(Stmt, &[Lexeme]), ParseFault>
     ensures value { Gives (λ x. (before x.0 done, x.1.now)) result (spec.parse_show lexemes.now) }
     ensures shorter { IfOk result (λ x. length x.1.now < length lexemes.now) }
@@ -179,7 +179,7 @@ fn show_statement(alloc: Global, lexemes: &[Lexeme]) -> Result<(Stmt, &[Lexeme])
 }
 
 /// Behind `exit`.
-#[tactic(auto, unfolding(crate::specs::Statements::parse_exit))]
+#[tactic(auto, unfolding(crate::specs::Steps::Statements::parse_exit))]
 fn exit_statement(alloc: Global, lexemes: &[Lexeme]) -> Result<(Stmt, &[Lexeme]), ParseFault>
     ensures value { Gives (λ x. (before x.0 done, x.1.now)) result (spec.parse_exit lexemes.now) }
     ensures shorter { IfOk result (λ x. length x.1.now < length lexemes.now) }
@@ -192,7 +192,7 @@ fn exit_statement(alloc: Global, lexemes: &[Lexeme]) -> Result<(Stmt, &[Lexeme])
 }
 
 /// Behind a kind.
-#[tactic(auto, unfolding(crate::specs::Statements::parse_declare))]
+#[tactic(auto, unfolding(crate::specs::Steps::Statements::parse_declare))]
 fn declaration(
     alloc: Global,
     kind: Kind,
@@ -205,7 +205,7 @@ fn declaration(
     Ok((Stmt::Declare { kind, name, value }, rest))
 }
 
-#[tactic(auto, unfolding(crate::specs::Statements::parse_assign))]
+#[tactic(auto, unfolding(crate::specs::Steps::Statements::parse_assign))]
 fn assignment(alloc: Global, lexemes: &[Lexeme]) -> Result<(Stmt, &[Lexeme]), ParseFault>
     ensures value { Gives (λ x. (before x.0 done, x.1.now)) result (spec.parse_assign lexemes.now) }
     ensures shorter { IfOk result (λ x. length x.1.now < length lexemes.now) }
@@ -215,7 +215,7 @@ fn assignment(alloc: Global, lexemes: &[Lexeme]) -> Result<(Stmt, &[Lexeme]), Pa
 }
 
 /// `NAME = VALUE;`
-#[tactic(auto, unfolding(crate::specs::Statements::valued))]
+#[tactic(auto, unfolding(crate::specs::Steps::Statements::valued))]
 fn valued(alloc: Global, lexemes: &[Lexeme]) -> Result<(Name, Expr, &[Lexeme]), ParseFault>
     ensures value { Gives (λ x. ((x.0, term x.1), x.2.now)) result (spec.valued lexemes.now) }
     ensures shorter { IfOk result (λ x. length x.2.now < length lexemes.now) }
@@ -234,7 +234,7 @@ fn valued(alloc: Global, lexemes: &[Lexeme]) -> Result<(Name, Expr, &[Lexeme]), 
 }
 
 /// `receive [..]`, or nothing.
-#[tactic(auto, unfolding(crate::specs::Statements::parse_receives))]
+#[tactic(auto, unfolding(crate::specs::Steps::Statements::parse_receives))]
 fn receives(alloc: Global, lexemes: &[Lexeme]) -> Result<(Receives, &[Lexeme]), ParseFault>
     ensures value { Gives (λ x. (x.0, x.1.now)) result (spec.parse_receives lexemes.now) }
     ensures shorter { IfOk result (λ x. length x.1.now ≤ length lexemes.now) }
@@ -271,7 +271,7 @@ fn receive_list(alloc: Global, lexemes: &[Lexeme]) -> Result<(Receives, &[Lexeme
 }
 
 /// `TARGET = FIELD`
-#[tactic(auto, unfolding(crate::specs::Statements::receive))]
+#[tactic(auto, unfolding(crate::specs::Steps::Statements::receive))]
 fn receive(lexemes: &[Lexeme]) -> Result<(Receive, &[Lexeme]), ParseFault>
     ensures value { Gives (λ x. (x.0, x.1.now)) result (spec.receive lexemes.now) }
     ensures shorter { IfOk result (λ x. length x.1.now < length lexemes.now) }

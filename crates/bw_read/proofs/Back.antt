@@ -7,15 +7,15 @@ use Rattle.std.proofs.lemmas.Str.{IsUtf8-append}
 use Rattle.bw_lang.specs.declared.items.Attr.{Attr}
 use Rattle.bw_lang.specs.declared.items.AttrValue.TheVariants.{Fixed}
 use Rattle.bw_lang.specs.declared.measure.Measure.{Measure}
-use Rattle.bw_lang.specs.Documents.{append, close}
-use Rattle.bw_lang.specs.Forest.{Forest, none, text, gap, element}
-use Rattle.bw_lang.specs.Markup.{is_void}
-use Rattle.bw_lang.specs.Measures.{nest, IsDocument}
-use Rattle.bw_lang.specs.Pieces.{IsName}
+use Rattle.bw_lang.specs.Document.Documents.{append, close}
+use Rattle.bw_lang.specs.Document.Forest.{Forest, none, text, gap, element}
+use Rattle.bw_lang.specs.Template.Markup.{is_void}
+use Rattle.bw_lang.specs.Document.Measures.{nest, IsDocument}
+use Rattle.bw_lang.specs.Template.Pieces.{IsNameOf}
 use Rattle.bw_lang.specs.declared.pieces.NameClass.TheVariants as class
-use Rattle.bw_lang.specs.Measures.{IsDocument as document}
-use Rattle.bw_lang.specs.Print.{print, joined}
-use Rattle.bw_lang.specs.Wrappers.{attr, page, form, button}
+use Rattle.bw_lang.specs.Document.Measures.{IsDocument as document}
+use Rattle.bw_lang.specs.Document.Print.{print, joined}
+use Rattle.bw_lang.specs.Document.Wrappers.{attr, page, form, button}
 use Rattle.bw_lang.proofs.Bounds.{nest_bounds}
 use Rattle.bw_lang.proofs.Weights.{nest-append}
 use Rattle.bw_page.specs.Bytes.{is_word_byte, is_digit, is_hex_digit}
@@ -69,7 +69,7 @@ never_void : (inner : Forest) (tag : List ℕ) → is_void tag ≡ false → is_
 never_void inner tag e h = absurd (cc)
 
 -- an element without attributes that has an end tag
-plain_closed : (tag : List ℕ) (inner rest : Forest) → IsName class.Tag tag → is_void tag ≡ false → IsClosedMarkup inner → IsClosedMarkup rest
+plain_closed : (tag : List ℕ) (inner rest : Forest) → IsNameOf class.Tag tag → is_void tag ≡ false → IsClosedMarkup inner → IsClosedMarkup rest
     → IsClosedMarkup (element tag [] inner rest)
 plain_closed tag inner rest n v p q = (n, tt, refl, never_void inner tag v, p, q)
 
@@ -85,7 +85,7 @@ page_closed title body t b =
 
 -- ---- the button and the form
 
-named_attr : (name value : List ℕ) (rest : List Attr) → IsName class.Attr name → IsUtf8 value → AreAttrs ⊥ rest → AreAttrs ⊥ (attr name (Fixed value) ∷ rest)
+named_attr : (name value : List ℕ) (rest : List Attr) → IsNameOf class.Attr name → IsUtf8 value → AreAttrs ⊥ rest → AreAttrs ⊥ (attr name (Fixed value) ∷ rest)
 named_attr name value rest n u h = (n, u, h)
 
 button_attrs : AreAttrs ⊥ (attr (codes "type") (Fixed (codes "submit")) ∷ attr (codes "value") (Fixed (codes "Continue")) ∷ [])
@@ -97,13 +97,13 @@ button_attrs =
 button_closed : IsClosedMarkup button
 button_closed =
     let attrs = attr (codes "type") (Fixed (codes "submit")) ∷ attr (codes "value") (Fixed (codes "Continue")) ∷ [] in
-    let tag : IsName class.Tag (codes "input") = record { first = refl; later = refl } in
+    let tag : IsNameOf class.Tag (codes "input") = record { first = refl; later = refl } in
     let input : IsClosedMarkup (element (codes "input") attrs none none) = (tag, button_attrs, refl, (λ (h : true ≡ true). refl), tt, tt) in
     plain_closed (codes "p") (element (codes "input") attrs none none) none (record { first = refl; later = refl }) refl input tt
 
 form_closed : (target : List ℕ) (items : Forest) → IsUtf8 target → IsClosedMarkup items → IsClosedMarkup (form (Fixed target) items)
 form_closed target items u h =
-    let tag : IsName class.Tag (codes "form") = record { first = refl; later = refl } in
+    let tag : IsNameOf class.Tag (codes "form") = record { first = refl; later = refl } in
     let method =
     named_attr (codes "method") (codes "post") [] (record { first = refl; later = refl }) (ascii_codes (codes "post") refl) tt in
     let attrs =

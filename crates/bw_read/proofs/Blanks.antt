@@ -3,11 +3,11 @@ use Rattle.std.proofs.Common.{◌≡◌, ◌≤◌, ◌<◌, ◌+◌, ◌-◌, �
 use Rattle.std.proofs.Common.{length, take, get_or, Option, Some, None, refl, sym, ap, ◌∙◌, arith, inl, inr}
 use Rattle.std.specs.Prelude.{if◌then◌else◌, ◌&&◌, codes}
 use Rattle.std.proofs.lemmas.List.{append_assoc, take-append-drop, take_more}
-use Rattle.bw_lang.specs.Bytes.{is_blank}
-use Rattle.bw_lang.specs.MarkupNames.{begins}
-use Rattle.bw_lang.specs.Pieces.{passes}
-use Rattle.bw_lang.specs.Options.{where_some}
-use Rattle.bw_tmpl.specs.Reading.{leading, past_blanks, stripped}
+use Rattle.bw_lang.specs.Text.Bytes.{is_blank}
+use Rattle.bw_lang.specs.Template.MarkupNames.{begins}
+use Rattle.bw_lang.specs.Template.Pieces.{passes}
+use Rattle.bw_lang.specs.Table.Options.{where_some}
+use Rattle.bw_tmpl.specs.Steps.Reading.{leading, past_blanks, stripped}
 use Rattle.bw_tmpl.proofs.Many.{stripped_is, stripped_again}
 use Rattle.bw_tmpl.proofs.SpelledNames.{both, leading_front, past_is}
 use Rattle.bw_read.specs.Element.{past_doctype, unless_last, trimmed}

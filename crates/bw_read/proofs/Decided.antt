@@ -7,9 +7,9 @@ use Rattle.std.proofs.lemmas.Str.{is_utf8-from_IsUtf8, IsUtf8-from_is_utf8}
 use Rattle.std.specs.Cmp.Lexicographic.{same_text}
 use Rattle.bw_lang.specs.declared.items.Item.{Item}
 use Rattle.bw_lang.specs.declared.items.Item.TheVariants.{Text, Element, Gap}
-use Rattle.bw_lang.specs.Forest.{Forest, none, text, gap, element}
-use Rattle.bw_lang.specs.Templates.{IsClosedTemplate}
-use Rattle.bw_lang.specs.View.{forest}
+use Rattle.bw_lang.specs.Document.Forest.{Forest, none, text, gap, element}
+use Rattle.bw_lang.specs.Template.Templates.{IsClosedTemplate}
+use Rattle.bw_lang.specs.Document.View.{forest}
 use Rattle.bw_tmpl.specs.declared.fault.TmplFault.{TmplFault}
 use Rattle.bw_tmpl.specs.declared.fault.TmplFault.TheVariants as fault
 use Rattle.bw_tmpl.specs.Refusals.{IsClosedRefused}
@@ -17,11 +17,11 @@ use Rattle.bw_tmpl.proofs.Answered.{closed_read_or_refused}
 use Rattle.bw_tmpl.proofs.Deciding.{one_closed_template, not_both_closed}
 use Rattle.bw_tmpl.proofs.Inverse.{same-refl}
 use Rattle.bw_read.specs.Element.{element_of}
-use Rattle.bw_read.specs.Faults.{page_fault}
+use Rattle.bw_read.specs.Steps.Faults.{page_fault}
 use Rattle.bw_read.specs.Laws.{OnePage, PageOrNone}
 use Rattle.bw_read.specs.Pages.{IsRoot, IsPage}
 use Rattle.bw_read.specs.Refusals.{IsNoPage}
-use Rattle.bw_read.specs.Root.{is_root}
+use Rattle.bw_read.specs.Steps.Root.{is_root}
 use Rattle.bw_read.proofs.Elements.{around_element, page_element}
 
 -- the element that is left reads as the page

@@ -5,13 +5,13 @@ use Rattle.std.proofs.lemmas.List.{append_assoc}
 use Rattle.bw_lang.specs.declared.pieces.Piece.{Piece}
 use Rattle.bw_lang.specs.declared.pieces.Piece.TheVariants as piece
 use Rattle.bw_lang.specs.declared.pieces.Tag.{Tag}
-use Rattle.bw_lang.specs.Bytes.{is_blank}
-use Rattle.bw_lang.specs.Forest.{Forest, none, element}
-use Rattle.bw_lang.specs.MarkupNames.{begins}
-use Rattle.bw_lang.specs.PieceItems.{ReadsPieces}
-use Rattle.bw_lang.specs.Pieces.{Each, IsTag, IsPiece}
-use Rattle.bw_lang.specs.Templates.{IsClosedTemplate}
-use Rattle.bw_tmpl.specs.Reading.{past_blanks, stripped}
+use Rattle.bw_lang.specs.Text.Bytes.{is_blank}
+use Rattle.bw_lang.specs.Document.Forest.{Forest, none, element}
+use Rattle.bw_lang.specs.Template.MarkupNames.{begins}
+use Rattle.bw_lang.specs.Template.PieceItems.{ReadsPieces}
+use Rattle.bw_lang.specs.Template.Pieces.{Each, IsTag, IsPiece}
+use Rattle.bw_lang.specs.Template.Templates.{IsClosedTemplate}
+use Rattle.bw_tmpl.specs.Steps.Reading.{past_blanks, stripped}
 use Rattle.bw_tmpl.proofs.GapLaws.{Ways}
 use Rattle.bw_tmpl.proofs.SpelledNames.{past_is}
 use Rattle.bw_read.specs.Element.{past_doctype, trimmed, element_of}

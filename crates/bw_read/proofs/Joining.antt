@@ -3,12 +3,12 @@ use Rattle.std.proofs.Common.{◌≡◌, ℕ, suc, ◌+◌, false, inl, inr, Lis
 use Rattle.bw_lang.specs.declared.pieces.Piece.{Piece}
 use Rattle.bw_lang.specs.declared.pieces.Piece.TheVariants as piece
 use Rattle.bw_lang.specs.declared.pieces.Tag.{Tag}
-use Rattle.bw_lang.specs.Controls.{fields, field_of}
-use Rattle.bw_lang.specs.Documents.{elements}
-use Rattle.bw_lang.specs.Forest.{Forest, none, text, gap, element}
-use Rattle.bw_lang.specs.PieceItems.{ReadsPieces}
-use Rattle.bw_lang.specs.Pieces.{Each, IsPiece, begins_with_text, Apart, SpellsPieces}
-use Rattle.bw_lang.specs.Print.{text_before, joined}
+use Rattle.bw_lang.specs.Template.Controls.{fields, field_of}
+use Rattle.bw_lang.specs.Document.Documents.{elements}
+use Rattle.bw_lang.specs.Document.Forest.{Forest, none, text, gap, element}
+use Rattle.bw_lang.specs.Template.PieceItems.{ReadsPieces}
+use Rattle.bw_lang.specs.Template.Pieces.{Each, IsPiece, begins_with_text, Apart, SpellsPieces}
+use Rattle.bw_lang.specs.Document.Print.{text_before, joined}
 use Rattle.bw_tmpl.proofs.Back.{joined_tidy}
 use Rattle.bw_tmpl.proofs.BackPieces.{starts_text, Tidy}
 use Rattle.bw_tmpl.proofs.GapLaws.{Ways}

@@ -2,8 +2,8 @@
 use Rattle.std.proofs.Common.{◌≤◌, ℕ, List, [], length, arith, ap}
 use Rattle.std.specs.Prelude.{◌++◌}
 use Rattle.std.proofs.Common.{length-append}
-use Rattle.bw_lang.specs.Forest.{Forest}
-use Rattle.bw_lang.specs.Templates.{IsTemplate, IsClosedTemplate}
+use Rattle.bw_lang.specs.Document.Forest.{Forest}
+use Rattle.bw_lang.specs.Template.Templates.{IsTemplate, IsClosedTemplate}
 use Rattle.bw_lang.proofs.Weights.{parts_weigh}
 use Rattle.bw_tmpl.proofs.GapLaws.{none_open}
 use Rattle.bw_tmpl.proofs.Made.{reads_markup}

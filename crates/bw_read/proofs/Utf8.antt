@@ -15,11 +15,11 @@ use Rattle.bw_lang.specs.declared.items.AttrValue.{AttrValue}
 use Rattle.bw_lang.specs.declared.items.AttrValue.TheVariants as value
 use Rattle.bw_lang.specs.declared.pieces.NameClass.{NameClass}
 use Rattle.bw_lang.specs.declared.pieces.NameClass.TheVariants as class
-use Rattle.bw_lang.specs.Forest.{Forest, none, text, gap, element}
-use Rattle.bw_lang.specs.Markup.{is_void, escaped_byte, escaped}
-use Rattle.bw_lang.specs.MarkupNames.{later_of}
-use Rattle.bw_lang.specs.Pieces.{passes, IsName}
-use Rattle.bw_lang.specs.Print.{print, printed_attr, printed_attrs, printed_start, printed_end, printed_element}
+use Rattle.bw_lang.specs.Document.Forest.{Forest, none, text, gap, element}
+use Rattle.bw_lang.specs.Template.Markup.{is_void, escaped_byte, escaped}
+use Rattle.bw_lang.specs.Template.MarkupNames.{later_of}
+use Rattle.bw_lang.specs.Template.Pieces.{passes, IsNameOf}
+use Rattle.bw_lang.specs.Document.Print.{print, printed_attr, printed_attrs, printed_start, printed_end, printed_element}
 use Rattle.bw_lang.proofs.PrintLaws.{escaped-append}
 use Rattle.bw_tmpl.specs.Markup.{IsValueOf, AreAttrs, IsClosedMarkup}
 use Rattle.bw_tmpl.proofs.Runs.{later_below}
@@ -39,7 +39,7 @@ ascii_passes : (p : ℕ → Bool) → ((c : ℕ) → p c ≡ true → c < 128) �
 ascii_passes p below [] h = IsAscii-nil
 ascii_passes p below (c ∷ s) h = let k = both (p c) (passes p s) h in IsAscii-cons c s (below c k.0) (ascii_passes p below s k.1)
 
-name_utf8 : (k : NameClass) (n : List ℕ) → IsName k n → IsUtf8 n
+name_utf8 : (k : NameClass) (n : List ℕ) → IsNameOf k n → IsUtf8 n
 name_utf8 k n h = IsUtf8-from_ascii n (ascii_passes (later_of k) (later_below k) n h.later)
 
 -- bytes that pass the test, one after the other

@@ -1,8 +1,8 @@
 -- The bytes of a page's element, by cutting off what may stand around it.
 use Rattle.std.specs.Prelude.{ℕ, if◌then◌else◌, List, [], ◌∷◌, codes}
-use Rattle.bw_lang.specs.Bytes.{is_blank}
-use Rattle.bw_lang.specs.Options.{where_some}
-use Rattle.bw_tmpl.specs.Reading.{past_blanks, stripped}
+use Rattle.bw_lang.specs.Text.Bytes.{is_blank}
+use Rattle.bw_lang.specs.Table.Options.{where_some}
+use Rattle.bw_tmpl.specs.Steps.Reading.{past_blanks, stripped}
 
 -- the bytes behind a document type and blanks, where one stands at the front
 abbrev pub past_doctype : List ℕ → List ℕ

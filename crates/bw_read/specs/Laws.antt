@@ -1,11 +1,11 @@
 -- Laws of pages that are read.
 use Rattle.std.specs.Prelude.{◌≡◌, ◌≤◌, ◌<◌, ◌^◌, ℕ, ◌⊎◌, List, length, IsUtf8}
 use Rattle.bw_lang.specs.declared.measure.Measure.{Measure}
-use Rattle.bw_lang.specs.Controls.{fields}
-use Rattle.bw_lang.specs.Documents.{count, elements}
-use Rattle.bw_lang.specs.Forest.{Forest}
-use Rattle.bw_lang.specs.Measures.{nest}
-use Rattle.bw_lang.specs.Print.{print, joined}
+use Rattle.bw_lang.specs.Template.Controls.{fields}
+use Rattle.bw_lang.specs.Document.Documents.{count, elements}
+use Rattle.bw_lang.specs.Document.Forest.{Forest}
+use Rattle.bw_lang.specs.Document.Measures.{nest}
+use Rattle.bw_lang.specs.Document.Print.{print, joined}
 use Rattle.bw_page.specs.Laws.{turn_target}
 use Rattle.bw_page.specs.Pages.{show_page, exit_page}
 use Rattle.bw_read.specs.Made.{IsMade, IsShown, IsTitle, IsTurn}

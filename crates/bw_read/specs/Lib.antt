@@ -1,7 +1,6 @@
 pub mod Element
-pub mod Faults
 pub mod Laws
 pub mod Made
 pub mod Pages
 pub mod Refusals
-pub mod Root
+pub mod Steps

@@ -2,11 +2,11 @@
 use Rattle.std.specs.Prelude.{◌≡◌, ◌≤◌, ℕ, List, length, IsUtf8}
 use Rattle.std.specs.List.{AllPass}
 use Rattle.bw_lang.specs.declared.measure.Measure.{Measure}
-use Rattle.bw_lang.specs.Documents as doc
-use Rattle.bw_lang.specs.Forest.{Forest}
-use Rattle.bw_lang.specs.Measures.{constant_measure, text_measure, plugged, IsWithin}
-use Rattle.bw_lang.specs.Print.{print}
-use Rattle.bw_lang.specs.Templates.{IsTemplate}
+use Rattle.bw_lang.specs.Document.Documents as doc
+use Rattle.bw_lang.specs.Document.Forest.{Forest}
+use Rattle.bw_lang.specs.Document.Measures.{constant_measure, text_measure, plugged, IsWithin}
+use Rattle.bw_lang.specs.Document.Print.{print}
+use Rattle.bw_lang.specs.Template.Templates.{IsTemplate}
 use Rattle.bw_page.specs.Bytes.{is_word_byte, is_digit, is_hex_digit}
 
 -- The document has this measure and is made by plugs: it is the constant of a template that bytes read as, or a document

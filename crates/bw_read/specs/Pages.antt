@@ -1,10 +1,10 @@
 -- Which bytes are a page.
 use Rattle.std.specs.Prelude.{◌≡◌, ◌≤◌, ℕ, true, ◌⊎◌, List, [], ◌++◌, length, codes, IsUtf8}
 use Rattle.bw_lang.specs.declared.items.Attr.{Attr}
-use Rattle.bw_lang.specs.Bytes.{is_blank}
-use Rattle.bw_lang.specs.Forest.{Forest, none, element}
-use Rattle.bw_lang.specs.Pieces.{passes}
-use Rattle.bw_lang.specs.Templates.{IsClosedTemplate}
+use Rattle.bw_lang.specs.Text.Bytes.{is_blank}
+use Rattle.bw_lang.specs.Document.Forest.{Forest, none, element}
+use Rattle.bw_lang.specs.Template.Pieces.{passes}
+use Rattle.bw_lang.specs.Template.Templates.{IsClosedTemplate}
 
 -- the document is one element html
 abbrev pub IsRoot : Forest → Type 0

@@ -1,6 +1,6 @@
 -- Why bytes aren't read as a page.
 use Rattle.std.specs.Prelude.{ℕ, List}
-use Rattle.bw_lang.specs.Forest.{Forest}
+use Rattle.bw_lang.specs.Document.Forest.{Forest}
 use Rattle.bw_read.specs.declared.fault.PageFault.{PageFault}
 use Rattle.bw_read.specs.declared.fault.PageFault.TheVariants as fault
 use Rattle.bw_read.specs.Pages.{IsPage}

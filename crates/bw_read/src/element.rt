@@ -1,6 +1,6 @@
 //! The element of a page, without what may stand around it.
 ghost use Rattle.std.specs.Prelude.{◌≡◌};
-ghost use Rattle.bw_tmpl.specs.Reading as reading;
+ghost use Rattle.bw_tmpl.specs.Steps.Reading as reading;
 ghost use Rattle.bw_read.specs.Element as spec;
 
 use bw_lang::is_blank;

@@ -16,7 +16,7 @@ pub enum PageFault {
 }
 
 impl From<TmplFault> for PageFault {
-    ghost use Rattle.bw_read.specs.Faults.{page_fault};
+    ghost use Rattle.bw_read.specs.Steps.Faults.{page_fault};
 
     ghost from_gives = { λ fault e. e ≡ page_fault fault };
 

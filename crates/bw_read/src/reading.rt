@@ -2,10 +2,10 @@
 ghost use Rattle.std.specs.Prelude.{◌≡◌, ◌<◌, ◌^◌, MatchResult, IfOk};
 ghost use Rattle.std.specs.Bool.{MatchBool};
 ghost use Rattle.std.specs.Str.{IsUtf8};
-ghost use Rattle.bw_lang.specs.Documents.{elements};
+ghost use Rattle.bw_lang.specs.Document.Documents.{elements};
 ghost use Rattle.bw_read.specs.Pages.{IsPage};
 ghost use Rattle.bw_read.specs.Refusals.{IsNoPage};
-ghost use Rattle.bw_read.specs.Root as spec;
+ghost use Rattle.bw_read.specs.Steps.Root as spec;
 
 use crate::element::element_of;
 use crate::fault::PageFault;

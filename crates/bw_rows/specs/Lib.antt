@@ -1,3 +1,3 @@
-pub mod Rows
-pub mod Least
 pub mod Changes
+pub mod Least
+pub mod Rows

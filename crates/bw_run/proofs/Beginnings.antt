@@ -3,7 +3,7 @@ use Rattle.std.proofs.Common.{◌≡◌, ℕ, zero, suc, ◌+◌, ◌<◌, List,
 use Rattle.std.specs.List.{All}
 use Rattle.std.specs.Prelude.{position, is_some, slice_get, Option, Some, None, Result, Ok, Err, IfOk, true}
 use Rattle.std.specs.Option.{option_map}
-use Rattle.bw_lang.specs.Names.{same}
+use Rattle.bw_lang.specs.Table.Names.{same}
 use Rattle.bw_doc.specs.Made as made
 use Rattle.bw_doc.specs.Made.{Made}
 use Rattle.bw_doc.specs.Operations.{items_in, items_at}

@@ -6,7 +6,7 @@ use Rattle.bw_lang.specs.declared.service.Service.{Service}
 use Rattle.bw_lang.specs.declared.stmt.Kind.{Kind}
 use Rattle.bw_lang.specs.declared.stmt.Kind.TheVariants as kinds
 use Rattle.bw_lang.specs.declared.turn.TurnFault.{TurnFault}
-use Rattle.bw_lang.specs.Term.{Term, int, truth, string, name, paren, not, neg, binary, call, plug, nothing, Fillings, no_more, filling}
+use Rattle.bw_lang.specs.Service.Term.{Term, int, truth, string, name, paren, not, neg, binary, call, plug, nothing, Fillings, no_more, filling}
 use Rattle.bw_types.specs.declared.typed.Typed.{Typed}
 use Rattle.bw_types.specs.ExpressionFaults.{fun_takes}
 use Rattle.bw_types.specs.Scopes.{Scope}

@@ -2,8 +2,8 @@
 use Rattle.std.proofs.Common.{ℕ, List, [], ◌∷◌, ◌++◌, ◌+◌, sym, subst}
 use Rattle.bw_lang.specs.declared.service.Service.{Service}
 use Rattle.bw_lang.specs.declared.turn.TurnFault.{TurnFault}
-use Rattle.bw_lang.specs.Code.{numbered}
-use Rattle.bw_lang.specs.Numbers.{first_number}
+use Rattle.bw_lang.specs.Service.Code.{numbered}
+use Rattle.bw_lang.specs.Service.Numbers.{first_number}
 use Rattle.std.specs.Prelude.{Result}
 use Rattle.bw_flow.specs.Steps.{Step}
 use Rattle.bw_meaning.specs.GoOn.{body_of, turn, go_on}

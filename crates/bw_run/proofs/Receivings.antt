@@ -1,7 +1,7 @@
 -- Fields received one after another.
 use Rattle.std.proofs.Common.{◌≡◌, ℕ, zero, suc, ◌+◌, ◌<◌, List, [], ◌∷◌, length, get_or, drop, map, ap, sym, ◌∙◌, arith}
 use Rattle.bw_flow.specs.declared.point.Received.{Received}
-use Rattle.bw_lang.specs.Submissions.{values_of}
+use Rattle.bw_lang.specs.Service.Submissions.{values_of}
 use Rattle.bw_meaning.specs.Forms.{received_value}
 use Rattle.bw_meaning.specs.States.{Form, State}
 use Rattle.bw_meaning.specs.Statements.{store, variable, received}

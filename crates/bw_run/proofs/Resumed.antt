@@ -2,7 +2,7 @@
 use Rattle.std.proofs.Common.{◌≡◌, ℕ, ◌+◌, List, [], length, map, Some, sym, ap, ◌∙◌, subst}
 use Rattle.std.specs.Prelude.{slice_get, Result}
 use Rattle.bw_lang.specs.declared.turn.TurnFault.{TurnFault}
-use Rattle.bw_lang.specs.Term.{Term}
+use Rattle.bw_lang.specs.Service.Term.{Term}
 use Rattle.bw_types.specs.declared.typed.Typed.{Typed}
 use Rattle.bw_flow.specs.declared.point.Received.{Received}
 use Rattle.bw_flow.specs.Steps.{Step, Plan}

@@ -7,7 +7,7 @@ use denote.Ref.{Bor}
 use Rattle.bw_eval.specs.declared.value.Value.{Value as Kept}
 use Rattle.bw_eval.specs.View.{value, values}
 use Rattle.bw_eval.proofs.Lookups.{beside_values}
-use Rattle.bw_lang.specs.Names.{same, beside}
+use Rattle.bw_lang.specs.Table.Names.{same, beside}
 use Rattle.bw_meaning.specs.States.{State}
 use Rattle.bw_meaning.specs.Statements.{store}
 use Rattle.bw_meaning.specs.Values.{Value, Values, replaced}

@@ -7,7 +7,7 @@ use Rattle.std.proofs.lemmas.List.Elements.{All-head, All-tail}
 use Rattle.std.proofs.lemmas.Option.{slice_get_within}
 use Rattle.bw_lang.specs.declared.service.Service.{Service}
 use Rattle.bw_lang.specs.declared.service.Session.{Session}
-use Rattle.bw_lang.specs.Code.{Code, done, declare, assign, if_then, if_else, while_loop, block, for_each, show, exit, numbered}
+use Rattle.bw_lang.specs.Service.Code.{Code, done, declare, assign, if_then, if_else, while_loop, block, for_each, show, exit, numbered}
 use Rattle.bw_types.specs.declared.typed.Typed.{Typed}
 use Rattle.bw_typed.specs.ShortStrings.{CodeHasShort}
 use Rattle.bw_flow.specs.declared.point.Local.{Local}

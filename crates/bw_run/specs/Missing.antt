@@ -4,7 +4,7 @@ use Rattle.std.specs.List.{list_any}
 use Rattle.std.specs.Option.{option_or}
 use Rattle.bw_lang.specs.declared.stmt.Kind.{Kind}
 use Rattle.bw_lang.specs.declared.stmt.Kind.TheVariants as kinds
-use Rattle.bw_lang.specs.Submissions.{values_of}
+use Rattle.bw_lang.specs.Service.Submissions.{values_of}
 use Rattle.bw_flow.specs.declared.point.Received.{Received}
 use Rattle.bw_run.specs.declared.fields.FieldFault.{FieldFault}
 use Rattle.bw_run.specs.declared.fields.FieldFault.TheVariants.{Lacking, Repeated, TooLong}

@@ -1,5 +1,5 @@
 //! The tests at the end of a turn.
-ghost use Rattle.std.specs.Prelude.{◌≡◌, ◌+◌, IfSome};
+ghost use Rattle.std.specs.Prelude.{◌≡◌, ◌+◌, ◌≤◌, ◌^◌, None, IfSome};
 ghost use Rattle.bw_meaning.specs.Pages as spec;
 ghost use Rattle.bw_meaning.specs.Values.{weights};
 ghost use Rattle.bw_lang.specs.declared.turn.TurnFault.TheVariants.{PageTooLong, SessionHeavy, SharedHeavy};
@@ -42,7 +42,8 @@ fn shared_test(shared: &Values) -> Result<(), TurnFault>
 
 /// What a session carries weighs, unless that is too great for a number of 64 bits.
 fn carried(doc: &Doc, locals: &Values, rests: &Rests) -> Option<u64>
-    ensures { IfSome result (λ w. w ≡ weights (values locals.now) + rests_weight rests.now + (measure doc.now).weight) }
+    ensures some { IfSome result (λ w. w ≡ weights (values locals.now) + rests_weight rests.now + (measure doc.now).weight) }
+    ensures none { result ≡ None → 2 ^ 64 ≤ weights (values locals.now) + rests_weight rests.now + (measure doc.now).weight }
 {
     let values = locals.weight()?.checked_add(rests.weight()?)?;
     values.checked_add(doc.measure().weight)

@@ -1,6 +1,6 @@
 //! What a form lacks.
 ghost use Rattle.std.specs.Prelude.{◌≡◌};
-ghost use Rattle.bw_lang.specs.Submissions.{values_of};
+ghost use Rattle.bw_lang.specs.Service.Submissions.{values_of};
 ghost use Rattle.bw_run.specs.Missing as spec;
 ghost use Rattle.bw_run.specs.Turns.{receives_of};
 

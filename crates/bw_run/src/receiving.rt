@@ -6,7 +6,7 @@ ghost use Rattle.bw_eval.specs.View.{value};
 ghost use Rattle.bw_flow.specs.declared.point.Received.{Received};
 ghost use Rattle.bw_follow.specs.Runs.{plain};
 ghost use Rattle.bw_lang.specs.declared.service.Template.{Template};
-ghost use Rattle.bw_lang.specs.Submissions.{values_of};
+ghost use Rattle.bw_lang.specs.Service.Submissions.{values_of};
 ghost use Rattle.bw_meaning.specs.Forms as forms;
 ghost use Rattle.bw_meaning.specs.Statements as spec;
 ghost use Rattle.bw_run.specs.Code.{state, AreShort, IsSound};

@@ -1,5 +1,5 @@
 //! What is still to come of foreachs.
-ghost use Rattle.std.specs.Prelude.{◌≡◌, ◌++◌, ◌∷◌, ◌-◌, [], IfOk, IfSome, OnOk, OnErr, MatchOption, length, take, slice_get};
+ghost use Rattle.std.specs.Prelude.{◌≡◌, ◌++◌, ◌∷◌, ◌-◌, ◌≤◌, ◌^◌, [], None, IfOk, IfSome, OnOk, OnErr, MatchOption, length, take, slice_get};
 ghost use Rattle.bw_follow.specs.Runs.{rests_weight};
 ghost use Rattle.bw_meaning.specs.Values.{list_weight};
 
@@ -68,7 +68,8 @@ impl Rest {
 
     /// What they weigh, unless that is too great for a number of 64 bits.
     fn weight(&self) -> Option<u64>
-        ensures { IfSome result (λ w. w ≡ list_weight self.now) }
+        ensures some { IfSome result (λ w. w ≡ list_weight self.now) }
+        ensures none { result ≡ None → 2 ^ 64 ≤ list_weight self.now }
     {
         words_weight(self.as_slice())
     }
@@ -136,7 +137,8 @@ impl Rests {
 
     /// What all together weigh, unless that is too great for a number of 64 bits.
     pub fn weight(&self) -> Option<u64>
-        ensures { IfSome result (λ w. w ≡ rests_weight self.now) }
+        ensures some { IfSome result (λ w. w ≡ rests_weight self.now) }
+        ensures none { result ≡ None → 2 ^ 64 ≤ rests_weight self.now }
     {
         let mut total: u64 = 0;
         for rest in &self.list {

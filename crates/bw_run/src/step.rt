@@ -11,7 +11,7 @@ ghost use Rattle.bw_flow.specs.View.{seen, act};
 ghost use Rattle.bw_follow.specs.Runs as spec;
 ghost use Rattle.bw_follow.specs.Runs.{Next};
 ghost use Rattle.bw_lang.specs.declared.service.Template.{Template};
-ghost use Rattle.bw_lang.specs.TermView.{term};
+ghost use Rattle.bw_lang.specs.Service.TermView.{term};
 ghost use Rattle.bw_run.specs.Code.{state, stepped, AreShort, IsSound, StopsWell, CanEvaluate, CanShow, CanDo, Does};
 
 use crate::ending::{exit_test, show_test};

@@ -5,14 +5,14 @@ use Rattle.std.specs.List.{list_all}
 use Rattle.std.proofs.lemmas.Bool.{eqb-true, false≢true, leb-true, le-leb}
 use Rattle.std.proofs.lemmas.List.{nil_from_length}
 use Rattle.bw_lang.proofs.Options.{bind_some, cond_some, if_some}
-use Rattle.bw_lang.specs.Names.{same}
-use Rattle.bw_lang.specs.Options.{◌>>=◌}
+use Rattle.bw_lang.specs.Table.Names.{same}
+use Rattle.bw_lang.specs.Table.Options.{◌>>=◌}
 use Rattle.bw_lang.specs.declared.pieces.NameClass.{NameClass}
 use Rattle.bw_lang.specs.declared.pieces.NameClass.TheVariants as class
 use Rattle.bw_schema.proofs.Complete.{formula_complete}
 use Rattle.bw_schema.proofs.Spelled.{both, both_back, formula_sound, same_is}
 use Rattle.bw_schema.specs.Forms.{are_formed, are_names, depth, is_headed, is_line, is_name, one, spell_line, spell_needs}
-use Rattle.bw_schema.specs.Reading.{formula_at, formula_of, line_of, line_with, lines_of, names_line, names_of, rare_line, root_of, tag_of, text_of, value_line}
+use Rattle.bw_schema.specs.Steps.Reading.{formula_at, formula_of, line_of, line_with, lines_of, names_line, names_of, rare_line, root_of, tag_of, text_of, value_line}
 use Rattle.bw_schema.specs.Words.{has_some}
 use Rattle.bw_schema.specs.declared.lines.Line.{Line}
 use Rattle.bw_schema.specs.declared.lines.Line.TheVariants.{Element, May, Must, Value, Has, Text, Need}

@@ -3,15 +3,15 @@ use Rattle.std.proofs.Common.{◌≡◌, ℕ, ◌+◌, ◌<◌, ◌≤◌, Bool,
 use Rattle.std.specs.Prelude.{flat_map, if◌then◌else◌}
 use Rattle.std.specs.List.{list_any}
 use Rattle.std.proofs.lemmas.List.{take_more, drop_more, append-nil}
-use Rattle.bw_lang.specs.Options.{◌>>=◌}
+use Rattle.bw_lang.specs.Table.Options.{◌>>=◌}
 use Rattle.bw_schema.specs.Forms.{one}
-use Rattle.bw_schema.specs.Judging.{marks_of}
+use Rattle.bw_schema.specs.Steps.Judging.{marks_of}
 use Rattle.bw_schema.specs.MarkView.{mark_of}
 use Rattle.bw_schema.specs.Marks.{Mark, each_line, first_missing, first_repeated, mark, rule_at, same_mark, used_in}
 use Rattle.bw_schema.specs.Needs.{Needs, nothing, all_of, some_of, attr, one_value, content, order, append_needs}
 use Rattle.bw_schema.specs.declared.marks.Kind.TheVariants as kinds
 use Rattle.bw_schema.specs.NeedsView.{before_need, needs}
-use Rattle.bw_schema.specs.Reading.{line_of, lines_of}
+use Rattle.bw_schema.specs.Steps.Reading.{line_of, lines_of}
 use Rattle.bw_schema.specs.RulesOf.{bare, has_of, is_text, may_of, must_of, needs_of, own, rule_with, rules_of, values_of, with_line}
 use Rattle.bw_schema.specs.declared.lines.Line.{Line}
 use Rattle.bw_schema.specs.declared.lines.Line.TheVariants.{Element, May, Must, Value, Has, Text, Need}

@@ -6,14 +6,14 @@ use Rattle.std.specs.Str.Parse.{digits_value}
 use Rattle.std.proofs.lemmas.Bool.{false≢true, le-ltb, ltb-false, lt-ltb, ltb-true}
 use Rattle.std.proofs.lemmas.Str.{is_utf8-from_IsUtf8, IsUtf8-from_is_utf8}
 use Rattle.bw_lang.proofs.Options.{cond_some}
-use Rattle.bw_lang.specs.Names.{same}
+use Rattle.bw_lang.specs.Table.Names.{same}
 use Rattle.bw_schema.proofs.LineLaws.{text_is, text_there, IsBehind}
 use Rattle.bw_schema.proofs.Spelled.{both, same_is}
 use Rattle.bw_schema.specs.Forms.{is_number, is_read, spell_line}
 use Rattle.bw_schema.specs.Laws.{OneSchema, NotBoth, OneReason, ReadOrRefused}
 use Rattle.bw_schema.specs.Marks.{repeated, unknown}
-use Rattle.bw_schema.specs.Reading.{judged, judged_repeated, judged_text, judged_unknown, read, read_said, read_version, text_of, version_of, with_root}
-use Rattle.bw_schema.specs.Reads.{Reads, IsRefused, IsText, HasVersion, IsMalformed, HasOtherVersion, Repeats, Misses, IsShort}
+use Rattle.bw_schema.specs.Steps.Reading.{judged, judged_repeated, judged_text, judged_unknown, read, read_said, read_version, text_of, version_of, with_root}
+use Rattle.bw_schema.specs.Reads.{Reads, IsSchemaRefused, IsText, HasVersion, IsMalformed, HasOtherVersion, Repeats, Misses, IsShort}
 use Rattle.bw_schema.specs.RulesOf.{rules_of}
 use Rattle.bw_schema.specs.Words.{said}
 use Rattle.bw_schema.specs.declared.fault.SchemaFault.{SchemaFault}
@@ -104,7 +104,7 @@ long_there bytes h = ap (λ b. if b then Err fault.TooLong else (if is_utf8 byte
 -- what an answer says of the bytes
 abbrev pub Verdict : List ℕ → Answer → Type 0
 Verdict bytes (Ok t) = Reads bytes t.0 t.1
-Verdict bytes (Err e) = (e ≢ fault.Memory) × IsRefused bytes e
+Verdict bytes (Err e) = (e ≢ fault.Memory) × IsSchemaRefused bytes e
 
 not_memory : SchemaFault → Bool
 not_memory fault.Memory = false
@@ -239,12 +239,12 @@ decide bytes = by_length (nat_lt 1048576 (length bytes)) refl
 pub read_is : (bytes root : List ℕ) (rules : List Rule) → read bytes ≡ Ok (root, rules) → Reads bytes root rules
 read_is bytes root rules h = subst (Verdict bytes) h (decide bytes)
 
-pub refused_is : (bytes : List ℕ) (e : SchemaFault) → read bytes ≡ Err e → IsRefused bytes e
+pub refused_is : (bytes : List ℕ) (e : SchemaFault) → read bytes ≡ Err e → IsSchemaRefused bytes e
 refused_is bytes e h = let v : Verdict bytes (Err e) = subst (Verdict bytes) h (decide bytes) in v.1
 
 -- what a call answers, want of memory aside
-pub says_refused : (bytes : List ℕ) (e : SchemaFault) → (e ≡ fault.Memory) ⊎ (read bytes ≡ Err e) → IsRefused bytes e
-says_refused bytes e (inl m) = subst (IsRefused bytes) (sym m) tt
+pub says_refused : (bytes : List ℕ) (e : SchemaFault) → (e ≡ fault.Memory) ⊎ (read bytes ≡ Err e) → IsSchemaRefused bytes e
+says_refused bytes e (inl m) = subst (IsSchemaRefused bytes) (sym m) tt
 says_refused bytes e (inr h) = refused_is bytes e h
 
 pub not_utf8 : (bytes : List ℕ) → IsShort bytes → (IsUtf8 bytes → ⊥) → read bytes ≡ Err fault.Malformed
@@ -267,7 +267,7 @@ malformed_there bytes m (Err (fault.Unknown n)) v = absurd (m.text v.1.root v.1.
 malformed_there bytes m (Err fault.TooLong) v = absurd (omega (arith, m.short, v.1))
 malformed_there bytes m (Err fault.Memory) v = absurd (v.0 refl)
 
-refused_there : (bytes : List ℕ) (e : SchemaFault) → e ≢ fault.Memory → IsRefused bytes e → read bytes ≡ Err e
+refused_there : (bytes : List ℕ) (e : SchemaFault) → e ≢ fault.Memory → IsSchemaRefused bytes e → read bytes ≡ Err e
 refused_there bytes fault.Malformed n h = malformed_there bytes h (read bytes) (decide bytes)
 refused_there bytes (fault.Version v) n h = other_there bytes v h
 refused_there bytes (fault.Repeated name) n h = repeats_there bytes name h
@@ -288,7 +288,7 @@ not_both bytes r q e h n k = false≢true (sym (ap is_ok (sym (reads_there bytes
 pub one_reason : OneReason
 one_reason bytes d e m n h k = let c : Err d ≡ Err e = sym (refused_there bytes d m h) ∙ refused_there bytes e n k in cc
 
-read_or_refused_of : (bytes : List ℕ) (r : Answer) → Verdict bytes r → ((root : List ℕ) × (rules : List Rule) × Reads bytes root rules) ⊎ ((e : SchemaFault) × (e ≢ fault.Memory) × IsRefused bytes e)
+read_or_refused_of : (bytes : List ℕ) (r : Answer) → Verdict bytes r → ((root : List ℕ) × (rules : List Rule) × Reads bytes root rules) ⊎ ((e : SchemaFault) × (e ≢ fault.Memory) × IsSchemaRefused bytes e)
 read_or_refused_of bytes (Ok t) v = inl (t.0, t.1, v)
 read_or_refused_of bytes (Err e) v = inr (e, v.0, v.1)
 

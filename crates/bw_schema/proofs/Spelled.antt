@@ -7,14 +7,14 @@ use Rattle.std.proofs.Math.Dec.{eqb-suc-zero}
 use Rattle.std.proofs.lemmas.Bool.{false≢true}
 use Rattle.std.proofs.lemmas.List.{take_at, drop_at, take-append-drop, length-append}
 use Rattle.bw_lang.proofs.Options.{bind_some, cond_none, cond_some, if_some}
-use Rattle.bw_lang.specs.Names.{same}
-use Rattle.bw_lang.specs.Options.{◌>>=◌}
+use Rattle.bw_lang.specs.Table.Names.{same}
+use Rattle.bw_lang.specs.Table.Options.{◌>>=◌}
 use Rattle.bw_lang.specs.declared.pieces.NameClass.{NameClass}
 use Rattle.bw_lang.specs.declared.pieces.NameClass.TheVariants as class
 use Rattle.bw_schema.specs.Forms.{are_formed, depth, is_name, is_nothing, is_paren, one, spell_needs}
 use Rattle.bw_schema.specs.Needs.{Needs, nothing, all_of, some_of, attr, one_value, content, order, append_needs}
 use Rattle.bw_schema.specs.NeedsView.{before_need}
-use Rattle.bw_schema.specs.Reading.{attr_at, closed, content_at, count_values, ended, formula_at, formula_of, inside_at, name_at, needs_at, needs_next, opened, order_at, parts_at, simple_at, value_at}
+use Rattle.bw_schema.specs.Steps.Reading.{attr_at, closed, content_at, count_values, ended, formula_at, formula_of, inside_at, name_at, needs_at, needs_next, opened, order_at, parts_at, simple_at, value_at}
 use Rattle.bw_schema.specs.Words.{has_some}
 use Rattle.bw_schema.specs.declared.needs.Formula.{Formula}
 use Rattle.bw_schema.specs.declared.needs.Formula.TheVariants as formula

@@ -4,9 +4,9 @@ use Rattle.std.specs.List.{list_all, list_any}
 use Rattle.bw_lang.specs.declared.items.Attr.{Attr}
 use Rattle.bw_lang.specs.declared.items.AttrValue.{AttrValue}
 use Rattle.bw_lang.specs.declared.items.AttrValue.TheVariants.{Fixed, Hole}
-use Rattle.bw_lang.specs.Forest.{Forest, none, text, gap, element}
-use Rattle.bw_lang.specs.Names.{same}
-use Rattle.bw_lang.specs.Documents.{close, closed_attrs, keep_fixed}
+use Rattle.bw_lang.specs.Document.Forest.{Forest, none, text, gap, element}
+use Rattle.bw_lang.specs.Table.Names.{same}
+use Rattle.bw_lang.specs.Document.Documents.{close, closed_attrs, keep_fixed}
 use Rattle.bw_schema.specs.declared.rules.Rule.{Rule}
 use Rattle.bw_schema.specs.declared.schema.Schema.{Schema}
 use Rattle.bw_schema.specs.Words.{is_among, is_blank}

@@ -2,8 +2,8 @@
 use Rattle.std.specs.Prelude.{ℕ, suc, max, Bool, true, false, not, ◌&&◌, ◌||◌, ◌==◌, nat_le, List, [], ◌∷◌, ◌++◌, length, codes}
 use Rattle.std.specs.Char.{is_ascii_digit}
 use Rattle.std.specs.List.{list_all}
-use Rattle.bw_lang.specs.MarkupNames.{first_of, later_of, begins}
-use Rattle.bw_lang.specs.Names.{same}
+use Rattle.bw_lang.specs.Template.MarkupNames.{first_of, later_of, begins}
+use Rattle.bw_lang.specs.Table.Names.{same}
 use Rattle.bw_lang.specs.declared.pieces.NameClass.{NameClass}
 use Rattle.bw_lang.specs.declared.pieces.NameClass.TheVariants as class
 use Rattle.bw_schema.specs.Needs.{Needs, nothing, all_of, some_of, attr, one_value, content, order}

@@ -81,10 +81,10 @@ pub record Misses (bytes name : List ℕ) : Type 0 where
   pub missing : unknown root lines ≡ Some name
 
 -- why a text isn't read
-abbrev pub IsRefused : List ℕ → SchemaFault → Type 0
-IsRefused bytes fault.Malformed = IsMalformed bytes
-IsRefused bytes (fault.Version version) = HasOtherVersion bytes version
-IsRefused bytes (fault.Repeated name) = Repeats bytes name
-IsRefused bytes (fault.Unknown name) = Misses bytes name
-IsRefused bytes fault.TooLong = 1048576 < length bytes
-IsRefused bytes fault.Memory = Unit {0}
+abbrev pub IsSchemaRefused : List ℕ → SchemaFault → Type 0
+IsSchemaRefused bytes fault.Malformed = IsMalformed bytes
+IsSchemaRefused bytes (fault.Version version) = HasOtherVersion bytes version
+IsSchemaRefused bytes (fault.Repeated name) = Repeats bytes name
+IsSchemaRefused bytes (fault.Unknown name) = Misses bytes name
+IsSchemaRefused bytes fault.TooLong = 1048576 < length bytes
+IsSchemaRefused bytes fault.Memory = Unit {0}

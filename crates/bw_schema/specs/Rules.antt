@@ -1,7 +1,7 @@
 -- What the rule of an element says.
 use Rattle.std.specs.Prelude.{ℕ, Bool, not, ◌||◌, List, [], ◌∷◌, Option, Some, None, if◌then◌else◌}
 use Rattle.std.specs.List.{list_all}
-use Rattle.bw_lang.specs.Names.{same}
+use Rattle.bw_lang.specs.Table.Names.{same}
 use Rattle.bw_schema.specs.declared.rules.Rule.{Rule}
 use Rattle.bw_schema.specs.declared.rules.ValueList.{ValueList}
 use Rattle.bw_schema.specs.Words.{is_among}

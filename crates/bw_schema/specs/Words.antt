@@ -3,8 +3,8 @@ use Rattle.std.specs.Prelude.{ℕ, Bool, false, not, ◌||◌, ◌==◌, List, [
 use Rattle.std.specs.List.{list_any, list_all, slice_split}
 use Rattle.std.specs.Str.{byte}
 use Rattle.std.specs.Str.Lines.{lines}
-use Rattle.bw_lang.specs.Bytes as bytes
-use Rattle.bw_lang.specs.Names.{same}
+use Rattle.bw_lang.specs.Text.Bytes as bytes
+use Rattle.bw_lang.specs.Table.Names.{same}
 
 -- the word is in the list
 abbrev pub is_among : List (List ℕ) → List ℕ → Bool

@@ -2,7 +2,7 @@
 ghost use Rattle.std.specs.Prelude.{◌≡◌, ◌+◌, ◌<◌, ◌++◌, ◌^◌, [], None, length, IfOk, OnOk, MatchResult};
 ghost use Rattle.bw_schema.specs.Forms.{one};
 ghost use Rattle.bw_schema.specs.Marks as spec;
-ghost use Rattle.bw_schema.specs.Judging.{SaysRepeated, SaysUnknown, marks_of, IsOnce, IsSound, IsFaulty};
+ghost use Rattle.bw_schema.specs.Steps.Judging.{SaysRepeated, SaysUnknown, marks_of, IsOnce, IsSound, IsFaulty};
 
 use crate::fault::SchemaFault;
 use crate::lines::Line;

@@ -1,6 +1,6 @@
 //! Formulas are read.
 ghost use Rattle.std.specs.Prelude.{◌≡◌, ◌≤◌, ◌-◌, length, IfOk, take, drop};
-ghost use Rattle.bw_schema.specs.Reading as spec;
+ghost use Rattle.bw_schema.specs.Steps.Reading as spec;
 
 use crate::fault::SchemaFault;
 use crate::names::is_name;
@@ -65,7 +65,7 @@ pub fn copied(alloc: Global, words: &[Text]) -> Result<Words, Memory>
 }
 
 /// The formula, if a closing parenthesis stands at the front, and the words behind it.
-#[tactic(auto, unfolding(crate::specs::Reading::ended))]
+#[tactic(auto, unfolding(crate::specs::Steps::Reading::ended))]
 fn ended(formula: Formula, words: &[Text]) -> Result<(Formula, &[Text]), SchemaFault>
     ensures { spec.Gives (λ x. (x.0, x.1.now)) result (spec.ended formula words.now) }
 {
@@ -76,7 +76,7 @@ fn ended(formula: Formula, words: &[Text]) -> Result<(Formula, &[Text]), SchemaF
 }
 
 /// `A )`, behind `( attr`.
-#[tactic(auto, unfolding(crate::specs::Reading::attr_at))]
+#[tactic(auto, unfolding(crate::specs::Steps::Reading::attr_at))]
 fn attr_at(alloc: Global, words: &[Text]) -> Result<(Formula, &[Text]), SchemaFault>
     ensures { spec.Gives (λ x. (x.0, x.1.now)) result (spec.attr_at words.now) }
 {
@@ -85,7 +85,7 @@ fn attr_at(alloc: Global, words: &[Text]) -> Result<(Formula, &[Text]), SchemaFa
 }
 
 /// `A V .. )`, behind `( value`.
-#[tactic(auto, unfolding(crate::specs::Reading::value_at))]
+#[tactic(auto, unfolding(crate::specs::Steps::Reading::value_at))]
 fn value_at(alloc: Global, words: &[Text]) -> Result<(Formula, &[Text]), SchemaFault>
     ensures { spec.Gives (λ x. (x.0, x.1.now)) result (spec.value_at words.now) }
 {
@@ -99,7 +99,7 @@ fn value_at(alloc: Global, words: &[Text]) -> Result<(Formula, &[Text]), SchemaF
 }
 
 /// `T )`, behind `( content`.
-#[tactic(auto, unfolding(crate::specs::Reading::content_at))]
+#[tactic(auto, unfolding(crate::specs::Steps::Reading::content_at))]
 fn content_at(alloc: Global, words: &[Text]) -> Result<(Formula, &[Text]), SchemaFault>
     ensures { spec.Gives (λ x. (x.0, x.1.now)) result (spec.content_at words.now) }
 {
@@ -108,7 +108,7 @@ fn content_at(alloc: Global, words: &[Text]) -> Result<(Formula, &[Text]), Schem
 }
 
 /// `T U )`, behind `( order`.
-#[tactic(auto, unfolding(crate::specs::Reading::order_at))]
+#[tactic(auto, unfolding(crate::specs::Steps::Reading::order_at))]
 fn order_at(alloc: Global, words: &[Text]) -> Result<(Formula, &[Text]), SchemaFault>
     ensures { spec.Gives (λ x. (x.0, x.1.now)) result (spec.order_at words.now) }
 {
@@ -118,7 +118,7 @@ fn order_at(alloc: Global, words: &[Text]) -> Result<(Formula, &[Text]), SchemaF
 }
 
 /// A formula without parts, behind its parenthesis and its first word.
-#[tactic(auto, unfolding(crate::specs::Reading::simple_at))]
+#[tactic(auto, unfolding(crate::specs::Steps::Reading::simple_at))]
 fn simple_at<'a>(
     alloc: Global,
     head: &str,
@@ -161,7 +161,7 @@ fn needs_at(alloc: Global, depth: usize, words: &[Text]) -> Result<(Formulas, &[
 }
 
 /// The parts of `and` and `or`, one at least, and a closing parenthesis.
-#[tactic(auto, unfolding(crate::specs::Reading::parts_at))]
+#[tactic(auto, unfolding(crate::specs::Steps::Reading::parts_at))]
 #[cycle(formulas)]
 fn parts_at(alloc: Global, depth: usize, words: &[Text]) -> Result<(Formulas, &[Text]), SchemaFault>
     ensures { spec.Gives (λ x. (x.0, x.1.now)) result (spec.parts_at (spec.formula_at depth) words.now) }
@@ -177,7 +177,7 @@ fn parts_at(alloc: Global, depth: usize, words: &[Text]) -> Result<(Formulas, &[
 }
 
 /// The formula behind its parenthesis and its first word.
-#[tactic(auto, unfolding(crate::specs::Reading::inside_at))]
+#[tactic(auto, unfolding(crate::specs::Steps::Reading::inside_at))]
 #[cycle(formulas)]
 fn inside_at<'a>(
     alloc: Global,
@@ -227,7 +227,7 @@ fn formula_at(
 }
 
 /// The formula that all of the words write.
-#[tactic(auto, unfolding(crate::specs::Reading::formula_of))]
+#[tactic(auto, unfolding(crate::specs::Steps::Reading::formula_of))]
 pub fn formula_of(alloc: Global, words: &[Text]) -> Result<Formula, SchemaFault>
     ensures { spec.Gives (λ f. f) result (spec.formula_of words.now) }
 {

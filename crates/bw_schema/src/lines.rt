@@ -1,7 +1,7 @@
 //! The lines of a schema's text are read.
 ghost use Rattle.std.specs.Prelude.{◌≡◌};
 ghost use Rattle.bw_schema.specs.Forms as forms;
-ghost use Rattle.bw_schema.specs.Reading as spec;
+ghost use Rattle.bw_schema.specs.Steps.Reading as spec;
 
 use crate::fault::SchemaFault;
 use crate::formulas::{copied, formula_of};
@@ -63,7 +63,7 @@ fn value_line(alloc: Global, words: &[Text]) -> Result<Line, SchemaFault>
 }
 
 /// A line of names.
-#[tactic(auto, unfolding(crate::specs::Reading::names_line))]
+#[tactic(auto, unfolding(crate::specs::Steps::Reading::names_line))]
 fn names_line(alloc: Global, key: &str, words: &[Text]) -> Result<Line, SchemaFault>
     ensures { spec.Gives (λ line. line) result (spec.names_line key.now words.now) }
 {
@@ -80,7 +80,7 @@ fn names_line(alloc: Global, key: &str, words: &[Text]) -> Result<Line, SchemaFa
 }
 
 /// A line that says that text is allowed, or what is needed.
-#[tactic(auto, unfolding(crate::specs::Reading::rare_line))]
+#[tactic(auto, unfolding(crate::specs::Steps::Reading::rare_line))]
 fn rare_line(alloc: Global, version: u64, key: &str, words: &[Text]) -> Result<Line, SchemaFault>
     ensures { spec.Gives (λ line. line) result (spec.rare_line version key.now words.now) }
 {
@@ -94,7 +94,7 @@ fn rare_line(alloc: Global, version: u64, key: &str, words: &[Text]) -> Result<L
 }
 
 /// The line that begins with this word and has these behind it.
-#[tactic(auto, unfolding(crate::specs::Reading::line_with))]
+#[tactic(auto, unfolding(crate::specs::Steps::Reading::line_with))]
 fn line_with(alloc: Global, version: u64, key: &str, words: &[Text]) -> Result<Line, SchemaFault>
     ensures { spec.Gives (λ line. line) result (spec.line_with version key.now words.now) }
 {

@@ -3,7 +3,7 @@ ghost use Rattle.std.specs.Prelude.{◌≡◌, ◌≤◌, ◌^◌, ◌<◌, leng
 ghost use Rattle.std.specs.Char.{is_ascii_digit};
 ghost use Rattle.std.specs.List.{list_all};
 ghost use Rattle.std.specs.Str.Parse.{digits_value};
-ghost use Rattle.bw_lang.specs.MarkupNames.{first_of, later_of};
+ghost use Rattle.bw_lang.specs.Template.MarkupNames.{first_of, later_of};
 ghost use Rattle.bw_schema.specs.Forms as spec;
 
 use bw_lang::Text;

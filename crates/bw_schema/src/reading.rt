@@ -1,7 +1,7 @@
 //! The text of a schema is read.
 ghost use Rattle.std.specs.Prelude.{◌≡◌, IfOk, IfErr};
-ghost use Rattle.bw_schema.specs.Reading as spec;
-ghost use Rattle.bw_schema.specs.Reads.{Reads, IsRefused};
+ghost use Rattle.bw_schema.specs.Steps.Reading as spec;
+ghost use Rattle.bw_schema.specs.Reads.{Reads, IsSchemaRefused};
 
 use crate::building::rules_of;
 use crate::claims::check;
@@ -55,7 +55,7 @@ fn read_said(alloc: Global, said: &[Words]) -> Result<(Name, Vec<Rule>), SchemaF
 }
 
 /// The root and the rules of a text.
-#[tactic(auto, unfolding(crate::specs::Reading::read))]
+#[tactic(auto, unfolding(crate::specs::Steps::Reading::read))]
 fn read(alloc: Global, bytes: &[u8]) -> Result<(Name, Vec<Rule>), SchemaFault>
     ensures { spec.Answers (λ x. (x.0, x.1.items)) result (spec.read bytes.now) }
 {
@@ -78,7 +78,7 @@ fn read(alloc: Global, bytes: &[u8]) -> Result<(Name, Vec<Rule>), SchemaFault>
 /// want of memory comes at any text. It takes time that grows with the number of the bytes.
 pub fn read_schema(alloc: Global, bytes: &[u8]) -> Result<Schema, SchemaFault>
     ensures ok { IfOk result (λ s. Reads bytes.now s.root s.elements) }
-    ensures refused { IfErr result (λ e. IsRefused bytes.now e) }
+    ensures refused { IfErr result (λ e. IsSchemaRefused bytes.now e) }
 {
     let (root, rules) = read(alloc, bytes)?;
     Ok(Schema {

@@ -1,9 +1,9 @@
-pub mod Lattice
-pub mod System
 pub mod Fault
-pub mod Sets
-pub mod SetLaws
-pub mod Products
-pub mod Tables
-pub mod TableLaws
+pub mod Lattice
 pub mod Laws
+pub mod Products
+pub mod SetLaws
+pub mod Sets
+pub mod System
+pub mod TableLaws
+pub mod Tables

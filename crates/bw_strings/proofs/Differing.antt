@@ -6,14 +6,14 @@ use Rattle.std.specs.List.{list_any}
 use Rattle.std.proofs.lemmas.Bool.{cases_lt, or_parts}
 use Rattle.std.proofs.lemmas.Cmp.{nat_list_eq_equiv}
 use Rattle.std.proofs.lemmas.List.{length-append}
-use Rattle.bw_lang.specs.Names.{same, number, with_name, with_names}
+use Rattle.bw_lang.specs.Table.Names.{same, name_number, with_name, with_names}
 use Rattle.bw_lang.proofs.TableLaws.{numbers_stay}
 use Rattle.bw_strings.specs.Asking.{text_of}
 use Rattle.bw_strings.specs.Laws.{LiteralsDiffer}
 
 -- each name of a table has its place as its number
 abbrev Differ : List (List ℕ) → Type 0
-Differ names = (n : ℕ) → n < length names → number names (text_of names n) ≡ n
+Differ names = (n : ℕ) → n < length names → name_number names (text_of names n) ≡ n
 
 text_before : (names : List (List ℕ)) (w : List ℕ) (n : ℕ) → n < length names → text_of (names ++ w ∷ []) n ≡ text_of names n
 text_before [] w n h = absurd (omega arith)
@@ -24,11 +24,11 @@ text_last : (names : List (List ℕ)) (w : List ℕ) → text_of (names ++ w ∷
 text_last [] w = refl
 text_last (m ∷ names) w = text_last names w
 
-number_last : (names : List (List ℕ)) (w : List ℕ) → list_any (same w) names ≡ false → number (names ++ w ∷ []) w ≡ length names
+number_last : (names : List (List ℕ)) (w : List ℕ) → list_any (same w) names ≡ false → name_number (names ++ w ∷ []) w ≡ length names
 number_last [] w h = ap (λ b. cond (not b) 1 0) (nat_list_eq_equiv.refl w)
 number_last (m ∷ names) w h =
     let p = or_parts (same w m) (list_any (same w) names) h in
-    ap (λ b. cond (not b) (1 + number (names ++ w ∷ []) w) 0) p.0 ∙ ap (λ k. 1 + k) (number_last names w p.1) ∙ omega arith
+    ap (λ b. cond (not b) (1 + name_number (names ++ w ∷ []) w) 0) p.0 ∙ ap (λ k. 1 + k) (number_last names w p.1) ∙ omega arith
 
 differ_more : (names : List (List ℕ)) (w : List ℕ) → Differ names → Differ (with_name names w)
 differ_more names w ih = by_test (list_any (same w) names) refl
@@ -37,12 +37,12 @@ differ_more names w ih = by_test (list_any (same w) names) refl
     by_test true e = ih
     by_test false e = λ n h. elim (cases_lt n (length names)) [
       | inl before ↦
-          ap (number (names ++ w ∷ [])) (text_before names w n before)
+          ap (name_number (names ++ w ∷ [])) (text_before names w n before)
           ∙ numbers_stay names (names ++ w ∷ []) (text_of names n) (record { more = w ∷ []; is = refl }) (let k = ih n before in omega arith)
           ∙ ih n before
       | inr last ↦
           let at : n ≡ length names = omega (arith, length-append names (w ∷ [])) in
-          ap (λ k. number (names ++ w ∷ []) (text_of (names ++ w ∷ []) k)) at ∙ ap (number (names ++ w ∷ [])) (text_last names w)
+          ap (λ k. name_number (names ++ w ∷ []) (text_of (names ++ w ∷ []) k)) at ∙ ap (name_number (names ++ w ∷ [])) (text_last names w)
           ∙ number_last names w e ∙ sym at
     ]
 

@@ -7,7 +7,7 @@ use Rattle.std.proofs.lemmas.Bool.{false≢true, or_cases, and_parts}
 use Rattle.std.proofs.lemmas.Cmp.{nat_cmp_total, ranked}
 use Rattle.std.proofs.lemmas.Slice.Eq.{bytes_eq-Decides}
 use Rattle.std.proofs.Math.Bool.{or-true}
-use Rattle.bw_lang.specs.Names.{same}
+use Rattle.bw_lang.specs.Table.Names.{same}
 use Rattle.bw_solve.specs.SetLaws.{merge_any, within_any}
 use Rattle.bw_strings.specs.declared.strings.StrSet.TheVariants.{Any, Of}
 use Rattle.bw_strings.specs.Asking.{text_of, has_string, is_among, is_blank}

@@ -4,12 +4,12 @@ use Rattle.std.proofs.Common.{map, flat_map}
 use Rattle.std.proofs.lemmas.Grind.{fold-append}
 use Rattle.bw_lang.specs.declared.stmt.Stmt.{Stmt}
 use Rattle.bw_lang.specs.declared.stmt.Stmt.TheVariants.{Declare, Assign, If, While, Block, Each, Show, Exit}
-use Rattle.bw_lang.specs.Code.{Code, done}
-use Rattle.bw_lang.specs.CodeView.{before, code}
-use Rattle.bw_lang.specs.Names.{with_name, with_names}
-use Rattle.bw_lang.specs.TermView.{term, fillings}
+use Rattle.bw_lang.specs.Service.Code.{Code, done}
+use Rattle.bw_lang.specs.Service.CodeView.{before, code}
+use Rattle.bw_lang.specs.Table.Names.{with_name, with_names}
+use Rattle.bw_lang.specs.Service.TermView.{term, fillings}
 use Rattle.bw_solve.proofs.Walk.{left_at}
-use Rattle.bw_lang.specs.Order.{seen}
+use Rattle.bw_lang.specs.Service.Order.{seen}
 use Rattle.bw_strings.specs.Literals.{term_strings, filling_strings, code_strings, declaration_strings}
 
 pub ruleset walk_steps = (fold-append)

@@ -1,8 +1,8 @@
 -- What is asked of sets of strings.
 use Rattle.std.specs.Prelude.{ℕ, ◌<◌, Bool, true, false, List, [], length, slice_get, unwrap_or}
 use Rattle.std.specs.List.{list_any, list_all, AllByRecursion}
-use Rattle.bw_lang.specs.Bytes.{is_blank as is_blank_byte}
-use Rattle.bw_lang.specs.Names.{same}
+use Rattle.bw_lang.specs.Text.Bytes.{is_blank as is_blank_byte}
+use Rattle.bw_lang.specs.Table.Names.{same}
 use Rattle.bw_strings.specs.declared.strings.StrSet.{StrSet}
 use Rattle.bw_strings.specs.declared.strings.StrSet.TheVariants.{Any, Of}
 

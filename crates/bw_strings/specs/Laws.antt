@@ -1,6 +1,6 @@
 -- Laws of sets of strings.
 use Rattle.std.specs.Prelude.{◌≡◌, ◌<◌, ℕ, true, ◌||◌, List, [], length}
-use Rattle.bw_lang.specs.Names.{number, with_names}
+use Rattle.bw_lang.specs.Table.Names.{name_number, with_names}
 use Rattle.bw_strings.specs.declared.strings.StrSet.{StrSet}
 use Rattle.bw_strings.specs.Asking.{text_of, has_string, is_among, is_blank, within, blank}
 use Rattle.bw_strings.specs.Strings.{both, is_below}
@@ -24,4 +24,4 @@ BlankByStrings = (literals : List (List ℕ)) (a : StrSet) → blank literals a 
 
 -- each literal has one number
 abbrev pub LiteralsDiffer : Type 0
-LiteralsDiffer = (strings : List (List ℕ)) (n : ℕ) → n < length (with_names [] strings) → number (with_names [] strings) (text_of (with_names [] strings) n) ≡ n
+LiteralsDiffer = (strings : List (List ℕ)) (n : ℕ) → n < length (with_names [] strings) → name_number (with_names [] strings) (text_of (with_names [] strings) n) ≡ n

@@ -1,5 +1,5 @@
-pub mod Literals
-pub mod Strings
-pub mod StringLaws
 pub mod Asking
 pub mod Laws
+pub mod Literals
+pub mod StringLaws
+pub mod Strings

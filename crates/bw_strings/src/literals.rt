@@ -1,6 +1,6 @@
 //! The string literals of a service, with their numbers.
 ghost use Rattle.std.specs.Prelude.{◌≡◌, ◌<◌, ◌^◌, length, IfOk};
-ghost use Rattle.bw_lang.specs.Names.{number};
+ghost use Rattle.bw_lang.specs.Table.Names.{name_number};
 ghost use Rattle.bw_strings.specs.Asking.{text_of};
 ghost use Rattle.bw_strings.specs.Literals.{literals_of};
 
@@ -50,7 +50,7 @@ impl Literals {
 
     /// The number of a string, or, if it isn't there, the number that it would get: the number of strings.
     pub fn number(&self, text: &str) -> u32
-        ensures { result ≡ number self.now text.now }
+        ensures { result ≡ name_number self.now text.now }
     {
         self.texts.number(text) as u32
     }

@@ -1,10 +1,10 @@
 //! The walk over a service that finds its string literals.
 ghost use Rattle.std.specs.Prelude.{◌≡◌, OnOk, flat_map};
-ghost use Rattle.bw_lang.specs.Code.{done};
-ghost use Rattle.bw_lang.specs.CodeView as code;
-ghost use Rattle.bw_lang.specs.Names.{with_names};
-ghost use Rattle.bw_lang.specs.Order.{declarations_of, seen};
-ghost use Rattle.bw_lang.specs.TermView.{term};
+ghost use Rattle.bw_lang.specs.Service.Code.{done};
+ghost use Rattle.bw_lang.specs.Service.CodeView as code;
+ghost use Rattle.bw_lang.specs.Table.Names.{with_names};
+ghost use Rattle.bw_lang.specs.Service.Order.{declarations_of, seen};
+ghost use Rattle.bw_lang.specs.Service.TermView.{term};
 ghost use Rattle.bw_strings.specs.Literals as spec;
 ghost use Rattle.bw_strings.specs.Literals.{term_strings, filling_strings, code_strings};
 

@@ -5,7 +5,7 @@ use Rattle.std.specs.Ordering.{nat_cmp, is_eq}
 use Rattle.std.proofs.lemmas.Cmp.{nat_cmp_total}
 use Rattle.std.proofs.lemmas.Bool.Decides.{nat_tests}
 use Rattle.std.proofs.Math.Bool.{or-false, and-true, and-false}
-use Rattle.bw_lang.specs.Forest.{Forest}
+use Rattle.bw_lang.specs.Document.Forest.{Forest}
 use Rattle.bw_solve.specs.Sets.{has, merge}
 use Rattle.bw_solve.specs.SetLaws.{merge_has}
 use Rattle.bw_sum.specs.Constants.{tracked, lacked}

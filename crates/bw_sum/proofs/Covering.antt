@@ -5,9 +5,9 @@ use Rattle.std.proofs.lemmas.Bool.{cond-false, eqb-true, eqb-false, eq-eqb}
 use Rattle.bw_lang.specs.declared.items.Attr.{Attr}
 use Rattle.bw_lang.specs.declared.items.AttrValue.{AttrValue}
 use Rattle.bw_lang.specs.declared.items.AttrValue.TheVariants.{Fixed, Hole}
-use Rattle.bw_lang.specs.Documents as doc
-use Rattle.bw_lang.specs.Documents.{append, filled_attr, filled_value, is_hole}
-use Rattle.bw_lang.specs.Forest.{Forest, none, text, gap, element}
+use Rattle.bw_lang.specs.Document.Documents as doc
+use Rattle.bw_lang.specs.Document.Documents.{append, filled_attr, filled_value, is_hole}
+use Rattle.bw_lang.specs.Document.Forest.{Forest, none, text, gap, element}
 use Rattle.bw_lang.proofs.Plugs.{plug-append, plug_text-append}
 use Rattle.bw_sum.specs.Graph.{Graph, constant, plugged, plugged_text, IsBelow}
 use Rattle.bw_sum.specs.Opening.{holes, has_hole, opens}

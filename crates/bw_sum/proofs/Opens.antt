@@ -6,9 +6,9 @@ use Rattle.std.proofs.lemmas.List.Sums.{sum_by-cons}
 use Rattle.bw_lang.specs.declared.items.Attr.{Attr}
 use Rattle.bw_lang.specs.declared.items.AttrValue.{AttrValue}
 use Rattle.bw_lang.specs.declared.items.AttrValue.TheVariants.{Fixed, Hole}
-use Rattle.bw_lang.specs.Documents as doc
-use Rattle.bw_lang.specs.Documents.{append, filled_attr, filled_value, is_hole, count, one_if}
-use Rattle.bw_lang.specs.Forest.{Forest, none, text, gap, element}
+use Rattle.bw_lang.specs.Document.Documents as doc
+use Rattle.bw_lang.specs.Document.Documents.{append, filled_attr, filled_value, is_hole, count, one_if}
+use Rattle.bw_lang.specs.Document.Forest.{Forest, none, text, gap, element}
 use Rattle.bw_sum.specs.Laws.{OpensByCount}
 use Rattle.bw_sum.specs.Opening.{holes, has_hole, opens}
 

@@ -17,23 +17,23 @@ use Rattle.bw_lang.specs.declared.service.Service.{Service}
 use Rattle.bw_lang.specs.declared.service.Template.{Template}
 use Rattle.bw_lang.specs.declared.items.Attr.{Attr}
 use Rattle.bw_lang.specs.declared.items.AttrValue.TheVariants.{Fixed, Hole}
-use Rattle.bw_lang.specs.Documents.{is_hole}
-use Rattle.bw_lang.specs.Forest.{Forest, none, text, gap, element}
-use Rattle.bw_lang.specs.Markup.{is_void}
-use Rattle.bw_lang.specs.Names.{number, with_names, Extends}
-use Rattle.bw_lang.specs.NumberedGaps.{numbered, numbered_value}
-use Rattle.bw_lang.specs.PieceGaps.{value_gaps, attr_gaps, gap_names}
-use Rattle.bw_lang.specs.PieceItems.{ReadsPieces}
-use Rattle.bw_lang.specs.Reads.{IsInside, IsRead, AreRead}
-use Rattle.bw_lang.specs.Sorted.{templates_of}
-use Rattle.bw_lang.specs.Wrappers.{show_wrapper, exit_wrapper, page, form, plain, button, attr}
+use Rattle.bw_lang.specs.Document.Documents.{is_hole}
+use Rattle.bw_lang.specs.Document.Forest.{Forest, none, text, gap, element}
+use Rattle.bw_lang.specs.Template.Markup.{is_void}
+use Rattle.bw_lang.specs.Table.Names.{name_number, with_names, Extends}
+use Rattle.bw_lang.specs.Template.NumberedGaps.{numbered, numbered_value}
+use Rattle.bw_lang.specs.Template.PieceGaps.{value_gaps, attr_gaps, gap_names}
+use Rattle.bw_lang.specs.Template.PieceItems.{ReadsPieces}
+use Rattle.bw_lang.specs.Service.Reads.{IsInside, IsRead, AreRead}
+use Rattle.bw_lang.specs.Service.Sorted.{templates_of}
+use Rattle.bw_lang.specs.Document.Wrappers.{show_wrapper, exit_wrapper, page, form, plain, button, attr}
 use Rattle.bw_lang.proofs.TableLaws.{names_stay, added_are_there}
 use Rattle.bw_sum.specs.Laws.{ReadGapsAreKnown}
 use Rattle.bw_sum.specs.Opening.{holes, opens}
 
 -- the names are in the table
 abbrev Known : List (List ℕ) → List (List ℕ) → Type 0
-Known names ns = AllByRecursion (λ (n : List ℕ). number names n < length names) ns
+Known names ns = AllByRecursion (λ (n : List ℕ). name_number names n < length names) ns
 
 -- the gaps that a test finds open are below this
 abbrev Within : ℕ → (ℕ → Bool) → Type 0
@@ -52,13 +52,13 @@ one_by_one P (x ∷ xs) h = (h 0 x (omega arith), one_by_one P xs (λ k d lt. h 
 
 value_within : (names : List (List ℕ)) (v : RawValue) → Known names (value_gaps v) → Within (length names) (λ g. is_hole g (numbered_value names v))
 value_within names (raw.Fixed s) h g o = absurd (false≢true o)
-value_within names (raw.Hole n) h g o = subst (λ k. k < length names) (eqb-true (number names n) g o) h.0
+value_within names (raw.Hole n) h g o = subst (λ k. k < length names) (eqb-true (name_number names n) g o) h.0
 
 attrs_within : (names : List (List ℕ)) (attrs : List RawAttr) → Known names (attr_gaps attrs)
     → Within (length names) (λ g. holes g (map (numbered names) attrs))
 attrs_within names [] h = λ g o. absurd (false≢true o)
 attrs_within names (a ∷ attrs) h =
-    let r = all_parts (λ (n : List ℕ). number names n < length names) (value_gaps a.value) (attr_gaps attrs) h in
+    let r = all_parts (λ (n : List ℕ). name_number names n < length names) (value_gaps a.value) (attr_gaps attrs) h in
     both_within (length names) (λ g. is_hole g (numbered_value names a.value)) (λ g. holes g (map (numbered names) attrs))
     (value_within names a.value r.0) (attrs_within names attrs r.1)
 
@@ -91,13 +91,13 @@ module _ (names : List (List ℕ)) where
           × Known names (gap_names next))
           → Within (length names) (λ g. holes g attrs || (opens g inner || opens g f)) × Known names (gap_names rest)
       by_alt (inl (e, i)) go into =
-          let k = all_parts (λ (n : List ℕ). number names n < length names) (attr_gaps t.attrs) (gap_names qs) (subst (λ x. Known names (gap_names x)) e h) in
+          let k = all_parts (λ (n : List ℕ). name_number names n < length names) (attr_gaps t.attrs) (gap_names qs) (subst (λ x. Known names (gap_names x)) e h) in
           whole k.0 (subst (λ x. Within (length names) (λ g. opens g x)) (sym i) (λ g o. absurd (false≢true o))) k.1 go
       by_alt (inr (inl (e, v, i))) go into =
-          let k = all_parts (λ (n : List ℕ). number names n < length names) (attr_gaps t.attrs) (gap_names qs) (subst (λ x. Known names (gap_names x)) e h) in
+          let k = all_parts (λ (n : List ℕ). name_number names n < length names) (attr_gaps t.attrs) (gap_names qs) (subst (λ x. Known names (gap_names x)) e h) in
           whole k.0 (subst (λ x. Within (length names) (λ g. opens g x)) (sym i) (λ g o. absurd (false≢true o))) k.1 go
       by_alt (inr (inr (mid, e, v, ri))) go into =
-          let k = all_parts (λ (n : List ℕ). number names n < length names) (attr_gaps t.attrs) (gap_names mid) (subst (λ x. Known names (gap_names x)) e h) in
+          let k = all_parts (λ (n : List ℕ). name_number names n < length names) (attr_gaps t.attrs) (gap_names mid) (subst (λ x. Known names (gap_names x)) e h) in
           let q = into mid (piece.End t.name ∷ qs) ri k.1 in
           whole k.0 q.0 q.1 go
 
@@ -108,7 +108,7 @@ inside_within : (before after : List (List ℕ)) (inside : List ℕ) (items : Fo
 inside_within before after inside items h =
     (items_within after items h.read.pieces [] h.read.reads
     (subst (λ x. Known x (gap_names h.read.pieces)) (sym h.names)
-    (one_by_one (λ (n : List ℕ). number (with_names before (gap_names h.read.pieces)) n < length (with_names before (gap_names h.read.pieces)))
+    (one_by_one (λ (n : List ℕ). name_number (with_names before (gap_names h.read.pieces)) n < length (with_names before (gap_names h.read.pieces)))
     (gap_names h.read.pieces) (added_are_there before (gap_names h.read.pieces))))).0
 
 longer : (old new : List (List ℕ)) → Extends old new → length old ≤ length new

@@ -11,7 +11,7 @@ use Rattle.std.specs.List.{AllByRecursion, AllByRecursion-prop}
 use Rattle.std.specs.Cmp.{IsTotalOrder}
 use Rattle.std.proofs.lemmas.Cmp.{nat_cmp_total}
 use Rattle.bw_solve.specs.Sets.{IsSet, has, merge, sifted}
-use Rattle.bw_lang.specs.Forest.{Forest}
+use Rattle.bw_lang.specs.Document.Forest.{Forest}
 use Rattle.bw_solve.specs.SetLaws.{merge_set, merge_all, IsSet-prop}
 use Rattle.bw_strings.specs.declared.strings.StrSet.{StrSet}
 use Rattle.bw_strings.specs.declared.strings.StrSet.TheVariants.{Any, Of}

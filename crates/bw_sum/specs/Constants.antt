@@ -1,7 +1,7 @@
 -- The summary of a template.
 use Rattle.std.specs.Prelude.{ℕ, zero, suc, ◌+◌, cond, List, [], ◌∷◌}
 use Rattle.std.specs.Ordering.{nat_cmp}
-use Rattle.bw_lang.specs.Forest.{Forest}
+use Rattle.bw_lang.specs.Document.Forest.{Forest}
 use Rattle.bw_solve.specs.Sets.{merge}
 use Rattle.bw_sum.specs.Labels.{pair_cmp}
 use Rattle.bw_sum.specs.Opening.{opens}

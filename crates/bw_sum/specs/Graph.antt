@@ -1,7 +1,7 @@
 -- A summary as a graph, by its members, and what each operation does to them.
 use Rattle.std.specs.Prelude.{◌≡◌, ℕ, Bool, true, false, ◌||◌, ◌&&◌, not, if◌then◌else◌, ◌==◌, List, []}
 use Rattle.std.specs.Ordering.{nat_cmp}
-use Rattle.bw_lang.specs.Forest.{Forest}
+use Rattle.bw_lang.specs.Document.Forest.{Forest}
 use Rattle.bw_solve.specs.Sets.{has}
 use Rattle.bw_solve.specs.Tables.{found}
 use Rattle.bw_strings.specs.declared.strings.StrSet.TheVariants.{Of}

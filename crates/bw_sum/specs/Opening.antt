@@ -2,8 +2,8 @@
 use Rattle.std.specs.Prelude.{ℕ, Bool, false, ◌||◌, ◌==◌, List}
 use Rattle.std.specs.List.{list_any}
 use Rattle.bw_lang.specs.declared.items.Attr.{Attr}
-use Rattle.bw_lang.specs.Documents.{is_hole}
-use Rattle.bw_lang.specs.Forest.{Forest, none, text, gap, element}
+use Rattle.bw_lang.specs.Document.Documents.{is_hole}
+use Rattle.bw_lang.specs.Document.Forest.{Forest, none, text, gap, element}
 
 -- the gap is open in some attribute
 abbrev pub holes : ℕ → List Attr → Bool

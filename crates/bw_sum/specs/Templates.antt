@@ -1,8 +1,8 @@
 -- The templates of a service, and the page wrappers behind them.
 use Rattle.std.specs.Prelude.{◌≡◌, ℕ, ◌+◌, ◌<◌, true, List, [], ◌∷◌, ◌++◌, length, map, slice_get, unwrap_or}
 use Rattle.bw_lang.specs.declared.service.Service.{Service}
-use Rattle.bw_lang.specs.Forest.{Forest, none}
-use Rattle.bw_lang.specs.Wrappers.{show_wrapper, exit_wrapper}
+use Rattle.bw_lang.specs.Document.Forest.{Forest, none}
+use Rattle.bw_lang.specs.Document.Wrappers.{show_wrapper, exit_wrapper}
 use Rattle.bw_sum.specs.Opening.{opens}
 
 -- the items of all templates by their numbers: those of the service, in source order, and the wrappers of a shown and of a last page

@@ -1,8 +1,8 @@
 //! Which gaps of a template are open.
 ghost use Rattle.std.specs.Prelude.{◌≡◌};
-ghost use Rattle.bw_lang.specs.Documents as doc;
-ghost use Rattle.bw_lang.specs.Forest.{none};
-ghost use Rattle.bw_lang.specs.View.{before};
+ghost use Rattle.bw_lang.specs.Document.Documents as doc;
+ghost use Rattle.bw_lang.specs.Document.Forest.{none};
+ghost use Rattle.bw_lang.specs.Document.View.{before};
 ghost use Rattle.bw_sum.specs.Opening.{holes, opens};
 
 use bw_lang::{AttrValue, Attrs, GapId, Item, Items};

@@ -9,26 +9,26 @@ use Rattle.bw_lang.specs.declared.limits.Limit.{Limit}
 use Rattle.bw_lang.specs.declared.pieces.Piece.{Piece}
 use Rattle.bw_lang.specs.declared.service.Service.{Service}
 use Rattle.bw_lang.specs.declared.token.Lexeme.{Lexeme}
-use Rattle.bw_lang.specs.Brackets.{too_deep}
-use Rattle.bw_lang.specs.Drafts.{literal_of}
-use Rattle.bw_lang.specs.Forest.{Forest}
-use Rattle.bw_lang.specs.Limits.{too_many}
-use Rattle.bw_lang.specs.Names.{with_names}
-use Rattle.bw_lang.specs.PieceGaps.{gap_names}
-use Rattle.bw_lang.specs.Pieces.{SpellsPieces}
-use Rattle.bw_lang.specs.Reads.{IsText, IsDraft, IsInside, IsRead, AreRead, Reads, lexemes, service_of}
-use Rattle.bw_lang.specs.Templates.{IsTemplate}
+use Rattle.bw_lang.specs.Text.Brackets.{too_deep}
+use Rattle.bw_lang.specs.Service.Drafts.{literal_of}
+use Rattle.bw_lang.specs.Document.Forest.{Forest}
+use Rattle.bw_lang.specs.Service.Limits.{too_many}
+use Rattle.bw_lang.specs.Table.Names.{with_names}
+use Rattle.bw_lang.specs.Template.PieceGaps.{gap_names}
+use Rattle.bw_lang.specs.Template.Pieces.{SpellsPieces}
+use Rattle.bw_lang.specs.Service.Reads.{IsText, IsDraft, IsInside, IsRead, AreRead, Reads, lexemes, service_of}
+use Rattle.bw_lang.specs.Template.Templates.{IsTemplate}
 use Rattle.bw_lex.proofs.Refusing as tokens
 use Rattle.bw_parse.proofs.Answered as parsed
 use Rattle.bw_tmpl.proofs.Answered as templates
 use Rattle.bw_tmpl.proofs.Spelled.{spelled_once}
 use Rattle.bw_tmpl.specs.declared.fault.TmplFault.{TmplFault}
 use Rattle.bw_tmpl.specs.declared.fault.TmplFault.TheVariants as reasons
-use Rattle.bw_tmpl.specs.Refusals.{IsRefused}
+use Rattle.bw_tmpl.specs.Refusals.{IsTemplateRefused}
 use Rattle.bw_syntax.specs.declared.fault.SyntaxFault.{SyntaxFault}
 use Rattle.bw_syntax.specs.declared.fault.SyntaxFault.TheVariants as faults
 use Rattle.bw_syntax.specs.Laws.{ReadOrRefused}
-use Rattle.bw_syntax.specs.Refusals.{IsUnread, IsFirstUnread, Refuses}
+use Rattle.bw_syntax.specs.Refusals.{IsUnread, IsFirstUnread, IsServiceRefused}
 use Rattle.bw_syntax.proofs.Stages.{first_unread_refuses, draft_refuses}
 
 -- ---- templates
@@ -36,11 +36,11 @@ use Rattle.bw_syntax.proofs.Stages.{first_unread_refuses, draft_refuses}
 abbrev InsideAnswer : List (List ℕ) → List ℕ → Type 0
 InsideAnswer before inside =
     ((items : Forest) × (after : List (List ℕ)) × IsInside before inside items after)
-    ⊎ ((e : TmplFault) × (e ≢ reasons.Memory) × IsRefused 64 inside e)
+    ⊎ ((e : TmplFault) × (e ≢ reasons.Memory) × IsTemplateRefused 64 inside e)
 
 -- the table that the template's pieces give
 by_table : (before : List (List ℕ)) (inside : List ℕ) (ps : List Piece) → SpellsPieces ps inside →
-    ((items : Forest) × IsTemplate (with_names before (gap_names ps)) 64 inside items) ⊎ ((e : TmplFault) × (e ≢ reasons.Memory) × IsRefused 64 inside e) →
+    ((items : Forest) × IsTemplate (with_names before (gap_names ps)) 64 inside items) ⊎ ((e : TmplFault) × (e ≢ reasons.Memory) × IsTemplateRefused 64 inside e) →
     InsideAnswer before inside
 by_table before inside ps s (inl r) =
     let same = spelled_once ps r.1.pieces inside s r.1.spelled in
@@ -82,7 +82,7 @@ all_answered before (d ∷ ds) =
 -- ---- a whole text
 
 abbrev Answer : List ℕ → Type 0
-Answer bytes = ((service : Service) × Reads bytes service) ⊎ ((fault : SyntaxFault) × (fault ≢ faults.Memory) × Refuses bytes fault)
+Answer bytes = ((service : Service) × Reads bytes service) ⊎ ((fault : SyntaxFault) × (fault ≢ faults.Memory) × IsServiceRefused bytes fault)
 
 by_limit : (bytes name : List ℕ) (ds : List Draft) (rs : List Declaration) (gaps : List (List ℕ)) → IsDraft bytes name ds → AreRead [] ds rs gaps →
     (o : Option (Limit × ℕ)) → too_many name gaps rs ≡ o → Answer bytes

@@ -10,16 +10,16 @@ use Rattle.bw_lang.specs.declared.token.Lexeme.TheVariants as lex
 use Rattle.bw_lang.specs.declared.token.Token.{Token}
 use Rattle.bw_lang.specs.declared.token.TokenKind.{TokenKind}
 use Rattle.bw_lang.specs.declared.token.TokenKind.TheVariants as kinds
-use Rattle.bw_lang.specs.Code.{Code, done, declare, assign, if_then, if_else, while_loop, block, for_each, show, exit}
-use Rattle.bw_lang.specs.CodeNames.{local_names}
-use Rattle.bw_lang.specs.Drafts.{spell_draft, spell_drafts, spell_service}
-use Rattle.bw_lang.specs.Lexemes.{lexeme, lexeme_of}
-use Rattle.bw_lang.specs.Reads.{IsText}
-use Rattle.bw_lang.specs.Spelling.{spell_code}
+use Rattle.bw_lang.specs.Service.Code.{Code, done, declare, assign, if_then, if_else, while_loop, block, for_each, show, exit}
+use Rattle.bw_lang.specs.Service.CodeNames.{local_names}
+use Rattle.bw_lang.specs.Service.Drafts.{spell_draft, spell_drafts, spell_service}
+use Rattle.bw_lang.specs.Text.Lexemes.{lexeme, lexeme_of}
+use Rattle.bw_lang.specs.Service.Reads.{IsText}
+use Rattle.bw_lang.specs.Text.Spelling.{spell_code}
 use Rattle.bw_parse.proofs.CodeSteps.{code_longer}
 use Rattle.bw_parse.proofs.Drafts.{draft_longer}
 use Rattle.bw_parse.proofs.Shorter.{longer}
-use Rattle.bw_syntax.specs.Stages.{IsBounded, AreBounded}
+use Rattle.bw_syntax.specs.Steps.Stages.{IsBounded, AreBounded}
 use Rattle.bw_syntax.proofs.Rests.{Fits, AllFit, draft_rest}
 
 -- ---- templates

@@ -4,13 +4,13 @@ use Rattle.bw_lang.specs.declared.declaration.Declaration.{Declaration}
 use Rattle.bw_lang.specs.declared.declaration.Draft.{Draft}
 use Rattle.bw_lang.specs.declared.declaration.Draft.TheVariants as drafts
 use Rattle.bw_lang.specs.declared.pieces.Piece.{Piece}
-use Rattle.bw_lang.specs.Drafts.{IsFormed, AreFormed}
-use Rattle.bw_lang.specs.Forest.{Forest}
-use Rattle.bw_lang.specs.Names.{with_names}
-use Rattle.bw_lang.specs.PieceGaps.{gap_names}
-use Rattle.bw_lang.specs.Pieces.{SpellsPieces}
-use Rattle.bw_lang.specs.Reads.{IsInside, IsRead, AreRead}
-use Rattle.bw_lang.specs.Templates.{IsTemplate}
+use Rattle.bw_lang.specs.Service.Drafts.{IsFormed, AreFormed}
+use Rattle.bw_lang.specs.Document.Forest.{Forest}
+use Rattle.bw_lang.specs.Table.Names.{with_names}
+use Rattle.bw_lang.specs.Template.PieceGaps.{gap_names}
+use Rattle.bw_lang.specs.Template.Pieces.{SpellsPieces}
+use Rattle.bw_lang.specs.Service.Reads.{IsInside, IsRead, AreRead}
+use Rattle.bw_lang.specs.Template.Templates.{IsTemplate}
 use Rattle.bw_syntax.specs.declared.fault.SyntaxFault.{SyntaxFault}
 use Rattle.bw_syntax.specs.declared.fault.SyntaxFault.TheVariants as faults
 use Rattle.bw_syntax.specs.Refusals.{IsUnread, IsFirstUnread}

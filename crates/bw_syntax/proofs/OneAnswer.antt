@@ -6,26 +6,26 @@ use Rattle.bw_lang.specs.declared.declaration.Draft.{Draft}
 use Rattle.bw_lang.specs.declared.declaration.Draft.TheVariants as drafts
 use Rattle.bw_lang.specs.declared.limits.Limit.{Limit}
 use Rattle.bw_lang.specs.declared.token.Lexeme.{Lexeme}
-use Rattle.bw_lang.specs.Brackets.{too_deep}
-use Rattle.bw_lang.specs.Forest.{Forest}
-use Rattle.bw_lang.specs.Lexemes.{lexeme}
-use Rattle.bw_lang.specs.Limits.{too_many}
-use Rattle.bw_lang.specs.Names.{with_names}
-use Rattle.bw_lang.specs.PieceGaps.{gap_names}
-use Rattle.bw_lang.specs.Reads.{IsText, IsDraft, IsInside, IsRead, AreRead, service_of}
-use Rattle.bw_lang.specs.Templates.{IsTemplate}
-use Rattle.bw_lex.specs.Refusals.{IsRefused as IsUntokened}
+use Rattle.bw_lang.specs.Text.Brackets.{too_deep}
+use Rattle.bw_lang.specs.Document.Forest.{Forest}
+use Rattle.bw_lang.specs.Text.Lexemes.{lexeme}
+use Rattle.bw_lang.specs.Service.Limits.{too_many}
+use Rattle.bw_lang.specs.Table.Names.{with_names}
+use Rattle.bw_lang.specs.Template.PieceGaps.{gap_names}
+use Rattle.bw_lang.specs.Service.Reads.{IsText, IsDraft, IsInside, IsRead, AreRead, service_of}
+use Rattle.bw_lang.specs.Template.Templates.{IsTemplate}
+use Rattle.bw_lex.specs.Refusals.{IsTextRefused as IsUntokened}
 use Rattle.bw_lex.specs.declared.LexFault.{LexFault}
 use Rattle.bw_lex.proofs.Cutting.{cut_once, read_exactly}
 use Rattle.bw_lex.proofs.Refusing.{refused_exactly}
 use Rattle.bw_parse.proofs.Drafts.{service_gives}
-use Rattle.bw_parse.specs.Services.{parse_service}
+use Rattle.bw_parse.specs.Steps.Services.{parse_service}
 use Rattle.bw_tmpl.proofs.Deciding.{one_template, not_both, one_reason}
 use Rattle.bw_tmpl.proofs.Spelled.{spelled_once}
 use Rattle.bw_syntax.specs.declared.fault.SyntaxFault.{SyntaxFault}
 use Rattle.bw_syntax.specs.declared.fault.SyntaxFault.TheVariants as faults
 use Rattle.bw_syntax.specs.Laws.{ReadsOnce, NotBoth, OneReason}
-use Rattle.bw_syntax.specs.Refusals.{IsUnread, IsFirstUnread, IsDeep, IsNoService, IsUnreadDraft, IsGreat, Refuses}
+use Rattle.bw_syntax.specs.Refusals.{IsUnread, IsFirstUnread, IsDeep, IsNoService, IsUnreadDraft, IsGreat, IsServiceRefused}
 
 some_is : {A : Type 0} (x y : A) (o : Option A) → o ≡ Some x → o ≡ Some y → x ≡ y
 some_is x y o p q = cc
@@ -167,17 +167,17 @@ IsLate (faults.Lex fault) = ⊥
 IsLate faults.Memory = ⊥
 IsLate fault = Unit {0}
 
-late_text : (bytes : List ℕ) (fault : SyntaxFault) → IsLate fault → Refuses bytes fault → (ls : List Lexeme) × IsText bytes ls
+late_text : (bytes : List ℕ) (fault : SyntaxFault) → IsLate fault → IsServiceRefused bytes fault → (ls : List Lexeme) × IsText bytes ls
 late_text bytes (faults.TooMany limit n) l (inl d) = (d.lexemes, d.text)
 late_text bytes (faults.TooMany limit n) l (inr g) = (g.drafted.lexemes, g.drafted.text)
 late_text bytes (faults.Syntax at) l p = (p.lexemes, p.text)
 late_text bytes (faults.Template name fault) l p = (p.drafted.lexemes, p.drafted.text)
 late_text bytes fault l p = absurd l
 
-not_late_long : (bytes : List ℕ) (fault : SyntaxFault) → IsLate fault → Refuses bytes fault → 1048576 < length bytes → ⊥
+not_late_long : (bytes : List ℕ) (fault : SyntaxFault) → IsLate fault → IsServiceRefused bytes fault → 1048576 < length bytes → ⊥
 not_late_long bytes fault l p h = omega (arith, (late_text bytes fault l p).1.short)
 
-not_late_lex : (bytes : List ℕ) (fault : SyntaxFault) (f : LexFault) → IsLate fault → Refuses bytes fault → Refuses bytes (faults.Lex f) → ⊥
+not_late_lex : (bytes : List ℕ) (fault : SyntaxFault) (f : LexFault) → IsLate fault → IsServiceRefused bytes fault → IsServiceRefused bytes (faults.Lex f) → ⊥
 not_late_lex bytes fault f l p q = let t = late_text bytes fault l p in no_tokens bytes t.0 f t.1 q.1
 
 deep_not_draft : (bytes name : List ℕ) (ds : List Draft) (limit : Limit) (n : ℕ) → IsDeep bytes limit n → IsDraft bytes name ds → ⊥

@@ -8,10 +8,10 @@ use Rattle.bw_lang.specs.declared.declaration.Written.TheVariants as written
 use Rattle.bw_lang.specs.declared.stmt.Receive.{Receive}
 use Rattle.bw_lang.specs.declared.token.Lexeme.{Lexeme}
 use Rattle.bw_lang.specs.declared.token.Lexeme.TheVariants as lex
-use Rattle.bw_lang.specs.Code.{Code, done, declare, assign, if_then, if_else, while_loop, block, for_each, show, exit}
-use Rattle.bw_lang.specs.Drafts.{spell_literal, spell_draft}
-use Rattle.bw_lang.specs.Spelling.{spell, spell_pairs, spell_each, spell_receives, spell_test, spell_code}
-use Rattle.bw_lang.specs.Term.{Term, int, truth, string, name, paren, not, neg, binary, call, plug, nothing, Fillings, no_more, filling}
+use Rattle.bw_lang.specs.Service.Code.{Code, done, declare, assign, if_then, if_else, while_loop, block, for_each, show, exit}
+use Rattle.bw_lang.specs.Service.Drafts.{spell_literal, spell_draft}
+use Rattle.bw_lang.specs.Text.Spelling.{spell, spell_pairs, spell_each, spell_receives, spell_test, spell_code}
+use Rattle.bw_lang.specs.Service.Term.{Term, int, truth, string, name, paren, not, neg, binary, call, plug, nothing, Fillings, no_more, filling}
 
 -- a template's inside has at most so many bytes
 abbrev pub Fits : ℕ → Lexeme → Type 0

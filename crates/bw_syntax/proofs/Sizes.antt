@@ -8,12 +8,12 @@ use Rattle.bw_lang.specs.declared.declaration.Draft.{Draft}
 use Rattle.bw_lang.specs.declared.declaration.Draft.TheVariants as drafts
 use Rattle.bw_lang.specs.declared.service.Session.{Session}
 use Rattle.bw_lang.specs.declared.service.Template.{Template}
-use Rattle.bw_lang.specs.CodeNames.{local_names}
-use Rattle.bw_lang.specs.Sorted.{templates_of, sessions_of}
-use Rattle.bw_lang.specs.Measures.{constant_weight}
-use Rattle.bw_lang.specs.Reads.{AreRead}
+use Rattle.bw_lang.specs.Service.CodeNames.{local_names}
+use Rattle.bw_lang.specs.Service.Sorted.{templates_of, sessions_of}
+use Rattle.bw_lang.specs.Document.Measures.{constant_weight}
+use Rattle.bw_lang.specs.Service.Reads.{AreRead}
 use Rattle.bw_tmpl.proofs.Weights.{items_bounded}
-use Rattle.bw_syntax.specs.Stages.{AreBounded}
+use Rattle.bw_syntax.specs.Steps.Stages.{AreBounded}
 
 abbrev pub IsLight : Template → Type 0
 IsLight t = constant_weight t.items < 2 ^ 64

@@ -5,11 +5,11 @@ use Rattle.bw_lang.specs.declared.declaration.Draft.{Draft}
 use Rattle.bw_lang.specs.declared.declaration.Draft.TheVariants as drafts
 use Rattle.bw_lang.specs.declared.service.Service.{Service}
 use Rattle.bw_lang.specs.declared.token.Lexeme.{Lexeme}
-use Rattle.bw_lang.specs.Reads.{Reads, IsText, IsDraft}
+use Rattle.bw_lang.specs.Service.Reads.{Reads, IsText, IsDraft}
 use Rattle.bw_syntax.specs.declared.fault.SyntaxFault.{SyntaxFault}
 use Rattle.bw_syntax.specs.declared.fault.SyntaxFault.TheVariants as faults
-use Rattle.bw_syntax.specs.Refusals.{IsUnread, IsFirstUnread, Refuses, IsSameFault, IsSameAnswer}
-use Rattle.bw_syntax.specs.Stages.{IsUntold, IsUnparsed, IsParsed, IsRefusedDraft, IsServiceOf}
+use Rattle.bw_syntax.specs.Refusals.{IsUnread, IsFirstUnread, IsServiceRefused, IsSameFault, IsSameAnswer}
+use Rattle.bw_syntax.specs.Steps.Stages.{IsUntold, IsUnparsed, IsParsed, IsRefusedDraft, IsServiceOf}
 use Rattle.bw_syntax.proofs.OneAnswer.{reads_once, read_or_refused, one_reason_each}
 
 -- ---- the answers of the steps
@@ -36,13 +36,13 @@ first_unread_refuses name ds (faults.Template n f) u = u
 first_unread_refuses name ds faults.Memory u = tt
 first_unread_refuses name ds fault u = absurd (of_templates [] ds fault u)
 
-pub untold_refuses : (bytes : List ℕ) (fault : SyntaxFault) → IsUntold bytes fault → Refuses bytes fault
+pub untold_refuses : (bytes : List ℕ) (fault : SyntaxFault) → IsUntold bytes fault → IsServiceRefused bytes fault
 untold_refuses bytes faults.TooLong u = u
 untold_refuses bytes (faults.Lex f) u = u
 untold_refuses bytes faults.Memory u = tt
 untold_refuses bytes fault u = absurd u
 
-pub unparsed_refuses : (bytes : List ℕ) (ls : List Lexeme) (fault : SyntaxFault) → IsText bytes ls → IsUnparsed ls (length bytes) fault → Refuses bytes fault
+pub unparsed_refuses : (bytes : List ℕ) (ls : List Lexeme) (fault : SyntaxFault) → IsText bytes ls → IsUnparsed ls (length bytes) fault → IsServiceRefused bytes fault
 unparsed_refuses bytes ls (faults.TooMany limit n) t u = inl (record { lexemes = ls; text = t; passed = u })
 unparsed_refuses bytes ls (faults.Syntax at) t u = record { lexemes = ls; text = t; shallow = u.0; nothing = u.1; place = u.2 }
 unparsed_refuses bytes ls faults.Memory t u = tt
@@ -51,7 +51,7 @@ unparsed_refuses bytes ls fault t u = absurd u
 pub drafted : (bytes : List ℕ) (ls : List Lexeme) (name : List ℕ) (ds : List Draft) → IsText bytes ls → IsParsed ls name ds → IsDraft bytes name ds
 drafted bytes ls name ds t p = record { lexemes = ls; text = t; shallow = p.shallow; named = p.named; formed = p.formed; spelled = p.spelled }
 
-pub draft_refuses : (bytes name : List ℕ) (ds : List Draft) (fault : SyntaxFault) → IsDraft bytes name ds → IsRefusedDraft name ds fault → Refuses bytes fault
+pub draft_refuses : (bytes name : List ℕ) (ds : List Draft) (fault : SyntaxFault) → IsDraft bytes name ds → IsRefusedDraft name ds fault → IsServiceRefused bytes fault
 draft_refuses bytes name ds (faults.Template n f) d u = record { name = name; drafts = ds; drafted = d; unread = u }
 draft_refuses bytes name ds (faults.TooMany limit n) d u =
     inr (record { name = name; drafts = ds; drafted = d; declarations = u.0; gaps = u.1; read = u.2; passed = u.3 })
@@ -68,13 +68,13 @@ finish_reads (Ok s) bytes name ds d h = draft_reads bytes name ds s d h
 finish_reads (Err e) bytes name ds d h = tt
 
 pub finish_refuses : (answer : Result Service SyntaxFault) (bytes name : List ℕ) (ds : List Draft) → IsDraft bytes name ds
-    → IfErr answer (IsRefusedDraft name ds) → IfErr answer (Refuses bytes)
+    → IfErr answer (IsRefusedDraft name ds) → IfErr answer (IsServiceRefused bytes)
 finish_refuses (Ok s) bytes name ds d h = tt
 finish_refuses (Err e) bytes name ds d h = draft_refuses bytes name ds e d h
 
 -- ---- the answer is the only one
 
-pub only_read : (answer : Result Service SyntaxFault) (bytes : List ℕ) → IfOk answer (Reads bytes) → IfErr answer (Refuses bytes)
+pub only_read : (answer : Result Service SyntaxFault) (bytes : List ℕ) → IfOk answer (Reads bytes) → IfErr answer (IsServiceRefused bytes)
     → (service : Service) → Reads bytes service → (answer ≡ Err faults.Memory) ⊎ (answer ≡ Ok service)
 only_read (Ok s) bytes r n service q = inr (ap Ok (reads_once bytes s service r q))
 only_read (Err e) bytes r n service q = inl (ap Err (read_or_refused bytes service e q n))
@@ -101,8 +101,8 @@ memory_or (faults.TooMany l n) = inr (λ e. cc)
 memory_or (faults.Syntax at) = inr (λ e. cc)
 memory_or (faults.Template n f) = inr (λ e. cc)
 
-pub only_refused : (answer : Result Service SyntaxFault) (bytes : List ℕ) → IfOk answer (Reads bytes) → IfErr answer (Refuses bytes)
-    → (fault : SyntaxFault) → Refuses bytes fault → IsSameAnswer answer fault
+pub only_refused : (answer : Result Service SyntaxFault) (bytes : List ℕ) → IfOk answer (Reads bytes) → IfErr answer (IsServiceRefused bytes)
+    → (fault : SyntaxFault) → IsServiceRefused bytes fault → IsSameAnswer answer fault
 only_refused (Ok s) bytes r n fault q = read_or_refused bytes s fault r q
 only_refused (Err e) bytes r n fault q =
     same_answer e fault (elim (memory_or e) [

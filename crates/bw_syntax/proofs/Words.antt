@@ -6,8 +6,8 @@ use Rattle.std.specs.Str.{IsUtf8, IsAscii}
 use Rattle.std.proofs.lemmas.Bool.Decides.{nat_tests}
 use Rattle.std.proofs.lemmas.Str.{IsUtf8-from_ascii}
 use Rattle.std.proofs.lemmas.Str.Ascii.{IsAscii-nil, IsAscii-cons}
-use Rattle.bw_lang.specs.Bytes.{is_letter, is_word_byte}
-use Rattle.bw_lang.specs.TokenForms.{IsWord}
+use Rattle.bw_lang.specs.Text.Bytes.{is_letter, is_word_byte}
+use Rattle.bw_lang.specs.Text.TokenForms.{IsWord}
 
 letter_below : (b : ℕ) → IsTrue (is_letter b) → b < 128
 letter_below b h = grind (arith, nat_tests)

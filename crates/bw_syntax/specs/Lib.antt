@@ -1,3 +1,3 @@
 pub mod Laws
 pub mod Refusals
-pub mod Stages
+pub mod Steps

@@ -5,20 +5,20 @@ use Rattle.bw_lang.specs.declared.declaration.Draft.{Draft}
 use Rattle.bw_lang.specs.declared.declaration.Draft.TheVariants as drafts
 use Rattle.bw_lang.specs.declared.limits.Limit.{Limit}
 use Rattle.bw_lang.specs.declared.token.Lexeme.{Lexeme}
-use Rattle.bw_lang.specs.Brackets.{too_deep}
-use Rattle.bw_lang.specs.Drafts.{AreFormed, spell_service}
-use Rattle.bw_lang.specs.Limits.{too_many}
-use Rattle.bw_lang.specs.Reads.{IsText, IsDraft, IsRead, AreRead}
-use Rattle.bw_lang.specs.Words.{IsName}
-use Rattle.bw_lex.specs.Refusals.{IsRefused as IsUntokened}
-use Rattle.bw_tmpl.specs.Refusals.{IsRefused}
+use Rattle.bw_lang.specs.Text.Brackets.{too_deep}
+use Rattle.bw_lang.specs.Service.Drafts.{AreFormed, spell_service}
+use Rattle.bw_lang.specs.Service.Limits.{too_many}
+use Rattle.bw_lang.specs.Service.Reads.{IsText, IsDraft, IsRead, AreRead}
+use Rattle.bw_lang.specs.Text.Words.{IsName}
+use Rattle.bw_lex.specs.Refusals.{IsTextRefused as IsUntokened}
+use Rattle.bw_tmpl.specs.Refusals.{IsTemplateRefused}
 use Rattle.bw_tmpl.specs.declared.fault.TmplFault.TheVariants as templates
 use Rattle.bw_syntax.specs.declared.fault.SyntaxFault.{SyntaxFault}
 use Rattle.bw_syntax.specs.declared.fault.SyntaxFault.TheVariants as faults
 
 -- the declaration is a template that is refused so; or there was no memory
 abbrev pub IsUnread : Draft → SyntaxFault → Type 0
-IsUnread (drafts.Template name inside) (faults.Template n fault) = (n ≡ name) × IsRefused 64 inside fault × (fault ≢ templates.Memory)
+IsUnread (drafts.Template name inside) (faults.Template n fault) = (n ≡ name) × IsTemplateRefused 64 inside fault × (fault ≢ templates.Memory)
 IsUnread draft faults.Memory = ⊤
 IsUnread draft fault = ⊥
 
@@ -65,13 +65,13 @@ pub record IsGreat (bytes : List ℕ) (limit : Limit) (n : ℕ) : Type 0 where
 
 -- The bytes read as no service, for this reason. Each reason rules out those in front of it, and want of memory may come
 -- anywhere.
-abbrev pub Refuses : List ℕ → SyntaxFault → Type 0
-Refuses bytes faults.TooLong = 1048576 < length bytes
-Refuses bytes (faults.Lex fault) = (length bytes ≤ 1048576) × IsUntokened bytes fault
-Refuses bytes (faults.TooMany limit n) = IsDeep bytes limit n ⊎ IsGreat bytes limit n
-Refuses bytes (faults.Syntax at) = IsNoService bytes at
-Refuses bytes (faults.Template name fault) = IsUnreadDraft bytes (faults.Template name fault)
-Refuses bytes faults.Memory = ⊤
+abbrev pub IsServiceRefused : List ℕ → SyntaxFault → Type 0
+IsServiceRefused bytes faults.TooLong = 1048576 < length bytes
+IsServiceRefused bytes (faults.Lex fault) = (length bytes ≤ 1048576) × IsUntokened bytes fault
+IsServiceRefused bytes (faults.TooMany limit n) = IsDeep bytes limit n ⊎ IsGreat bytes limit n
+IsServiceRefused bytes (faults.Syntax at) = IsNoService bytes at
+IsServiceRefused bytes (faults.Template name fault) = IsUnreadDraft bytes (faults.Template name fault)
+IsServiceRefused bytes faults.Memory = ⊤
 
 -- the same reason; the place of a fault of syntax is left open
 abbrev pub IsSameFault : SyntaxFault → SyntaxFault → Type 0

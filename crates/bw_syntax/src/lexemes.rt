@@ -1,9 +1,9 @@
 //! What the tokens of a text say.
 ghost use Rattle.std.specs.Prelude.{◌≡◌, All, IfOk};
-ghost use Rattle.bw_lang.specs.Cuts.{IsWithin};
-ghost use Rattle.bw_lang.specs.Lexemes.{lexeme};
-ghost use Rattle.bw_lang.specs.Reads.{lexemes};
-ghost use Rattle.bw_lang.specs.TokenForms.{IsWord};
+ghost use Rattle.bw_lang.specs.Text.Cuts.{StandsIn};
+ghost use Rattle.bw_lang.specs.Text.Lexemes.{lexeme};
+ghost use Rattle.bw_lang.specs.Service.Reads.{lexemes};
+ghost use Rattle.bw_lang.specs.Text.TokenForms.{IsWord};
 
 use bw_lang::{Bytes, Lexeme, Memory, Name, Token, TokenKind};
 use std::alloc::Global;
@@ -11,7 +11,7 @@ use std::str;
 
 /// What a token says.
 fn lexeme_of(alloc: Global, bytes: &[u8], token: &Token) -> Result<Lexeme, Memory>
-    requires { IsWithin bytes.now token.now }
+    requires { StandsIn bytes.now token.now }
     ensures { IfOk result (λ l. l ≡ lexeme bytes.now token.now) }
 {
     let own = &bytes[token.start..token.end];
@@ -40,7 +40,7 @@ fn word_of(bytes: &[u8]) -> &str
 
 /// What the tokens of a text say.
 pub fn lexemes_of(alloc: Global, bytes: &[u8], tokens: &[Token]) -> Result<Vec<Lexeme>, Memory>
-    requires { All (IsWithin bytes.now) tokens.now }
+    requires { All (StandsIn bytes.now) tokens.now }
     ensures { IfOk result (λ ls. ls.items ≡ lexemes bytes.now tokens.now) }
 {
     let mut list = Vec::new(alloc);

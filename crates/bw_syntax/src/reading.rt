@@ -1,12 +1,12 @@
 //! From the bytes of a file to a service.
 ghost use Rattle.std.specs.Prelude.{◌≡◌, ◌≤◌, ◌⊎◌, Ok, Err, None, IfOk, IfErr, length};
-ghost use Rattle.bw_lang.specs.Brackets.{too_deep};
+ghost use Rattle.bw_lang.specs.Text.Brackets.{too_deep};
 ghost use Rattle.bw_lang.specs.declared.service.Service.{Service as Service_};
-ghost use Rattle.bw_lang.specs.Drafts.{AreFormed};
-ghost use Rattle.bw_lang.specs.Reads.{Reads, IsText};
+ghost use Rattle.bw_lang.specs.Service.Drafts.{AreFormed};
+ghost use Rattle.bw_lang.specs.Service.Reads.{Reads, IsText};
 ghost use Rattle.bw_syntax.specs.declared.fault.SyntaxFault.{SyntaxFault as Fault_};
-ghost use Rattle.bw_syntax.specs.Refusals.{Refuses, IsSameAnswer};
-ghost use Rattle.bw_syntax.specs.Stages.{IsUntold, IsUnparsed, IsParsed, IsRefusedDraft, IsServiceOf, AreBounded};
+ghost use Rattle.bw_syntax.specs.Refusals.{IsServiceRefused, IsSameAnswer};
+ghost use Rattle.bw_syntax.specs.Steps.Stages.{IsUntold, IsUnparsed, IsParsed, IsRefusedDraft, IsServiceOf, AreBounded};
 
 use crate::fault::SyntaxFault;
 use crate::lexemes::lexemes_of;
@@ -101,7 +101,7 @@ fn finish(alloc: Global, draft: ServiceDraft) -> Result<Service, SyntaxFault>
 
 fn read(alloc: Global, bytes: &[u8]) -> Result<Service, SyntaxFault>
     ensures read { IfOk result (Reads bytes.now) }
-    ensures refused { IfErr result (Refuses bytes.now) }
+    ensures refused { IfErr result (IsServiceRefused bytes.now) }
 {
     let told = match tell(alloc, bytes) {
         Ok(told) => told,
@@ -122,8 +122,8 @@ fn read(alloc: Global, bytes: &[u8]) -> Result<Service, SyntaxFault>
 pub fn read_service(alloc: Global, bytes: &[u8]) -> Result<Service, SyntaxFault>
     ensures read { IfOk result (Reads bytes.now) }
     ensures only { (service : Service_) → Reads bytes.now service → (result ≡ Err Fault_.Memory) ⊎ (result ≡ Ok service) }
-    ensures refused { IfErr result (Refuses bytes.now) }
-    ensures only_refused { (fault : Fault_) → Refuses bytes.now fault → IsSameAnswer result fault }
+    ensures refused { IfErr result (IsServiceRefused bytes.now) }
+    ensures only_refused { (fault : Fault_) → IsServiceRefused bytes.now fault → IsSameAnswer result fault }
 {
     read(alloc, bytes)
 }

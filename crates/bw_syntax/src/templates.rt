@@ -1,7 +1,7 @@
 //! The templates of a service are read.
 ghost use Rattle.std.specs.Prelude.{◌≡◌, [], IfOk, IfErr};
-ghost use Rattle.bw_lang.specs.Drafts.{IsFormed, AreFormed};
-ghost use Rattle.bw_lang.specs.Reads.{IsRead, AreRead};
+ghost use Rattle.bw_lang.specs.Service.Drafts.{IsFormed, AreFormed};
+ghost use Rattle.bw_lang.specs.Service.Reads.{IsRead, AreRead};
 ghost use Rattle.bw_syntax.specs.Refusals.{IsUnread, IsFirstUnread};
 
 use crate::fault::SyntaxFault;

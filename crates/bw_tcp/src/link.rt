@@ -1,6 +1,9 @@
 //! One link to a client.
 ghost use Rattle.std.specs.Prelude.{◌≡◌, ◌≤◌, ◌<◌, IfOk, length};
 ghost use Rattle.std.specs.Io.{ReadsAtMost};
+ghost use Rattle.std.specs.Io.KnownBytes.{ReadConsumes, WriteAppends};
+ghost use Rattle.bw_out.specs.Causes.{HasCause};
+ghost use Rattle.bw_tcp.specs.Ends.{end_of};
 
 use crate::clock::time_left;
 use bw_out::{Channel, Failed, Reading, Sink, Source};
@@ -24,6 +27,16 @@ const DROPPED_SECONDS: u64 = 1;
 
 /// How many of them are read at once.
 const DROPPED_AT_ONCE: usize = 4096;
+
+/// How a link ended.
+#[derive(Clone, Copy, Debug, PartialEq, Eq)]
+pub enum End {
+    /// It was closed at once, since a read or a write had failed.
+    Closed,
+
+    /// It was told that nothing more comes, and what the client still sent was dropped.
+    Finished,
+}
 
 /// A link to a client over TCP.
 ///
@@ -60,6 +73,7 @@ impl<R: Net + Clock + Copy> TcpLink<R> {
     /// Reads, within the time that is left.
     fn read_in_time(&mut self, buf: &mut [u8]) -> Result<usize, Failed>
         ensures bound { ReadsAtMost result buf.new }
+        ensures stream { ReadConsumes (R.Stream.remaining self.old.reading.inner) (R.Stream.remaining self.new.reading.inner) result buf.new }
         ensures reads { self.new.read_faults ≡ self.old.read_faults }
         ensures writes { self.new.write_faults ≡ self.old.write_faults }
     {
@@ -77,6 +91,7 @@ impl<R: Net + Clock + Copy> TcpLink<R> {
     fn write_in_time(&mut self, bytes: &[u8]) -> Result<usize, Failed>
         ensures bound { IfOk result (λ n. n ≤ length bytes.now) }
         ensures some { 0 < length bytes.now → IfOk result (λ n. 0 < n) }
+        ensures stream { WriteAppends (R.Stream.contents self.old.reading.inner) (R.Stream.contents self.new.reading.inner) result bytes.now }
         ensures reads { self.new.read_faults ≡ self.old.read_faults }
         ensures writes { self.new.write_faults ≡ self.old.write_faults }
     {
@@ -88,10 +103,14 @@ impl<R: Net + Clock + Copy> TcpLink<R> {
     }
 
     /// Ends the link. Where a read or a write failed it is closed at once, since its client has had its time.
-    pub(crate) fn end(mut self) {
-        if self.read_faults == 0 && self.write_faults == 0 {
-            self.finish();
+    pub(crate) fn end(mut self) -> End
+        ensures { result ≡ end_of self.read_faults self.write_faults }
+    {
+        if self.read_faults > 0 || self.write_faults > 0 {
+            return End::Closed;
         }
+        self.finish();
+        End::Finished
     }
 
     /// Says that nothing more is written, and drops what the client still sends, at most 65,536 bytes and for one second.
@@ -135,6 +154,7 @@ impl<R: Net + Clock + Copy> TcpLink<R> {
 fn write_retrying<W: Write>(stream: &mut W, bytes: &[u8]) -> Result<usize, Failed>
     ensures bound { IfOk result (λ n. n ≤ length bytes.now) }
     ensures some { 0 < length bytes.now → IfOk result (λ n. 0 < n) }
+    ensures stream { WriteAppends (W.contents stream.old) (W.contents stream.new) result bytes.now }
 {
     for _turn in 0..TRIES {
         match stream.write(bytes) {
@@ -157,7 +177,14 @@ impl<R: Net + Clock + Copy> Source for TcpLink<R> {
 
     ghost same_trans = { λ a b c p q. tt };
 
-    fn read(&mut self, buf: &mut [u8]) -> Result<usize, Failed> {
+    fn read(&mut self, buf: &mut [u8]) -> Result<usize, Failed>
+        ensures bound { ReadsAtMost result buf.new }
+        ensures cause { HasCause self.old.read_faults self.new.read_faults result }
+        ensures write_faults { self.new.write_faults ≡ self.old.write_faults }
+
+        // The bytes are the stream's, where it is known what it gives, and a failed read took none of them.
+        ensures stream { ReadConsumes (R.Stream.remaining self.old.reading.inner) (R.Stream.remaining self.new.reading.inner) result buf.new }
+    {
         match self.read_in_time(buf) {
             Ok(count) => Ok(count),
             Err(Failed) => {
@@ -173,7 +200,15 @@ impl<R: Net + Clock + Copy> Sink for TcpLink<R> {
 
     ghost same_trans = { λ a b c p q. tt };
 
-    fn write(&mut self, bytes: &[u8]) -> Result<usize, Failed> {
+    fn write(&mut self, bytes: &[u8]) -> Result<usize, Failed>
+        ensures bound { IfOk result (λ n. n ≤ length bytes.now) }
+        ensures some { 0 < length bytes.now → IfOk result (λ n. 0 < n) }
+        ensures cause { HasCause self.old.write_faults self.new.write_faults result }
+        ensures read_faults { self.new.read_faults ≡ self.old.read_faults }
+
+        // The bytes went to the stream, where it is known what it holds, and a failed write left it as it was.
+        ensures stream { WriteAppends (R.Stream.contents self.old.reading.inner) (R.Stream.contents self.new.reading.inner) result bytes.now }
+    {
         match self.write_in_time(bytes) {
             Ok(count) => Ok(count),
             Err(Failed) => {

@@ -1,17 +1,17 @@
 -- Bytes are a template, or there is a reason why not.
 use Rattle.std.proofs.Common.{◌≡◌, ◌≢◌, ℕ, Bool, true, false, ◌⊎◌, inl, inr, List, [], ◌∷◌, Option, Some, None, refl, arith}
 use Rattle.std.proofs.lemmas.Bool.{cases_lt}
-use Rattle.bw_lang.specs.Forest.{Forest}
+use Rattle.bw_lang.specs.Document.Forest.{Forest}
 use Rattle.bw_lang.specs.declared.pieces.Piece.{Piece}
-use Rattle.bw_lang.specs.PieceGaps.{gap_names}
-use Rattle.bw_lang.specs.Pieces.{SpellsPieces}
-use Rattle.bw_lang.specs.RepeatedAttributes.{repeats}
-use Rattle.bw_lang.specs.Templates.{ReadsBy, SpellsClosed}
+use Rattle.bw_lang.specs.Template.PieceGaps.{gap_names}
+use Rattle.bw_lang.specs.Template.Pieces.{SpellsPieces}
+use Rattle.bw_lang.specs.Template.RepeatedAttributes.{repeats}
+use Rattle.bw_lang.specs.Template.Templates.{ReadsBy, SpellsClosed}
 use Rattle.bw_tmpl.specs.declared.fault.TmplFault.{TmplFault}
 use Rattle.bw_tmpl.specs.declared.fault.TmplFault.TheVariants as fault
 use Rattle.bw_tmpl.specs.Laws.{ReadOrRefused, ClosedReadOrRefused}
 use Rattle.bw_tmpl.specs.Nesting.{depth}
-use Rattle.bw_tmpl.specs.Reading.{pieces_of}
+use Rattle.bw_tmpl.specs.Steps.Reading.{pieces_of}
 use Rattle.bw_tmpl.specs.Refusals.{RefusedBy}
 use Rattle.bw_tmpl.proofs.Depths.{depth_reads}
 use Rattle.bw_tmpl.proofs.Refusals.{unread, refused, has_gap}

@@ -6,17 +6,17 @@ use Rattle.std.proofs.lemmas.Str.{IsUtf8-append}
 use Rattle.bw_lang.specs.declared.items.Attr.{Attr}
 use Rattle.bw_lang.specs.declared.items.AttrValue.{AttrValue}
 use Rattle.bw_lang.specs.declared.items.AttrValue.TheVariants as value
-use Rattle.bw_lang.specs.Forest.{Forest, none, text, gap, element}
-use Rattle.bw_lang.specs.Markup.{is_void}
-use Rattle.bw_lang.specs.Print.{print, text_before, joined}
+use Rattle.bw_lang.specs.Document.Forest.{Forest, none, text, gap, element}
+use Rattle.bw_lang.specs.Template.Markup.{is_void}
+use Rattle.bw_lang.specs.Document.Print.{print, text_before, joined}
 use Rattle.bw_lang.specs.declared.pieces.Piece.{Piece}
 use Rattle.bw_lang.specs.declared.pieces.Piece.TheVariants as piece
-use Rattle.bw_lang.specs.Measures.{nest}
-use Rattle.bw_lang.specs.PieceItems.{ReadsPieces}
-use Rattle.bw_lang.specs.RepeatedAttributes.{repeated, attr_names, piece_repeats, repeats}
-use Rattle.bw_lang.specs.Pieces.{Each, IsPiece, is_text, begins_with_text, Apart, SpellsPieces}
+use Rattle.bw_lang.specs.Document.Measures.{nest}
+use Rattle.bw_lang.specs.Template.PieceItems.{ReadsPieces}
+use Rattle.bw_lang.specs.Template.RepeatedAttributes.{repeated, attr_names, piece_repeats, repeats}
+use Rattle.bw_lang.specs.Template.Pieces.{Each, IsPiece, is_text, begins_with_text, Apart, SpellsPieces}
 use Rattle.bw_tmpl.specs.Markup.{IsValueOf, AreAttrs, IsClosedMarkup}
-use Rattle.bw_lang.specs.PieceGaps.{value_gaps, attr_gaps, gap_names}
+use Rattle.bw_lang.specs.Template.PieceGaps.{value_gaps, attr_gaps, gap_names}
 use Rattle.bw_tmpl.specs.Laws.{ReadsBack}
 use Rattle.bw_tmpl.proofs.GapLaws.{gap_names_append}
 use Rattle.bw_lang.proofs.PrintLaws.{joined_alike}

@@ -7,9 +7,9 @@ use Rattle.std.proofs.lemmas.Bool.Decides.{nat_tests}
 use Rattle.bw_lang.specs.declared.items.Attr.{Attr}
 use Rattle.bw_lang.specs.declared.items.AttrValue.{AttrValue}
 use Rattle.bw_lang.specs.declared.items.AttrValue.TheVariants as value
-use Rattle.bw_lang.specs.Forest.{Forest, none, text, gap, element}
-use Rattle.bw_lang.specs.Markup.{escaped_byte, escaped, is_void}
-use Rattle.bw_lang.specs.Print.{printed_attr, printed_attrs, printed_start, printed_end, print}
+use Rattle.bw_lang.specs.Document.Forest.{Forest, none, text, gap, element}
+use Rattle.bw_lang.specs.Template.Markup.{escaped_byte, escaped, is_void}
+use Rattle.bw_lang.specs.Document.Print.{printed_attr, printed_attrs, printed_start, printed_end, print}
 use Rattle.bw_lang.specs.declared.pieces.Tag.{Tag}
 use Rattle.bw_lang.specs.declared.pieces.Piece.{Piece}
 use Rattle.bw_lang.specs.declared.pieces.Piece.TheVariants as piece
@@ -17,10 +17,10 @@ use Rattle.bw_lang.specs.declared.pieces.RawAttr.{RawAttr}
 use Rattle.bw_lang.specs.declared.pieces.RawValue.{RawValue}
 use Rattle.bw_lang.specs.declared.pieces.RawValue.TheVariants as raw
 use Rattle.bw_lang.specs.declared.pieces.NameClass.TheVariants as class
-use Rattle.bw_lang.specs.NumberedGaps.{numbered, numbered_value}
-use Rattle.bw_lang.specs.PieceItems.{ReadsPieces}
-use Rattle.bw_lang.specs.RepeatedAttributes.{attr_names}
-use Rattle.bw_lang.specs.Pieces.{IsName, IsChar, Each, IsAttr, IsTag, IsPiece}
+use Rattle.bw_lang.specs.Template.NumberedGaps.{numbered, numbered_value}
+use Rattle.bw_lang.specs.Template.PieceItems.{ReadsPieces}
+use Rattle.bw_lang.specs.Template.RepeatedAttributes.{attr_names}
+use Rattle.bw_lang.specs.Template.Pieces.{IsNameOf, IsChar, Each, IsAttr, IsTag, IsPiece}
 use Rattle.bw_tmpl.specs.Markup.{IsValueOf, AreAttrs, names_of, IsClosedMarkup}
 use Rattle.bw_tmpl.proofs.Inverse.{reads-append}
 
@@ -72,7 +72,7 @@ pub raw_names : (attrs : List Attr) → attr_names (map raw_attr attrs) ≡ name
 raw_names [] = refl
 raw_names (a ∷ attrs) = ap (λ (l : List (List ℕ)). a.name ∷ l) (raw_names attrs)
 
-attr_printed : (a : Attr) (rest : List ℕ) → IsName class.Attr a.name → IsValueOf ⊥ a.value → IsAttr (raw_attr a) (printed_attr a.name a.value ++ rest) rest
+attr_printed : (a : Attr) (rest : List ℕ) → IsNameOf class.Attr a.name → IsValueOf ⊥ a.value → IsAttr (raw_attr a) (printed_attr a.name a.value ++ rest) rest
 attr_printed a rest n f = by_value a.value f
   where
     by_value : (v : AttrValue) → IsValueOf ⊥ v → IsAttr (record { name = a.name; value = raw_value v }) (printed_attr a.name v ++ rest) rest
@@ -101,7 +101,7 @@ attrs_printed (a ∷ attrs) rest h = (
 abbrev pub tag_of : List ℕ → List Attr → Tag
 tag_of tag attrs = record { name = tag; attrs = map raw_attr attrs }
 
-tag_printed : (tag : List ℕ) (attrs : List Attr) (rest : List ℕ) → IsName class.Tag tag → AreAttrs ⊥ attrs
+tag_printed : (tag : List ℕ) (attrs : List Attr) (rest : List ℕ) → IsNameOf class.Tag tag → AreAttrs ⊥ attrs
     → IsTag (tag_of tag attrs) (tag ++ (printed_attrs attrs ++ rest)) rest
 tag_printed tag attrs rest n h =
     record {
@@ -158,10 +158,10 @@ Tidy (element tag attrs inner f) = Tidy inner × Tidy f
 abbrev Prints : Forest → Type 0
 Prints f = (rest : List ℕ) → Each IsPiece (written f) (print f ++ rest) rest
 
-end_printed : (tag : List ℕ) (rest : List ℕ) → IsName class.Tag tag → IsPiece (piece.End tag) (printed_end tag ++ rest) rest
+end_printed : (tag : List ℕ) (rest : List ℕ) → IsNameOf class.Tag tag → IsPiece (piece.End tag) (printed_end tag ++ rest) rest
 end_printed tag rest n = (n, [], refl, ap (λ (l : List ℕ). codes "</" ++ l) (append_assoc tag (codes ">") rest))
 
-element_printed : (tag : List ℕ) (attrs : List Attr) (inner f : Forest) (v : Bool) → IsName class.Tag tag → AreAttrs ⊥ attrs
+element_printed : (tag : List ℕ) (attrs : List Attr) (inner f : Forest) (v : Bool) → IsNameOf class.Tag tag → AreAttrs ⊥ attrs
     → (v ≡ true → inner ≡ none) → Prints inner → Prints f
     → (rest : List ℕ)
     → Each IsPiece (element_pieces v (tag_of tag attrs) (written inner) (written f))

@@ -3,8 +3,8 @@ use Rattle.std.proofs.Common.{◌≡◌, ◌≢◌, ℕ, ◌<◌, Bool, true, fa
 use Rattle.std.specs.Prelude.{if◌then◌else◌, ◌||◌, ◌==◌, codes, nat_eq}
 use Rattle.std.proofs.lemmas.Bool.Decides.{nat_tests}
 use Rattle.std.proofs.lemmas.List.{length-append}
-use Rattle.bw_tmpl.specs.Reading.{stripped, as_char, ref_at, char_at, each}
-use Rattle.bw_lang.specs.Pieces.{IsRef, IsChar}
+use Rattle.bw_tmpl.specs.Steps.Reading.{stripped, as_char, ref_at, char_at, each}
+use Rattle.bw_lang.specs.Template.Pieces.{IsRef, IsChar}
 use Rattle.bw_lang.proofs.Options.{where_cases, cond_none, some_is}
 use Rattle.bw_tmpl.proofs.Many.{stripped_is, Shrinks, onto, onto_more, onto_none}
 

@@ -1,14 +1,14 @@
 -- What reading answers is determined.
 use Rattle.std.proofs.Common.{◌≡◌, ℕ, true, false, List, [], refl, sym, ap, subst, ◌∙◌, arith}
-use Rattle.bw_lang.specs.Forest.{Forest}
+use Rattle.bw_lang.specs.Document.Forest.{Forest}
 use Rattle.bw_lang.specs.declared.pieces.Piece.{Piece}
 use Rattle.bw_tmpl.specs.declared.fault.TmplFault.{TmplFault}
 use Rattle.bw_tmpl.specs.declared.fault.TmplFault.TheVariants as fault
-use Rattle.bw_lang.specs.Measures.{nest}
-use Rattle.bw_lang.specs.PieceItems.{ReadsAs}
-use Rattle.bw_lang.specs.RepeatedAttributes.{repeats}
-use Rattle.bw_lang.specs.Pieces.{SpellsPieces}
-use Rattle.bw_lang.specs.Templates.{ReadsBy, SpellsClosed}
+use Rattle.bw_lang.specs.Document.Measures.{nest}
+use Rattle.bw_lang.specs.Template.PieceItems.{ReadsAs}
+use Rattle.bw_lang.specs.Template.RepeatedAttributes.{repeats}
+use Rattle.bw_lang.specs.Template.Pieces.{SpellsPieces}
+use Rattle.bw_lang.specs.Template.Templates.{ReadsBy, SpellsClosed}
 use Rattle.bw_tmpl.specs.Refusals.{RefusedBy}
 use Rattle.bw_tmpl.specs.Laws.{OneTemplate, NotBoth, OneReason, OneClosedTemplate, NotBothClosed, OneClosedReason}
 use Rattle.bw_lang.proofs.Options.{some_is}

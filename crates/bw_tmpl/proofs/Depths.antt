@@ -3,24 +3,24 @@ use Rattle.std.proofs.Common.{◌≡◌, ℕ, suc, ◌+◌, ◌≤◌, max, Bool
 use Rattle.std.proofs.Common.{ap, ◌∙◌, arith}
 use Rattle.std.specs.Prelude.{if◌then◌else◌, is_some}
 use Rattle.bw_lang.specs.declared.items.Attr.{Attr}
-use Rattle.bw_lang.specs.Forest.{Forest, none, text, gap, element}
-use Rattle.bw_lang.specs.Documents.{append}
-use Rattle.bw_lang.specs.Markup.{is_void}
+use Rattle.bw_lang.specs.Document.Forest.{Forest, none, text, gap, element}
+use Rattle.bw_lang.specs.Document.Documents.{append}
+use Rattle.bw_lang.specs.Template.Markup.{is_void}
 use Rattle.bw_lang.specs.declared.pieces.Tag.{Tag}
 use Rattle.bw_lang.specs.declared.pieces.Piece.{Piece}
 use Rattle.bw_lang.specs.declared.pieces.Piece.TheVariants as piece
 use Rattle.bw_lang.proofs.Options.{some_is}
 use Rattle.bw_tmpl.specs.declared.building.OpenElement.{OpenElement}
 use Rattle.bw_tmpl.specs.declared.nesting.OpenTags.{OpenTags}
-use Rattle.bw_lang.specs.Names.{same, number}
-use Rattle.bw_lang.specs.NumberedGaps.{numbered}
+use Rattle.bw_lang.specs.Table.Names.{same, name_number}
+use Rattle.bw_lang.specs.Template.NumberedGaps.{numbered}
 use Rattle.bw_tmpl.specs.Building.{empty_element, element_begun, draft_after_all, finished, built}
 use Rattle.bw_tmpl.specs.Nesting.{tags_after_all, deepest_if_closed, depth}
-use Rattle.bw_lang.specs.Measures.{nest}
-use Rattle.bw_lang.specs.PieceItems.{ReadsPieces, ReadsAs}
+use Rattle.bw_lang.specs.Document.Measures.{nest}
+use Rattle.bw_lang.specs.Template.PieceItems.{ReadsPieces, ReadsAs}
 use Rattle.bw_tmpl.proofs.Inverse.{same-refl, built_reads}
 
-abbrev at : List (List ℕ) → ℕ → Option OpenTags
+abbrev pub at : List (List ℕ) → ℕ → Option OpenTags
 at names deepest = Some (record { names = names; deepest = deepest })
 
 deepest_is : (names : List (List ℕ)) (m n : ℕ) (ps : List Piece) → m ≡ n → tags_after_all (at names m) ps ≡ tags_after_all (at names n) ps
@@ -71,7 +71,7 @@ reads_depth table ps f h = ap deepest_if_closed (reads_tags table f [] 0 ps [] (
 
 -- ---- where there is a depth there are items
 
-abbrev tags : List OpenElement → List (List ℕ)
+abbrev pub tags : List OpenElement → List (List ℕ)
 tags [] = []
 tags (l ∷ parents) = l.tag ∷ tags parents
 
@@ -106,7 +106,7 @@ alike : (table : List (List ℕ)) (ps : List Piece) → Alike table ps
 alike table [] items [] m = refl
 alike table [] items (l ∷ parents) m = refl
 alike table (piece.Text s ∷ ps) items parents m = alike table ps (append items (text s none)) parents m
-alike table (piece.Gap n ∷ ps) items parents m = alike table ps (append items (gap (number table n) none)) parents m
+alike table (piece.Gap n ∷ ps) items parents m = alike table ps (append items (gap (name_number table n) none)) parents m
 alike table (piece.Whole t ∷ ps) items parents m = alike table ps (append items (empty_element table t)) parents (max m (suc (length (tags parents))))
 alike table (piece.Start t ∷ ps) items parents m = started_alike table ps t items parents m (is_void t.name) (alike table ps)
 alike table (piece.End n ∷ ps) items [] m = stuck table ps

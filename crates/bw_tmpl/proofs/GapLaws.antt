@@ -6,10 +6,10 @@ use Rattle.std.specs.List.{All}
 use Rattle.std.proofs.lemmas.Bool.Decides.{nat_tests}
 use Rattle.std.proofs.lemmas.List.Sums.{fold-append, sum_by-cons, sum_by-append}
 use Rattle.bw_lang.specs.declared.items.Attr.{Attr}
-use Rattle.bw_lang.specs.Forest.{Forest, none, text, gap, element}
-use Rattle.bw_lang.specs.Documents.{is_hole, one_if, count}
-use Rattle.bw_lang.specs.Markup.{is_void}
-use Rattle.bw_lang.specs.Names.{number, with_name, with_names}
+use Rattle.bw_lang.specs.Document.Forest.{Forest, none, text, gap, element}
+use Rattle.bw_lang.specs.Document.Documents.{is_hole, one_if, count}
+use Rattle.bw_lang.specs.Template.Markup.{is_void}
+use Rattle.bw_lang.specs.Table.Names.{name_number, with_name, with_names}
 use Rattle.bw_lang.proofs.TableLaws.{extends_refl, extends_trans, extends_with_name, added_are_there}
 use Rattle.bw_lang.specs.declared.pieces.Tag.{Tag}
 use Rattle.bw_lang.specs.declared.pieces.Piece.{Piece}
@@ -17,9 +17,9 @@ use Rattle.bw_lang.specs.declared.pieces.Piece.TheVariants as piece
 use Rattle.bw_lang.specs.declared.pieces.RawAttr.{RawAttr}
 use Rattle.bw_lang.specs.declared.pieces.RawValue.{RawValue}
 use Rattle.bw_lang.specs.declared.pieces.RawValue.TheVariants as raw
-use Rattle.bw_lang.specs.PieceGaps.{value_gaps, attr_gaps, piece_gaps, gap_names}
-use Rattle.bw_lang.specs.NumberedGaps.{numbered, numbered_value}
-use Rattle.bw_lang.specs.PieceItems.{ReadsPieces, ReadsAs}
+use Rattle.bw_lang.specs.Template.PieceGaps.{value_gaps, attr_gaps, piece_gaps, gap_names}
+use Rattle.bw_lang.specs.Template.NumberedGaps.{numbered, numbered_value}
+use Rattle.bw_lang.specs.Template.PieceItems.{ReadsPieces, ReadsAs}
 
 pub gap_names_append : (ps qs : List Piece) → gap_names (ps ++ qs) ≡ gap_names ps ++ gap_names qs
 gap_names_append [] qs = refl
@@ -36,13 +36,13 @@ pub ruleset taking_in = (with_more, extends_refl, extends_trans, extends_with_na
 
 -- how many of the names have the number g
 abbrev numbers : List (List ℕ) → ℕ → List (List ℕ) → ℕ
-numbers names g ns = count_by (λ n. number names n == g) ns
+numbers names g ns = count_by (λ n. name_number names n == g) ns
 
-numbers_cons : (names : List (List ℕ)) (g : ℕ) (n : List ℕ) (ns : List (List ℕ)) → numbers names g (n ∷ ns) ≡ one_if (number names n == g) + numbers names g ns
-numbers_cons names g n ns = sum_by-cons (λ (m : List ℕ). cond (number names m == g) 1 0) n ns
+numbers_cons : (names : List (List ℕ)) (g : ℕ) (n : List ℕ) (ns : List (List ℕ)) → numbers names g (n ∷ ns) ≡ one_if (name_number names n == g) + numbers names g ns
+numbers_cons names g n ns = sum_by-cons (λ (m : List ℕ). cond (name_number names m == g) 1 0) n ns
 
 numbers_append : (names : List (List ℕ)) (g : ℕ) (a b : List (List ℕ)) → numbers names g (a ++ b) ≡ numbers names g a + numbers names g b
-numbers_append names g a b = sum_by-append (λ (m : List ℕ). cond (number names m == g) 1 0) a b
+numbers_append names g a b = sum_by-append (λ (m : List ℕ). cond (name_number names m == g) 1 0) a b
 
 value_counted : (names : List (List ℕ)) (g : ℕ) (v : RawValue) (rest : List (List ℕ))
     → one_if (is_hole g (numbered_value names v)) + numbers names g rest ≡ numbers names g (value_gaps v ++ rest)
@@ -89,26 +89,26 @@ reads_counted names g none ps rest h = let p = ap (λ (l : List Piece). numbers 
 reads_counted names g (text s f) ps rest h = ap (λ (l : List Piece). numbers names g (gap_names l)) h.1 ∙ reads_counted names g f h.0 rest h.2
 reads_counted names g (gap k f) ps rest h =
     let p : numbers names g (gap_names ps) ≡ numbers names g (h.1.0 ∷ gap_names h.0) = ap (λ (l : List Piece). numbers names g (gap_names l)) h.1.1 in
-    let q : one_if (k == g) ≡ one_if (number names h.1.0 == g) = ap (λ (i : ℕ). one_if (i == g)) h.1.2 in
+    let q : one_if (k == g) ≡ one_if (name_number names h.1.0 == g) = ap (λ (i : ℕ). one_if (i == g)) h.1.2 in
     omega (arith, p, q, numbers_cons names g h.1.0 (gap_names h.0), reads_counted names g f h.0 rest h.2)
 reads_counted names g (element tag attrs inner f) ps rest h =
     omega (arith, element_counted names g attrs inner ps h.0 h.1.0 (reads_counted names g inner) h.1.2 h.1.3, reads_counted names g f h.0 rest h.2)
 
 -- ---- no gap is open that the table doesn't have
 
-none_beyond : (names : List (List ℕ)) (g : ℕ) (ns : List (List ℕ)) → length names ≤ g → All (λ n. number names n < length names) ns → numbers names g ns ≡ 0
+none_beyond : (names : List (List ℕ)) (g : ℕ) (ns : List (List ℕ)) → length names ≤ g → All (λ n. name_number names n < length names) ns → numbers names g ns ≡ 0
 none_beyond names g [] le all = refl
 none_beyond names g (n ∷ ns) le all =
-    let first : number names n < length names = all 0 [] (omega arith) in
-    let other : (number names n == g) ≡ false = grind (arith, nat_tests) in
+    let first : name_number names n < length names = all 0 [] (omega arith) in
+    let other : (name_number names n == g) ≡ false = grind (arith, nat_tests) in
     let rest : numbers names g ns ≡ 0 = none_beyond names g ns le (λ (k : ℕ) (d : List ℕ) (h : k < length ns). all (suc k) d (omega arith)) in
     omega (arith, numbers_cons names g n ns, ap one_if other, rest)
 
 pub none_unknown : (old names : List (List ℕ)) (ps : List Piece) (f : Forest) → names ≡ with_names old (gap_names ps) → ReadsAs names ps f → (g : ℕ)
     → length names ≤ g → count g f ≡ 0
 none_unknown old names ps f e r g le =
-    let all : All (λ n. number names n < length names) (gap_names ps) =
-    subst (λ (t : List (List ℕ)). All (λ n. number t n < length t) (gap_names ps)) (sym e) (added_are_there old (gap_names ps)) in
+    let all : All (λ n. name_number names n < length names) (gap_names ps) =
+    subst (λ (t : List (List ℕ)). All (λ n. name_number t n < length t) (gap_names ps)) (sym e) (added_are_there old (gap_names ps)) in
     omega (arith, reads_counted names g f ps [] r, none_beyond names g (gap_names ps) le all)
 
 pub none_open : (names : List (List ℕ)) (ps : List Piece) (f : Forest) → gap_names ps ≡ [] → ReadsAs names ps f → (g : ℕ) → count g f ≡ 0

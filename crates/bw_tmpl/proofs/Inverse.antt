@@ -4,19 +4,19 @@ use Rattle.std.specs.Prelude.{if◌then◌else◌}
 use Rattle.std.specs.Cmp.Lexicographic.{same_text}
 use Rattle.std.proofs.lemmas.Cmp.{nat_list_eq_equiv}
 use Rattle.bw_lang.specs.declared.items.Attr.{Attr}
-use Rattle.bw_lang.specs.Forest.{Forest, none, text, gap, element}
-use Rattle.bw_lang.specs.Documents.{append}
+use Rattle.bw_lang.specs.Document.Forest.{Forest, none, text, gap, element}
+use Rattle.bw_lang.specs.Document.Documents.{append}
 use Rattle.bw_lang.proofs.Forests.{append-none, append_assoc}
-use Rattle.bw_lang.specs.Markup.{is_void}
+use Rattle.bw_lang.specs.Template.Markup.{is_void}
 use Rattle.bw_lang.specs.declared.pieces.Tag.{Tag}
 use Rattle.bw_lang.specs.declared.pieces.Piece.{Piece}
 use Rattle.bw_lang.specs.declared.pieces.Piece.TheVariants as piece
 use Rattle.bw_tmpl.specs.declared.building.OpenElement.{OpenElement}
 use Rattle.bw_tmpl.specs.declared.building.Draft.{Draft}
-use Rattle.bw_lang.specs.Names.{same, number}
-use Rattle.bw_lang.specs.NumberedGaps.{numbered}
+use Rattle.bw_lang.specs.Table.Names.{same, name_number}
+use Rattle.bw_lang.specs.Template.NumberedGaps.{numbered}
 use Rattle.bw_tmpl.specs.Building.{nothing_built, with_items, empty_element, element_begun, element_ended, draft_after_all, if_none_open, finished, built}
-use Rattle.bw_lang.specs.PieceItems.{ReadsPieces, ReadsAs}
+use Rattle.bw_lang.specs.Template.PieceItems.{ReadsPieces, ReadsAs}
 
 pub same-refl : (n : List ℕ) → same n n ≡ true
 same-refl n = nat_list_eq_equiv.refl n
@@ -68,8 +68,8 @@ reads_taken names (text s f) b ps rest h =
     ap (draft_after_all names (Some b)) h.1 ∙ reads_taken names f (with_items b (text s none)) h.0 rest h.2
     ∙ ap (λ (i : Forest). draft_after_all names (state i b.parents) rest) (append_assoc b.items (text s none) f)
 reads_taken names (gap g f) b ps rest h =
-    ap (draft_after_all names (Some b)) h.1.1 ∙ reads_taken names f (with_items b (gap (number names h.1.0) none)) h.0 rest h.2
-    ∙ ap (λ (i : Forest). draft_after_all names (state i b.parents) rest) (append_assoc b.items (gap (number names h.1.0) none) f)
+    ap (draft_after_all names (Some b)) h.1.1 ∙ reads_taken names f (with_items b (gap (name_number names h.1.0) none)) h.0 rest h.2
+    ∙ ap (λ (i : Forest). draft_after_all names (state i b.parents) rest) (append_assoc b.items (gap (name_number names h.1.0) none) f)
     ∙ ap (λ (k : ℕ). draft_after_all names (state (append b.items (gap k f)) b.parents) rest) (sym h.1.2)
 reads_taken names (element tag attrs inner f) b ps rest h =
     element_taken names tag attrs inner b ps h.0 h.1.0 (reads_taken names inner) h.1.1 h.1.2 h.1.3
@@ -156,8 +156,8 @@ completes names out [] items parents h = nothing_left names out items parents h
 completes names out (piece.Text s ∷ ps) items parents h =
     more names (text s none) parents items (piece.Text s ∷ ps) ps out (ps, refl, refl) (completes names out ps (append items (text s none)) parents h)
 completes names out (piece.Gap n ∷ ps) items parents h =
-    more names (gap (number names n) none) parents items (piece.Gap n ∷ ps) ps out (ps, (n, refl, refl), refl)
-    (completes names out ps (append items (gap (number names n) none)) parents h)
+    more names (gap (name_number names n) none) parents items (piece.Gap n ∷ ps) ps out (ps, (n, refl, refl), refl)
+    (completes names out ps (append items (gap (name_number names n) none)) parents h)
 completes names out (piece.Whole t ∷ ps) items parents h =
     more names (empty_element names t) parents items (piece.Whole t ∷ ps) ps out (empty_reads names t ps)
     (completes names out ps (append items (empty_element names t)) parents h)

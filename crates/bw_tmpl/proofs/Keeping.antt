@@ -5,13 +5,13 @@ use Rattle.std.specs.List.{list_any}
 use Rattle.bw_lang.specs.declared.items.Attr.{Attr}
 use Rattle.bw_lang.specs.declared.items.AttrValue.{AttrValue}
 use Rattle.bw_lang.specs.declared.items.AttrValue.TheVariants as value
-use Rattle.bw_lang.specs.Forest.{Forest, none, text, gap, element}
-use Rattle.bw_lang.specs.Documents.{append, plug, plug_text, filled_value, filled_attr, keep_fixed, closed_attrs, close}
-use Rattle.bw_lang.specs.Markup.{is_void}
+use Rattle.bw_lang.specs.Document.Forest.{Forest, none, text, gap, element}
+use Rattle.bw_lang.specs.Document.Documents.{append, plug, plug_text, filled_value, filled_attr, keep_fixed, closed_attrs, close}
+use Rattle.bw_lang.specs.Template.Markup.{is_void}
 use Rattle.bw_lang.specs.declared.pieces.NameClass.TheVariants as class
-use Rattle.bw_lang.specs.Names.{same}
-use Rattle.bw_lang.specs.RepeatedAttributes.{repeated}
-use Rattle.bw_lang.specs.Pieces.{IsName}
+use Rattle.bw_lang.specs.Table.Names.{same}
+use Rattle.bw_lang.specs.Template.RepeatedAttributes.{repeated}
+use Rattle.bw_lang.specs.Template.Pieces.{IsNameOf}
 use Rattle.bw_tmpl.specs.Markup.{IsValueOf, AreAttrs, names_of, IsMarkup}
 use Rattle.bw_tmpl.specs.Laws.{PlugsMarkup, PlugsTextMarkup, ClosesMarkup}
 
@@ -87,7 +87,7 @@ record Closed (attrs : List Attr) : Type 0 where
   fixed : AreAttrs ⊥ attrs
   once : repeated (names_of attrs) ≡ false
 
-keep_closed : (a : Attr) (v : AttrValue) (rest : List Attr) → a.value ≡ v → IsName class.Attr a.name → IsValueOf (Unit {0}) a.value
+keep_closed : (a : Attr) (v : AttrValue) (rest : List Attr) → a.value ≡ v → IsNameOf class.Attr a.name → IsValueOf (Unit {0}) a.value
     → list_any (same a.name) (names_of rest) ≡ false → Closed rest → Closed (keep_fixed a v rest)
 keep_closed a (value.Fixed v) rest e n u h c = record {
   fixed = (n, subst (IsValueOf ⊥) (sym e) (subst (IsValueOf (Unit {0})) e u), c.fixed);

@@ -19,3 +19,5 @@ pub mod Made
 pub mod Deciding
 pub mod Weights
 pub mod Answered
+pub mod AtOnce
+pub mod PlainRuns

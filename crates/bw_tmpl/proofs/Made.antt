@@ -2,8 +2,8 @@
 use Rattle.std.proofs.Common.{◌≡◌, ℕ, Bool, true, false, ◌⊎◌, inl, inr, List, [], ◌∷◌, map, refl, sym, ap, subst, ◌∙◌}
 use Rattle.std.specs.Prelude.{◌||◌, IsUtf8}
 use Rattle.bw_lang.specs.declared.items.Attr.{Attr}
-use Rattle.bw_lang.specs.Forest.{Forest, none, text, gap, element}
-use Rattle.bw_lang.specs.Markup.{is_void}
+use Rattle.bw_lang.specs.Document.Forest.{Forest, none, text, gap, element}
+use Rattle.bw_lang.specs.Template.Markup.{is_void}
 use Rattle.bw_lang.specs.declared.pieces.NameClass.TheVariants as class
 use Rattle.bw_lang.specs.declared.pieces.RawAttr.{RawAttr}
 use Rattle.bw_lang.specs.declared.pieces.RawValue.{RawValue}
@@ -11,10 +11,10 @@ use Rattle.bw_lang.specs.declared.pieces.RawValue.TheVariants as raw
 use Rattle.bw_lang.specs.declared.pieces.Tag.{Tag}
 use Rattle.bw_lang.specs.declared.pieces.Piece.{Piece}
 use Rattle.bw_lang.specs.declared.pieces.Piece.TheVariants as piece
-use Rattle.bw_lang.specs.NumberedGaps.{numbered, numbered_value}
-use Rattle.bw_lang.specs.PieceItems.{ReadsPieces}
-use Rattle.bw_lang.specs.RepeatedAttributes.{repeated, attr_names, piece_repeats, repeats}
-use Rattle.bw_lang.specs.Pieces.{IsName, IsAttr, IsTag, IsValue, IsPiece, Each}
+use Rattle.bw_lang.specs.Template.NumberedGaps.{numbered, numbered_value}
+use Rattle.bw_lang.specs.Template.PieceItems.{ReadsPieces}
+use Rattle.bw_lang.specs.Template.RepeatedAttributes.{repeated, attr_names, piece_repeats, repeats}
+use Rattle.bw_lang.specs.Template.Pieces.{IsNameOf, IsAttr, IsTag, IsValue, IsPiece, Each}
 use Rattle.bw_tmpl.specs.Markup.{IsValueOf, AreAttrs, names_of, IsMarkup}
 use Rattle.bw_tmpl.specs.Laws.{ReadsMarkup}
 
@@ -24,10 +24,10 @@ GoodValue (raw.Hole n) = Unit {0}
 
 abbrev GoodAttrs : List RawAttr → Type 0
 GoodAttrs [] = Unit {0}
-GoodAttrs (a ∷ attrs) = IsName class.Attr a.name × GoodValue a.value × GoodAttrs attrs
+GoodAttrs (a ∷ attrs) = IsNameOf class.Attr a.name × GoodValue a.value × GoodAttrs attrs
 
 record GoodTag (t : Tag) : Type 0 where
-  name : IsName class.Tag t.name
+  name : IsNameOf class.Tag t.name
   attrs : GoodAttrs t.attrs
   once : repeated (attr_names t.attrs) ≡ false
 
@@ -92,7 +92,7 @@ element_kept : (names : List (List ℕ)) (tag : List ℕ) (attrs : List Attr) (i
     → Both (element tag attrs inner f) rest
 element_kept names tag attrs inner f t rest p q g v k b = (
   (
-    subst (IsName class.Tag) (sym p) g.name,
+    subst (IsNameOf class.Tag) (sym p) g.name,
     subst (AreAttrs (Unit {0})) (sym q) (numbered_attrs names t.attrs g.attrs),
     ap (λ (l : List Attr). repeated (names_of l)) q ∙ ap repeated (names_numbered names t.attrs) ∙ g.once,
     λ (h : is_void tag ≡ true). v (ap is_void (sym p) ∙ h),

@@ -5,7 +5,7 @@ use Rattle.std.specs.Prelude.{nat_eq}
 use Rattle.std.specs.Cmp.Lexicographic.{same_text}
 use Rattle.std.proofs.lemmas.List.{take_at, drop_at, take-append-drop, append-nil}
 use lib.Pointwise.{pointwise}
-use Rattle.bw_tmpl.specs.Reading.{stripped, many_next, many, each}
+use Rattle.bw_tmpl.specs.Steps.Reading.{stripped, many_next, many, each}
 use Rattle.bw_lang.proofs.Options.{cond_some}
 use Rattle.bw_tmpl.proofs.Inverse.{same-refl}
 

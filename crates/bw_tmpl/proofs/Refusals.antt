@@ -1,18 +1,18 @@
 -- The answers of reading in the words of templates.
 use Rattle.std.proofs.Common.{◌≡◌, ℕ, List, [], Option, Some, None, refl, sym, ap, subst, ◌∙◌, arith}
-use Rattle.bw_lang.specs.Forest.{Forest}
+use Rattle.bw_lang.specs.Document.Forest.{Forest}
 use Rattle.bw_lang.specs.declared.pieces.Piece.{Piece}
 use Rattle.bw_tmpl.specs.declared.fault.TmplFault.{TmplFault}
 use Rattle.bw_tmpl.specs.declared.fault.TmplFault.TheVariants as fault
-use Rattle.bw_lang.specs.Measures.{nest}
-use Rattle.bw_lang.specs.PieceItems.{ReadsAs}
-use Rattle.bw_tmpl.specs.Reading.{pieces_of, MalformedIfNone}
+use Rattle.bw_lang.specs.Document.Measures.{nest}
+use Rattle.bw_lang.specs.Template.PieceItems.{ReadsAs}
+use Rattle.bw_tmpl.specs.Steps.Reading.{pieces_of, MalformedIfNone}
 use Rattle.bw_tmpl.specs.Building.{built, MismatchedIfNone}
 use Rattle.bw_tmpl.specs.Nesting.{depth}
-use Rattle.bw_lang.specs.Pieces.{SpellsPieces}
-use Rattle.bw_lang.specs.PieceGaps.{gap_names}
-use Rattle.bw_tmpl.specs.Checks.{Passes, Fails}
-use Rattle.bw_lang.specs.Templates.{ReadsBy, SpellsClosed}
+use Rattle.bw_lang.specs.Template.Pieces.{SpellsPieces}
+use Rattle.bw_lang.specs.Template.PieceGaps.{gap_names}
+use Rattle.bw_tmpl.specs.Steps.Checks.{Passes, Fails}
+use Rattle.bw_lang.specs.Template.Templates.{ReadsBy, SpellsClosed}
 use Rattle.bw_tmpl.specs.Refusals.{RefusedBy}
 use Rattle.bw_lang.proofs.Options.{some_is}
 use Rattle.bw_tmpl.proofs.Inverse.{built_reads, reads_built}

@@ -4,10 +4,10 @@ use Rattle.std.specs.Prelude.{◌||◌, if◌then◌else◌}
 use Rattle.std.specs.List.{list_any}
 use Rattle.std.proofs.lemmas.Cmp.{nat_list_eq_equiv}
 use Rattle.std.proofs.lemmas.List.Folds.{list_any-append}
-use Rattle.bw_lang.specs.Names.{same, number, with_name}
+use Rattle.bw_lang.specs.Table.Names.{same, name_number, with_name}
 use Rattle.bw_lang.proofs.TableLaws.{there, not_there}
 use Rattle.bw_lang.specs.declared.pieces.RawAttr.{RawAttr}
-use Rattle.bw_lang.specs.RepeatedAttributes.{repeated, attr_names}
+use Rattle.bw_lang.specs.Template.RepeatedAttributes.{repeated, attr_names}
 
 -- a name was seen, or stands in the list twice
 abbrev pub repeated_after : List (List ℕ) → List (List ℕ) → Bool
@@ -55,10 +55,10 @@ repeated_is names = after_is names [] ∙ ap (λ (b : Bool). b || repeated names
 
 -- ---- for the loop
 
-seen_before : (seen : List (List ℕ)) (n : List ℕ) (names : List (List ℕ)) → number seen n < length seen → repeated_after seen (n ∷ names) ≡ true
+seen_before : (seen : List (List ℕ)) (n : List ℕ) (names : List (List ℕ)) → name_number seen n < length seen → repeated_after seen (n ∷ names) ≡ true
 seen_before seen n names h = ap (λ (b : Bool). b || repeated_after (with_name seen n) names) (there seen n h)
 
-seen_first : (seen : List (List ℕ)) (n : List ℕ) (names : List (List ℕ)) → length seen ≤ number seen n
+seen_first : (seen : List (List ℕ)) (n : List ℕ) (names : List (List ℕ)) → length seen ≤ name_number seen n
     → repeated_after (with_name seen n) names ≡ repeated_after seen (n ∷ names)
 seen_first seen n names h = sym (ap (λ (b : Bool). b || repeated_after (with_name seen n) names) (not_there seen n h))
 
@@ -68,10 +68,10 @@ names_from : (attrs : List RawAttr) (i : ℕ) (a : RawAttr) → i < length attrs
 names_from attrs i a lt e = rw (add-one, drop-cons attrs i a lt) (ap (λ (b : RawAttr). b.name ∷ attr_names (drop (suc i) attrs)) (sym e))
 
 pub repeated_here : (seen : List (List ℕ)) (attrs : List RawAttr) (i : ℕ) (a : RawAttr) → i < length attrs → a ≡ get_or attrs i a
-    → number seen a.name < length seen → repeated_after seen (attr_names (drop i attrs)) ≡ true
+    → name_number seen a.name < length seen → repeated_after seen (attr_names (drop i attrs)) ≡ true
 repeated_here seen attrs i a lt e h = ap (repeated_after seen) (names_from attrs i a lt e) ∙ seen_before seen a.name (attr_names (drop (i + 1) attrs)) h
 
 pub first_here : (seen : List (List ℕ)) (attrs : List RawAttr) (i : ℕ) (a : RawAttr) → i < length attrs → a ≡ get_or attrs i a
-    → length seen ≤ number seen a.name
+    → length seen ≤ name_number seen a.name
     → repeated_after (with_name seen a.name) (attr_names (drop (i + 1) attrs)) ≡ repeated_after seen (attr_names (drop i attrs))
 first_here seen attrs i a lt e h = seen_first seen a.name (attr_names (drop (i + 1) attrs)) h ∙ sym (ap (repeated_after seen) (names_from attrs i a lt e))

@@ -7,8 +7,8 @@ use Rattle.std.specs.Str.{IsAscii, is_utf8}
 use Rattle.std.proofs.lemmas.Bool.Decides.{nat_tests}
 use Rattle.bw_lang.specs.declared.pieces.NameClass.{NameClass}
 use Rattle.bw_lang.specs.declared.pieces.NameClass.TheVariants as class
-use Rattle.bw_tmpl.specs.Reading.{leading, checked}
-use Rattle.bw_lang.specs.MarkupNames.{later_of}
+use Rattle.bw_tmpl.specs.Steps.Reading.{leading, checked}
+use Rattle.bw_lang.specs.Template.MarkupNames.{later_of}
 
 pub later_below : (k : NameClass) (c : ℕ) → later_of k c ≡ true → c < 128
 later_below class.Tag c h = grind (arith, nat_tests)

@@ -11,11 +11,11 @@ use Rattle.bw_lang.specs.declared.pieces.RawValue.TheVariants as raw
 use Rattle.bw_lang.specs.declared.pieces.Tag.{Tag}
 use Rattle.bw_lang.specs.declared.pieces.Piece.{Piece}
 use Rattle.bw_lang.specs.declared.pieces.Piece.TheVariants as piece
-use Rattle.bw_lang.specs.Options.{◌>>=◌, where_some}
-use Rattle.bw_tmpl.specs.Reading.{stripped, leading, past_blanks, name_at, char_at, many, many_next, each, checked, quoted_at, hole_at, value_at}
-use Rattle.bw_tmpl.specs.Reading.{attr_at, tag_at, whole_at, end_at, gap_at, text_at, piece_at}
-use Rattle.bw_lang.specs.Bytes.{is_blank}
-use Rattle.bw_lang.specs.MarkupNames.{begins, first_of, later_of}
+use Rattle.bw_lang.specs.Table.Options.{◌>>=◌, where_some}
+use Rattle.bw_tmpl.specs.Steps.Reading.{stripped, leading, past_blanks, name_at, char_at, many, many_next, each, checked, quoted_at, hole_at, value_at}
+use Rattle.bw_tmpl.specs.Steps.Reading.{attr_at, tag_at, whole_at, end_at, gap_at, text_at, piece_at}
+use Rattle.bw_lang.specs.Text.Bytes.{is_blank}
+use Rattle.bw_lang.specs.Template.MarkupNames.{begins, first_of, later_of}
 use Rattle.bw_lang.proofs.Options.{if_some, bind_some, where_cases, cond_some, cond_none, some_is}
 use Rattle.bw_tmpl.proofs.Many.{stripped_is, Shrinks, each_more, each_none}
 use Rattle.bw_tmpl.proofs.Characters.{char_shrinks}

@@ -9,12 +9,12 @@ use Rattle.bw_lang.specs.declared.pieces.Tag.{Tag}
 use Rattle.bw_lang.specs.declared.pieces.Piece.{Piece}
 use Rattle.bw_lang.specs.declared.pieces.Piece.TheVariants as piece
 use Rattle.std.specs.Char.{is_ascii_lowercase}
-use Rattle.bw_lang.specs.Options.{◌>>=◌, where_some}
-use Rattle.bw_tmpl.specs.Reading.{stripped, past_blanks, char_at, many, each, checked}
-use Rattle.bw_tmpl.specs.Reading.{whole_at, end_at, gap_at, text_at, piece_at, pieces_of}
-use Rattle.bw_lang.specs.Bytes.{is_blank}
-use Rattle.bw_lang.specs.MarkupNames.{begins}
-use Rattle.bw_lang.specs.Pieces.{passes, IsName, IsChar, Each, IsTag, IsPiece, is_text, begins_with_text, Apart, SpellsPieces}
+use Rattle.bw_lang.specs.Table.Options.{◌>>=◌, where_some}
+use Rattle.bw_tmpl.specs.Steps.Reading.{stripped, past_blanks, char_at, many, each, checked}
+use Rattle.bw_tmpl.specs.Steps.Reading.{whole_at, end_at, gap_at, text_at, piece_at, pieces_of}
+use Rattle.bw_lang.specs.Text.Bytes.{is_blank}
+use Rattle.bw_lang.specs.Template.MarkupNames.{begins}
+use Rattle.bw_lang.specs.Template.Pieces.{passes, IsNameOf, IsChar, Each, IsTag, IsPiece, is_text, begins_with_text, Apart, SpellsPieces}
 use Rattle.bw_lang.proofs.Options.{some_is}
 use Rattle.bw_tmpl.proofs.Many.{put, each_more, each_none}
 use Rattle.bw_tmpl.proofs.Characters.{char_written}
@@ -64,7 +64,7 @@ tag_behind (c ∷ n) m h = tag_dispatch c (n ++ m) h
 tag_piece : (t : Tag) (m rest : List ℕ) → IsTag t m rest → piece_at (60 ∷ m) ≡ whole_at m
 tag_piece t m rest h = ap (λ (l : List ℕ). piece_at (60 ∷ l)) h.parts ∙ tag_behind t.name h.behind h.name.first ∙ ap whole_at (sym h.parts)
 
-end_written : (n w rest : List ℕ) → IsName class.Tag n → passes is_blank w ≡ true → end_at (n ++ (w ++ (codes ">" ++ rest))) ≡ Some (piece.End n, rest)
+end_written : (n w rest : List ℕ) → IsNameOf class.Tag n → passes is_blank w ≡ true → end_at (n ++ (w ++ (codes ">" ++ rest))) ≡ Some (piece.End n, rest)
 unfolding end_at
 end_written n w rest h p =
     ap (λ (o : Option (List ℕ × List ℕ)). o >>= λ n. stripped (codes ">") (past_blanks n.1) >>= λ rest. Some (piece.End n.0, rest))
@@ -79,7 +79,7 @@ gap_dispatch : (m : List ℕ) → piece_at (codes "<[" ++ m) ≡ gap_at m
 unfolding piece_at
 gap_dispatch m = refl
 
-gap_written : (n rest : List ℕ) → IsName class.Word n → gap_at (n ++ (codes "]>" ++ rest)) ≡ Some (piece.Gap n, rest)
+gap_written : (n rest : List ℕ) → IsNameOf class.Word n → gap_at (n ++ (codes "]>" ++ rest)) ≡ Some (piece.Gap n, rest)
 unfolding gap_at
 gap_written n rest h =
     ap (λ (o : Option (List ℕ × List ℕ)). o >>= λ n. stripped (codes "]>") n.1 >>= λ rest. Some (piece.Gap n.0, rest))

@@ -6,10 +6,10 @@ use Rattle.std.proofs.lemmas.List.{take-append-drop, take_at, drop_at}
 use Rattle.std.proofs.lemmas.Bool.Decides.{nat_tests}
 use Rattle.bw_lang.specs.declared.pieces.NameClass.{NameClass}
 use Rattle.bw_lang.specs.declared.pieces.NameClass.TheVariants as class
-use Rattle.bw_tmpl.specs.Reading.{leading, past_blanks, name_at}
-use Rattle.bw_lang.specs.Bytes.{is_blank}
-use Rattle.bw_lang.specs.MarkupNames.{begins, first_of, later_of}
-use Rattle.bw_lang.specs.Pieces.{passes, IsName}
+use Rattle.bw_tmpl.specs.Steps.Reading.{leading, past_blanks, name_at}
+use Rattle.bw_lang.specs.Text.Bytes.{is_blank}
+use Rattle.bw_lang.specs.Template.MarkupNames.{begins, first_of, later_of}
+use Rattle.bw_lang.specs.Template.Pieces.{passes, IsNameOf}
 use Rattle.bw_lang.proofs.Options.{cond_some}
 
 pub both : (a b : Bool) → (a && b) ≡ true → (a ≡ true) × (b ≡ true)
@@ -62,7 +62,7 @@ first_leading k [] h = h
 first_leading k (b ∷ bs) h = ap (λ (v : Bool). begins (first_of k) (take (if v then suc (leading (later_of k) bs) else 0) (b ∷ bs))) (first_later k b h) ∙ h
 
 pub record Named (k : NameClass) (bytes n rest : List ℕ) : Type 0 where
-  pub name : IsName k n
+  pub name : IsNameOf k n
   pub parts : bytes ≡ n ++ rest
   pub behind : begins (later_of k) rest ≡ false
 
@@ -83,7 +83,7 @@ pub begins_with_append : (p : ℕ → Bool) (n rest : List ℕ) → begins p n �
 begins_with_append p [] rest h = absurd (cc)
 begins_with_append p (b ∷ n) rest h = h
 
-pub name_written : (k : NameClass) (n rest : List ℕ) → IsName k n → begins (later_of k) rest ≡ false → name_at k (n ++ rest) ≡ Some (n, rest)
+pub name_written : (k : NameClass) (n rest : List ℕ) → IsNameOf k n → begins (later_of k) rest ≡ false → name_at k (n ++ rest) ≡ Some (n, rest)
 name_written k n rest h e =
     let r : leading (later_of k) (n ++ rest) ≡ length n = leading_at (later_of k) n rest h.later e in
     let s : begins (first_of k) (n ++ rest) ≡ true = begins_with_append (first_of k) n rest h.first in

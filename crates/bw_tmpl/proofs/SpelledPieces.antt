@@ -7,11 +7,11 @@ use Rattle.std.proofs.lemmas.Bool.{eqb-true}
 use Rattle.bw_lang.specs.declared.pieces.NameClass.TheVariants as class
 use Rattle.bw_lang.specs.declared.pieces.Piece.{Piece}
 use Rattle.bw_lang.specs.declared.pieces.Piece.TheVariants as piece
-use Rattle.bw_lang.specs.Options.{◌>>=◌, where_some}
-use Rattle.bw_tmpl.specs.Reading.{stripped, leading, past_blanks, name_at, char_at, many, many_next, each, checked}
-use Rattle.bw_tmpl.specs.Reading.{tag_at, whole_at, end_at, gap_at, text_at, piece_at, pieces_of}
-use Rattle.bw_lang.specs.Bytes.{is_blank}
-use Rattle.bw_lang.specs.Pieces.{Each, IsTag, IsPiece, is_text, begins_with_text, Apart, SpellsPieces}
+use Rattle.bw_lang.specs.Table.Options.{◌>>=◌, where_some}
+use Rattle.bw_tmpl.specs.Steps.Reading.{stripped, leading, past_blanks, name_at, char_at, many, many_next, each, checked}
+use Rattle.bw_tmpl.specs.Steps.Reading.{tag_at, whole_at, end_at, gap_at, text_at, piece_at, pieces_of}
+use Rattle.bw_lang.specs.Text.Bytes.{is_blank}
+use Rattle.bw_lang.specs.Template.Pieces.{Each, IsTag, IsPiece, is_text, begins_with_text, Apart, SpellsPieces}
 use Rattle.bw_lang.proofs.Options.{bind_some, where_cases, cond_some, cond_none, some_is}
 use Rattle.bw_tmpl.proofs.Many.{stripped_is, each_none}
 use Rattle.bw_tmpl.proofs.Characters.{char_shrinks}

@@ -9,12 +9,12 @@ use Rattle.bw_lang.specs.declared.pieces.RawAttr.{RawAttr}
 use Rattle.bw_lang.specs.declared.pieces.RawValue.{RawValue}
 use Rattle.bw_lang.specs.declared.pieces.Tag.{Tag}
 use Rattle.std.specs.Char.{is_ascii_lowercase}
-use Rattle.bw_lang.specs.Options.{◌>>=◌}
-use Rattle.bw_tmpl.specs.Reading.{stripped, leading, past_blanks, name_at, each, value_at}
-use Rattle.bw_tmpl.specs.Reading.{attr_at, tag_at}
-use Rattle.bw_lang.specs.Bytes.{is_blank}
-use Rattle.bw_lang.specs.MarkupNames.{begins, later_of}
-use Rattle.bw_lang.specs.Pieces.{passes, Each, IsAttr, IsTag}
+use Rattle.bw_lang.specs.Table.Options.{◌>>=◌}
+use Rattle.bw_tmpl.specs.Steps.Reading.{stripped, leading, past_blanks, name_at, each, value_at}
+use Rattle.bw_tmpl.specs.Steps.Reading.{attr_at, tag_at}
+use Rattle.bw_lang.specs.Text.Bytes.{is_blank}
+use Rattle.bw_lang.specs.Template.MarkupNames.{begins, later_of}
+use Rattle.bw_lang.specs.Template.Pieces.{passes, Each, IsAttr, IsTag}
 use Rattle.bw_lang.proofs.Options.{if_some, bind_some, some_is}
 use Rattle.bw_tmpl.proofs.Many.{stripped_is}
 use Rattle.bw_tmpl.proofs.Shrinking.{attr_shrinks}

@@ -7,9 +7,9 @@ use Rattle.std.proofs.lemmas.Str.{IsUtf8-from_is_utf8}
 use Rattle.bw_lang.specs.declared.pieces.NameClass.TheVariants as class
 use Rattle.bw_lang.specs.declared.pieces.RawValue.{RawValue}
 use Rattle.bw_lang.specs.declared.pieces.RawValue.TheVariants as raw
-use Rattle.bw_lang.specs.Options.{◌>>=◌}
-use Rattle.bw_tmpl.specs.Reading.{stripped, name_at, char_at, many, many_next, each, checked, quoted_at, hole_at, value_at}
-use Rattle.bw_lang.specs.Pieces.{IsName, IsChar, Each, IsValue}
+use Rattle.bw_lang.specs.Table.Options.{◌>>=◌}
+use Rattle.bw_tmpl.specs.Steps.Reading.{stripped, name_at, char_at, many, many_next, each, checked, quoted_at, hole_at, value_at}
+use Rattle.bw_lang.specs.Template.Pieces.{IsNameOf, IsChar, Each, IsValue}
 use Rattle.bw_lang.proofs.Options.{bind_some, where_cases, cond_some, some_is}
 use Rattle.bw_tmpl.proofs.Many.{stripped_is, stripped_again, Shrinks, put, each_more, each_none}
 use Rattle.bw_tmpl.proofs.Characters.{char_shrinks, char_is, char_written}
@@ -114,7 +114,7 @@ quote_ends : (q : ℕ) (rest : List ℕ) → ((q ≡ 34) ⊎ (q ≡ 39)) → cha
 quote_ends q rest (inl h) = rw h refl
 quote_ends q rest (inr h) = rw h refl
 
-hole_written : (n rest : List ℕ) → IsName class.Word n → value_at (91 ∷ (n ++ 93 ∷ rest)) ≡ Some (raw.Hole n, rest)
+hole_written : (n rest : List ℕ) → IsNameOf class.Word n → value_at (91 ∷ (n ++ 93 ∷ rest)) ≡ Some (raw.Hole n, rest)
 unfolding value_at hole_at
 hole_written n rest h =
     ap (λ (o : Option (List ℕ × List ℕ)). o >>= λ m. stripped (codes "]") m.1 >>= λ r. Some (raw.Hole m.0, r)) (name_written class.Word n (93 ∷ rest) h refl)

@@ -9,12 +9,12 @@ use Rattle.bw_lang.specs.declared.pieces.RawValue.TheVariants as raw
 use Rattle.bw_lang.specs.declared.pieces.Tag.{Tag}
 use Rattle.bw_lang.specs.declared.pieces.Piece.{Piece}
 use Rattle.bw_lang.specs.declared.pieces.Piece.TheVariants as piece
-use Rattle.bw_lang.specs.Forest.{Forest, none, text, gap, element}
-use Rattle.bw_lang.specs.Measures.{value_bytes, items_weight}
-use Rattle.bw_lang.specs.MarkupBytes.{less_than}
-use Rattle.bw_lang.specs.NumberedGaps.{numbered, numbered_value}
-use Rattle.bw_lang.specs.PieceItems.{ReadsPieces}
-use Rattle.bw_lang.specs.Pieces.{IsRef, IsChar, Each, IsValue, IsAttr, IsTag, IsPiece}
+use Rattle.bw_lang.specs.Document.Forest.{Forest, none, text, gap, element}
+use Rattle.bw_lang.specs.Document.Measures.{value_bytes, items_weight}
+use Rattle.bw_lang.specs.Template.MarkupBytes.{less_than}
+use Rattle.bw_lang.specs.Template.NumberedGaps.{numbered, numbered_value}
+use Rattle.bw_lang.specs.Template.PieceItems.{ReadsPieces}
+use Rattle.bw_lang.specs.Template.Pieces.{IsRef, IsChar, Each, IsValue, IsAttr, IsTag, IsPiece}
 use Rattle.bw_tmpl.specs.Laws.{ItemsBounded}
 use Rattle.bw_tmpl.proofs.GapLaws.{Ways}
 

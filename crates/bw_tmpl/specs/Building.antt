@@ -1,8 +1,9 @@
 -- Items built from pieces, one piece after the other.
-use Rattle.std.specs.Prelude.{◌≡◌, ℕ, if◌then◌else◌, List, [], ◌∷◌, map, Option, Some, None, Result, MatchResult}
-use Rattle.bw_lang.specs.Forest.{Forest, none, text, gap, element}
-use Rattle.bw_lang.specs.Documents.{append}
-use Rattle.bw_lang.specs.Markup.{is_void}
+use Rattle.std.specs.Prelude.{◌≡◌, ℕ, Bool, if◌then◌else◌, List, [], ◌∷◌, map, Option, Some, None, Result, MatchResult}
+use Rattle.bw_lang.specs.Document.Forest.{Forest, none, text, gap, element}
+use Rattle.bw_lang.specs.Document.Documents.{append}
+use Rattle.bw_lang.specs.Template.Markup.{is_void}
+use Rattle.bw_lang.specs.declared.items.Attr.{Attr}
 use Rattle.bw_lang.specs.declared.pieces.Tag.{Tag}
 use Rattle.bw_lang.specs.declared.pieces.Piece.{Piece}
 use Rattle.bw_lang.specs.declared.pieces.Piece.TheVariants as piece
@@ -10,8 +11,8 @@ use Rattle.bw_tmpl.specs.declared.fault.TmplFault.{TmplFault}
 use Rattle.bw_tmpl.specs.declared.fault.TmplFault.TheVariants as fault
 use Rattle.bw_tmpl.specs.declared.building.OpenElement.{OpenElement}
 use Rattle.bw_tmpl.specs.declared.building.Draft.{Draft}
-use Rattle.bw_lang.specs.Names.{same, number}
-use Rattle.bw_lang.specs.NumberedGaps.{numbered}
+use Rattle.bw_lang.specs.Table.Names.{same, name_number}
+use Rattle.bw_lang.specs.Template.NumberedGaps.{numbered}
 
 -- there is nothing to build, and the fault says so; want of memory says nothing
 abbrev pub MismatchedIfNone : {A : Type 0} → TmplFault → Option A → Type 0
@@ -37,9 +38,17 @@ with_items b f = record { items = append b.items f; parents = b.parents }
 abbrev pub empty_element : List (List ℕ) → Tag → Forest
 empty_element names t = element t.name (map (numbered names) t.attrs) none none
 
--- a start tag opens an element: what was built stands in front of it
+-- an element begins: what was built stands in front of it
+abbrev pub begun_by : Draft → List ℕ → List Attr → Draft
+begun_by b tag attrs = record { items = none; parents = record { tag = tag; attrs = attrs; front = b.items } ∷ b.parents }
+
+-- a start tag opens an element
 abbrev pub element_begun : List (List ℕ) → Draft → Tag → Draft
-element_begun names b t = record { items = none; parents = record { tag = t.name; attrs = map (numbered names) t.attrs; front = b.items } ∷ b.parents }
+element_begun names b t = begun_by b t.name (map (numbered names) t.attrs)
+
+-- a tag is an element without items, or opens one
+abbrev pub tag_taken : Bool → List (List ℕ) → Draft → Tag → Draft
+tag_taken is_alone names b t = if is_alone then with_items b (empty_element names t) else element_begun names b t
 
 -- an end tag of the innermost open element's name closes it, with the items in it
 abbrev pub element_ended : Forest → List OpenElement → List ℕ → Option Draft
@@ -50,7 +59,7 @@ element_ended items (l ∷ parents) n =
 -- what each kind of piece does
 abbrev pub draft_after : List (List ℕ) → Draft → Piece → Option Draft
 draft_after names b (piece.Text s) = Some (with_items b (text s none))
-draft_after names b (piece.Gap n) = Some (with_items b (gap (number names n) none))
+draft_after names b (piece.Gap n) = Some (with_items b (gap (name_number names n) none))
 draft_after names b (piece.Whole t) = Some (with_items b (empty_element names t))
 draft_after names b (piece.Start t) = if is_void t.name then Some (with_items b (empty_element names t)) else Some (element_begun names b t)
 draft_after names b (piece.End n) = element_ended b.items b.parents n

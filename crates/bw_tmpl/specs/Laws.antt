@@ -1,17 +1,17 @@
 -- Laws of reading.
 use Rattle.std.specs.Prelude.{◌≡◌, ◌≢◌, ◌⊎◌, ◌≤◌, ℕ, ◌*◌, List, IsUtf8, length}
-use Rattle.bw_lang.specs.Forest.{Forest}
-use Rattle.bw_lang.specs.Documents.{plug, plug_text, close, count}
-use Rattle.bw_lang.specs.Print.{print, joined}
-use Rattle.bw_lang.specs.Measures.{items_weight}
+use Rattle.bw_lang.specs.Document.Forest.{Forest}
+use Rattle.bw_lang.specs.Document.Documents.{plug, plug_text, close, count}
+use Rattle.bw_lang.specs.Document.Print.{print, joined}
+use Rattle.bw_lang.specs.Document.Measures.{items_weight}
 use Rattle.bw_tmpl.specs.declared.fault.TmplFault.{TmplFault}
 use Rattle.bw_tmpl.specs.declared.fault.TmplFault.TheVariants as fault
 use Rattle.bw_lang.specs.declared.pieces.Piece.{Piece}
-use Rattle.bw_lang.specs.Pieces.{SpellsPieces}
-use Rattle.bw_lang.specs.Measures.{nest}
-use Rattle.bw_lang.specs.PieceItems.{ReadsAs}
-use Rattle.bw_lang.specs.Templates.{IsTemplate, IsClosedTemplate}
-use Rattle.bw_tmpl.specs.Refusals.{IsRefused, IsClosedRefused}
+use Rattle.bw_lang.specs.Template.Pieces.{SpellsPieces}
+use Rattle.bw_lang.specs.Document.Measures.{nest}
+use Rattle.bw_lang.specs.Template.PieceItems.{ReadsAs}
+use Rattle.bw_lang.specs.Template.Templates.{IsTemplate, IsClosedTemplate}
+use Rattle.bw_tmpl.specs.Refusals.{IsTemplateRefused, IsClosedRefused}
 use Rattle.bw_tmpl.specs.Markup.{IsMarkup, IsClosedMarkup}
 
 -- bytes are one list of pieces at most
@@ -29,18 +29,18 @@ OneTemplate = (names : List (List ℕ)) (most : ℕ) (bytes : List ℕ) (f g : F
 -- what is a template is refused for want of memory alone
 abbrev pub NotBoth : Type 0
 NotBoth =
-    (names : List (List ℕ)) (most : ℕ) (bytes : List ℕ) (f : Forest) (e : TmplFault) → IsTemplate names most bytes f → IsRefused most bytes e → e ≡ fault.Memory
+    (names : List (List ℕ)) (most : ℕ) (bytes : List ℕ) (f : Forest) (e : TmplFault) → IsTemplate names most bytes f → IsTemplateRefused most bytes e → e ≡ fault.Memory
 
 -- there is one reason at most, beside want of memory
 abbrev pub OneReason : Type 0
 OneReason =
-    (most : ℕ) (bytes : List ℕ) (d e : TmplFault) → IsRefused most bytes d → IsRefused most bytes e → (d ≡ fault.Memory → ⊥) → (e ≡ fault.Memory → ⊥) → d ≡ e
+    (most : ℕ) (bytes : List ℕ) (d e : TmplFault) → IsTemplateRefused most bytes d → IsTemplateRefused most bytes e → (d ≡ fault.Memory → ⊥) → (e ≡ fault.Memory → ⊥) → d ≡ e
 
 -- bytes are a template, or there is a reason beside want of memory
 abbrev pub ReadOrRefused : Type 0
 ReadOrRefused =
     (names : List (List ℕ)) (most : ℕ) (bytes : List ℕ) →
-    ((f : Forest) × IsTemplate names most bytes f) ⊎ ((e : TmplFault) × (e ≢ fault.Memory) × IsRefused most bytes e)
+    ((f : Forest) × IsTemplate names most bytes f) ⊎ ((e : TmplFault) × (e ≢ fault.Memory) × IsTemplateRefused most bytes e)
 
 -- bytes are one template without gaps at most
 abbrev pub OneClosedTemplate : Type 0

@@ -1,7 +1,7 @@
-pub mod Reading
-pub mod Nesting
-pub mod Checks
+pub mod AtOnce
 pub mod Building
-pub mod Refusals
-pub mod Markup
 pub mod Laws
+pub mod Markup
+pub mod Nesting
+pub mod Refusals
+pub mod Steps

@@ -3,11 +3,11 @@ use Rattle.std.specs.Prelude.{◌≡◌, ℕ, true, false, List, [], ◌∷◌, 
 use Rattle.bw_lang.specs.declared.items.Attr.{Attr}
 use Rattle.bw_lang.specs.declared.items.AttrValue.{AttrValue}
 use Rattle.bw_lang.specs.declared.items.AttrValue.TheVariants as value
-use Rattle.bw_lang.specs.Forest.{Forest, none, text, gap, element}
-use Rattle.bw_lang.specs.Markup.{is_void}
+use Rattle.bw_lang.specs.Document.Forest.{Forest, none, text, gap, element}
+use Rattle.bw_lang.specs.Template.Markup.{is_void}
 use Rattle.bw_lang.specs.declared.pieces.NameClass.TheVariants as class
-use Rattle.bw_lang.specs.RepeatedAttributes.{repeated}
-use Rattle.bw_lang.specs.Pieces.{IsName}
+use Rattle.bw_lang.specs.Template.RepeatedAttributes.{repeated}
+use Rattle.bw_lang.specs.Template.Pieces.{IsNameOf}
 
 -- Here and below Gap says whether a gap may be open.
 -- a fixed value is UTF-8
@@ -18,7 +18,7 @@ IsValueOf Gap (value.Hole g) = Gap
 -- attributes with names and values as they can be written
 abbrev pub AreAttrs : Type 0 → List Attr → Type 0
 AreAttrs Gap [] = Unit {0}
-AreAttrs Gap (a ∷ attrs) = IsName class.Attr a.name × IsValueOf Gap a.value × AreAttrs Gap attrs
+AreAttrs Gap (a ∷ attrs) = IsNameOf class.Attr a.name × IsValueOf Gap a.value × AreAttrs Gap attrs
 
 -- the names of attributes
 abbrev pub names_of : List Attr → List (List ℕ)
@@ -30,7 +30,7 @@ MarkupWith Gap none = Unit {0}
 MarkupWith Gap (text s f) = IsUtf8 s × MarkupWith Gap f
 MarkupWith Gap (gap g f) = Gap × MarkupWith Gap f
 MarkupWith Gap (element tag attrs inner f) =
-    IsName class.Tag tag × AreAttrs Gap attrs × (repeated (names_of attrs) ≡ false) × (is_void tag ≡ true → inner ≡ none) × MarkupWith Gap inner
+    IsNameOf class.Tag tag × AreAttrs Gap attrs × (repeated (names_of attrs) ≡ false) × (is_void tag ≡ true → inner ≡ none) × MarkupWith Gap inner
     × MarkupWith Gap f
 
 -- markup that may have open gaps

@@ -1,10 +1,10 @@
 -- How many elements stand inside one another, by the tags alone.
 use Rattle.std.specs.Prelude.{ℕ, suc, max, if◌then◌else◌, List, [], ◌∷◌, length, Option, Some, None}
-use Rattle.bw_lang.specs.Markup.{is_void}
+use Rattle.bw_lang.specs.Template.Markup.{is_void}
 use Rattle.bw_lang.specs.declared.pieces.Piece.{Piece}
 use Rattle.bw_lang.specs.declared.pieces.Piece.TheVariants as piece
 use Rattle.bw_tmpl.specs.declared.nesting.OpenTags.{OpenTags}
-use Rattle.bw_lang.specs.Names.{same}
+use Rattle.bw_lang.specs.Table.Names.{same}
 
 -- no element is open
 abbrev pub no_tags : OpenTags

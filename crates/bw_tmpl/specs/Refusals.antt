@@ -1,14 +1,14 @@
 -- Why bytes are no template, or no page.
 use Rattle.std.specs.Prelude.{◌≡◌, ◌<◌, ℕ, true, false, List}
-use Rattle.bw_lang.specs.Forest.{Forest}
+use Rattle.bw_lang.specs.Document.Forest.{Forest}
 use Rattle.bw_lang.specs.declared.pieces.Piece.{Piece}
 use Rattle.bw_tmpl.specs.declared.fault.TmplFault.{TmplFault}
 use Rattle.bw_tmpl.specs.declared.fault.TmplFault.TheVariants as fault
-use Rattle.bw_lang.specs.Measures.{nest}
-use Rattle.bw_lang.specs.PieceItems.{ReadsAs}
-use Rattle.bw_lang.specs.Pieces.{SpellsPieces}
-use Rattle.bw_lang.specs.Templates.{SpellsClosed}
-use Rattle.bw_lang.specs.RepeatedAttributes.{repeats}
+use Rattle.bw_lang.specs.Document.Measures.{nest}
+use Rattle.bw_lang.specs.Template.PieceItems.{ReadsAs}
+use Rattle.bw_lang.specs.Template.Pieces.{SpellsPieces}
+use Rattle.bw_lang.specs.Template.Templates.{SpellsClosed}
+use Rattle.bw_lang.specs.Template.RepeatedAttributes.{repeats}
 
 -- Here and below Spelled says which bytes pieces are written with.
 -- a tag names an attribute twice
@@ -43,8 +43,8 @@ RefusedBy Spelled most bytes fault.Nesting = NestsDeeper Spelled most bytes
 RefusedBy Spelled most bytes fault.Memory = Unit {0}
 
 -- the bytes are no template, for this reason
-abbrev pub IsRefused : ℕ → List ℕ → TmplFault → Type 0
-IsRefused most bytes e = RefusedBy SpellsPieces most bytes e
+abbrev pub IsTemplateRefused : ℕ → List ℕ → TmplFault → Type 0
+IsTemplateRefused most bytes e = RefusedBy SpellsPieces most bytes e
 
 -- the bytes are no template without gaps, for this reason
 abbrev pub IsClosedRefused : ℕ → List ℕ → TmplFault → Type 0

@@ -1,10 +1,11 @@
 //! Items are built from pieces.
-ghost use Rattle.std.specs.Prelude.{◌≡◌, ◌≢◌, IfOk, OnOk, [], ◌∷◌, map, MatchOption};
+ghost use Rattle.std.specs.Prelude.{◌≡◌, ◌≢◌, IfOk, OnOk, [], ◌∷◌, length, map, MatchOption};
 ghost use Rattle.std.specs.Bool.{MatchBool};
-ghost use Rattle.bw_lang.specs.Forest.{none};
-ghost use Rattle.bw_lang.specs.View.{before};
-ghost use Rattle.bw_lang.specs.NumberedGaps.{numbered, numbered_value};
-ghost use Rattle.bw_tmpl.specs.Building.{nothing_built, with_items, element_begun, empty_element, element_ended, draft_after, built, Builds};
+ghost use Rattle.bw_lang.specs.Document.Forest.{none, element};
+ghost use Rattle.bw_lang.specs.Document.View.{before};
+ghost use Rattle.bw_lang.specs.Template.NumberedGaps.{numbered, numbered_value};
+ghost use Rattle.bw_tmpl.specs.Building.{nothing_built, with_items, begun_by, tag_taken, element_begun};
+ghost use Rattle.bw_tmpl.specs.Building.{empty_element, element_ended, draft_after, built, Builds};
 
 use crate::fault::TmplFault;
 use bw_lang::pieces::{Piece, RawAttr, RawAttrs, RawValue, Tag};
@@ -63,6 +64,12 @@ impl OpenElements {
         self.list.pop()
     }
 
+    pub fn len(&self) -> usize
+        ensures { result ≡ length self.now }
+    {
+        self.list.len()
+    }
+
     pub fn is_empty(&self) -> bool
         ensures { MatchBool result (self.now ≡ []) (self.now ≢ []) }
     {
@@ -108,9 +115,18 @@ fn attrs_of(alloc: Global, attrs: &RawAttrs, gaps: &GapNames) -> Result<Attrs, M
     Ok(made)
 }
 
+/// One item alone, with room for no other: most elements have one.
+fn one_item(alloc: Global, item: Item) -> Result<Items, Memory>
+    ensures { IfOk result (λ items. items ≡ before item none) }
+{
+    let mut list = Vec::with_capacity(alloc, 1)?;
+    list.push(item)?;
+    Ok(Items::from_vec(list))
+}
+
 impl Draft {
     /// No items, and no element is open.
-    fn new(alloc: Global) -> Draft
+    pub fn new(alloc: Global) -> Draft
         ensures { result ≡ nothing_built }
     {
         Draft {
@@ -123,35 +139,45 @@ impl Draft {
     fn add(&mut self, item: Item) -> Result<(), Memory>
         ensures { OnOk result (self.new ≡ with_items self.old (before item none)) }
     {
-        self.items.push(item)
+        if self.items.as_slice().is_empty() {
+            self.items = one_item(self.items.alloc(), item)?;
+            Ok(())
+        } else {
+            self.items.push(item)
+        }
+    }
+
+    /// An element begins, with these attributes.
+    fn open(&mut self, tag: Name, attrs: Attrs) -> Result<(), Memory>
+        ensures { OnOk result (self.new ≡ begun_by self.old tag attrs) }
+    {
+        let alloc = self.items.alloc();
+        let front = mem::replace(&mut self.items, Items::new(alloc));
+        self.parents.push(OpenElement { tag, attrs, front })
+    }
+
+    /// An element without items, with these attributes.
+    fn add_empty(&mut self, tag: Name, attrs: Attrs) -> Result<(), Memory>
+        ensures { OnOk result (self.new ≡ with_items self.old (element tag attrs none none)) }
+    {
+        let items = Items::new(self.items.alloc());
+        self.add(Item::Element(Element { tag, attrs, items }))
     }
 
     /// A start tag that an end tag is to follow.
     fn begin(&mut self, tag: &Tag, gaps: &GapNames) -> Result<(), Memory>
         ensures { OnOk result (self.new ≡ element_begun gaps.now self.old tag.now) }
     {
-        let alloc = self.items.alloc();
-        let attrs = attrs_of(alloc, &tag.attrs, gaps)?;
-        let name = tag.name.copy()?;
-        let front = mem::replace(&mut self.items, Items::new(alloc));
-        self.parents.push(OpenElement {
-            tag: name,
-            attrs,
-            front,
-        })
+        let attrs = attrs_of(self.items.alloc(), &tag.attrs, gaps)?;
+        self.open(tag.name.copy()?, attrs)
     }
 
     /// An element without items.
     fn alone(&mut self, tag: &Tag, gaps: &GapNames) -> Result<(), Memory>
         ensures { OnOk result (self.new ≡ with_items self.old (empty_element gaps.now tag.now)) }
     {
-        let alloc = self.items.alloc();
-        let element = Element {
-            tag: tag.name.copy()?,
-            attrs: attrs_of(alloc, &tag.attrs, gaps)?,
-            items: Items::new(alloc),
-        };
-        self.add(Item::Element(element))
+        let attrs = attrs_of(self.items.alloc(), &tag.attrs, gaps)?;
+        self.add_empty(tag.name.copy()?, attrs)
     }
 
     /// An end tag.
@@ -187,6 +213,36 @@ impl Draft {
                 }
             }
             Piece::End(name) => return self.end(name),
+        }
+        Ok(())
+    }
+
+    /// A start tag or a whole tag, which is used up.
+    fn take_tag(&mut self, tag: Tag, is_alone: bool, gaps: &GapNames) -> Result<(), Memory>
+        ensures { OnOk result (self.new ≡ tag_taken is_alone gaps.now self.old tag) }
+    {
+        let Tag { name, attrs } = tag;
+        let attrs = attrs_of(self.items.alloc(), &attrs, gaps)?;
+        if is_alone {
+            self.add_empty(name, attrs)
+        } else {
+            self.open(name, attrs)
+        }
+    }
+
+    /// The next piece, which is used up: its text and its name are moved, and not copied.
+    pub fn take_whole(&mut self, piece: Piece, gaps: &GapNames) -> Result<(), TmplFault>
+        ensures { Builds (λ _. self.new) result (draft_after gaps.now self.old piece) }
+    {
+        match piece {
+            Piece::Text(text) => self.add(Item::Text(text))?,
+            Piece::Gap(name) => self.add(Item::Gap(gaps.number(name.as_str())))?,
+            Piece::Whole(tag) => self.take_tag(tag, true, gaps)?,
+            Piece::Start(tag) => {
+                let is_alone = is_void(&tag.name);
+                self.take_tag(tag, is_alone, gaps)?
+            }
+            Piece::End(name) => return self.end(&name),
         }
         Ok(())
     }

@@ -1,7 +1,7 @@
 //! Characters and names at the front of bytes.
 ghost use Rattle.std.specs.Prelude.{◌≡◌, length, ◌≤◌, IfOk, MatchOption};
-ghost use Rattle.bw_lang.specs.MarkupNames.{first_of, later_of, begins};
-ghost use Rattle.bw_tmpl.specs.Reading as spec;
+ghost use Rattle.bw_lang.specs.Template.MarkupNames.{first_of, later_of, begins};
+ghost use Rattle.bw_tmpl.specs.Steps.Reading as spec;
 
 use crate::fault::TmplFault;
 use bw_lang::pieces::NameClass;
@@ -119,12 +119,35 @@ fn char_at(stop: u8, bytes: &[u8]) -> Option<(u8, &[u8])>
     Some((*first, &bytes[1..]))
 }
 
+/// Whether a byte stands for itself in a text that `stop` ends.
+fn is_plain(stop: u8, c: u8) -> bool
+    ensures { result ≡ spec.is_plain stop c }
+{
+    c != b'&' && c != b'<' && c != stop
+}
+
+/// How many bytes at the front stand for themselves.
+fn plain_length(stop: u8, bytes: &[u8]) -> usize
+    ensures value { result ≡ spec.leading (spec.is_plain stop) bytes.now }
+    ensures within { result ≤ length bytes.now }
+{
+    let mut n = 0;
+    for b in bytes {
+        if !is_plain(stop, *b) {
+            return n;
+        }
+        n += 1;
+    }
+    n
+}
+
 /// The characters at the front, as many as there are, and the bytes behind them.
 pub fn chars_at(alloc: Global, stop: u8, bytes: &[u8]) -> Result<(Vec<u8>, &[u8]), Memory>
     ensures { IfOk result (λ x. spec.each (spec.char_at stop) bytes.now ≡ (x.0.items, x.1.now)) }
 {
-    let mut text = Vec::new(alloc);
-    let mut rest = bytes;
+    let plain = plain_length(stop, bytes);
+    let mut text = Vec::from_slice(alloc, &bytes[..plain])?;
+    let mut rest = &bytes[plain..];
     'chars: loop {
         match char_at(stop, rest) {
             None => return Ok((text, rest)),
@@ -136,12 +159,12 @@ pub fn chars_at(alloc: Global, stop: u8, bytes: &[u8]) -> Result<(Vec<u8>, &[u8]
     }
 }
 
-/// A text, if the bytes are UTF-8.
-pub fn checked(alloc: Global, bytes: &[u8]) -> Result<Text, TmplFault>
-    ensures { spec.Gives (λ t. t) result (spec.checked bytes.now) }
+/// A text, if the bytes are UTF-8. It takes no memory.
+pub fn checked(bytes: Vec<u8>) -> Result<Text, TmplFault>
+    ensures { spec.Gives (λ t. t) result (spec.checked bytes.items) }
 {
-    match str::from_utf8(bytes) {
-        Ok(text) => Ok(Text::of(alloc, text)?),
+    match String::from_utf8(bytes) {
+        Ok(text) => Ok(Text::from_string(text)),
         Err(_) => Err(TmplFault::Malformed),
     }
 }

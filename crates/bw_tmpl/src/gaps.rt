@@ -1,8 +1,8 @@
 //! The gaps that pieces have.
 ghost use Rattle.std.specs.Prelude.{◌≡◌, ◌≢◌, [], ◌∷◌, OnOk};
 ghost use Rattle.std.specs.Bool.{MatchBool};
-ghost use Rattle.bw_lang.specs.Names.{with_names, Extends};
-ghost use Rattle.bw_lang.specs.PieceGaps.{value_gaps, attr_gaps, piece_gaps, gap_names};
+ghost use Rattle.bw_lang.specs.Table.Names.{with_names, Extends};
+ghost use Rattle.bw_lang.specs.Template.PieceGaps.{value_gaps, attr_gaps, piece_gaps, gap_names};
 
 use bw_lang::pieces::{Piece, RawAttr, RawValue};
 use bw_lang::{GapNames, Memory, Name};
@@ -78,7 +78,7 @@ fn is_hole(value: &RawValue) -> bool
 }
 
 /// Whether an attribute has a gap for its value.
-fn has_hole(attrs: &[RawAttr]) -> bool
+pub fn has_hole(attrs: &[RawAttr]) -> bool
     ensures { MatchBool result (attr_gaps attrs.now ≢ []) (attr_gaps attrs.now ≡ []) }
 {
     for attr in attrs {

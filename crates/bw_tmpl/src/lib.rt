@@ -5,6 +5,7 @@
 //! without them, and both say of every other text the first reason why it isn't one (`TmplFault`).
 #![tactic(auto)]
 
+mod at_once;
 mod building;
 mod chars;
 mod fault;

@@ -1,14 +1,16 @@
 //! Templates are read.
-ghost use Rattle.std.specs.Prelude.{◌≡◌, ◌≢◌, ◌≤◌, ℕ, List, length, MatchResult, OnOk, IfOk, IfErr};
-ghost use Rattle.bw_lang.specs.Documents.{count};
-ghost use Rattle.bw_lang.specs.Names.{with_names, Extends};
-ghost use Rattle.bw_tmpl.specs.Checks.{Passes, Fails};
-ghost use Rattle.bw_lang.specs.PieceGaps.{gap_names};
-ghost use Rattle.bw_lang.specs.Pieces.{SpellsPieces};
-ghost use Rattle.bw_lang.specs.Templates.{IsTemplate, IsClosedTemplate};
-ghost use Rattle.bw_tmpl.specs.Refusals.{IsRefused, IsClosedRefused};
+ghost use Rattle.std.specs.Prelude.{◌≡◌, ◌≢◌, ◌≤◌, ℕ, List, [], length, None, Some, MatchOption, MatchResult, OnOk, IfOk, IfErr};
+ghost use Rattle.bw_tmpl.specs.AtOnce.{at_once as at_once_spec};
+ghost use Rattle.bw_lang.specs.Document.Documents.{count};
+ghost use Rattle.bw_lang.specs.Table.Names.{with_names, Extends};
+ghost use Rattle.bw_tmpl.specs.Steps.Checks.{Passes, Fails};
+ghost use Rattle.bw_lang.specs.Template.PieceGaps.{gap_names};
+ghost use Rattle.bw_lang.specs.Template.Pieces.{SpellsPieces};
+ghost use Rattle.bw_lang.specs.Template.Templates.{IsTemplate, IsClosedTemplate};
+ghost use Rattle.bw_tmpl.specs.Refusals.{IsTemplateRefused, IsClosedRefused};
 ghost use Rattle.bw_lang.specs.declared.pieces.Piece.{Piece as Piece_};
 
+use crate::at_once::at_once;
 use crate::building::items_of;
 use crate::fault::TmplFault;
 use crate::gaps::{add_all, any_gap};
@@ -16,7 +18,7 @@ use crate::nesting::depth_of;
 use crate::repeats::any_repeats;
 use crate::tags::pieces_of;
 use bw_lang::pieces::Piece;
-use bw_lang::{GapNames, Items};
+use bw_lang::{GapNames, Items, Memory};
 use std::alloc::Global;
 
 /// The greatest number of elements that may stand inside one another in a template of a service.
@@ -45,7 +47,7 @@ fn check(alloc: Global, pieces: &[Piece], most: u32) -> Result<(), TmplFault>
 /// `TEMPLATE_NESTING` elements stand inside one another. Then `gaps` is as it was. After `Memory`, which may come
 /// at any time, it may have new names behind the old ones.
 pub fn read_template(alloc: Global, bytes: &[u8], gaps: &mut GapNames) -> Result<Items, TmplFault>
-    ensures items { MatchResult result (λ f. IsTemplate gaps.new TEMPLATE_NESTING bytes.now f) (λ e. IsRefused TEMPLATE_NESTING bytes.now e) }
+    ensures items { MatchResult result (λ f. IsTemplate gaps.new TEMPLATE_NESTING bytes.now f) (λ e. IsTemplateRefused TEMPLATE_NESTING bytes.now e) }
     ensures names { OnOk result ((ps : List Piece_) → SpellsPieces ps bytes.now → gaps.new ≡ with_names gaps.old (gap_names ps)) }
     ensures numbered { IfOk result (λ f. (g : ℕ) → length gaps.new ≤ g → count g f ≡ 0) }
     ensures extends { Extends gaps.old gaps.new }
@@ -58,9 +60,15 @@ pub fn read_template(alloc: Global, bytes: &[u8], gaps: &mut GapNames) -> Result
     items_of(alloc, pieces, gaps)
 }
 
-/// Reads a template without gaps, as the text of a page, where at most `most` elements may stand inside one
-/// another. It refuses as `read_template` does, and a gap is `Malformed`.
-pub fn read_closed(alloc: Global, bytes: &[u8], most: u32) -> Result<Items, TmplFault>
+/// The items of a text without gaps, or none where there is a reason to refuse it.
+fn closed_at_once(alloc: Global, bytes: &[u8], most: u32) -> Result<Option<Items>, Memory>
+    ensures { IfOk result (λ o. MatchOption o (at_once_spec [] most bytes.now ≡ None) (λ f. at_once_spec [] most bytes.now ≡ Some f)) }
+{
+    at_once(alloc, most as usize, bytes, &GapNames::new(alloc))
+}
+
+/// Reads a text without gaps by the list of its pieces, which tells the first reason to refuse it.
+fn closed_by_pieces(alloc: Global, bytes: &[u8], most: u32) -> Result<Items, TmplFault>
     ensures items { MatchResult result (λ f. IsClosedTemplate most bytes.now f) (λ e. IsClosedRefused most bytes.now e) }
     ensures closed { IfOk result (λ f. (g : ℕ) → count g f ≡ 0) }
 {
@@ -71,4 +79,16 @@ pub fn read_closed(alloc: Global, bytes: &[u8], most: u32) -> Result<Items, Tmpl
     }
     check(alloc, pieces, most)?;
     items_of(alloc, pieces, &GapNames::new(alloc))
+}
+
+/// Reads a template without gaps, as the text of a page, where at most `most` elements may stand inside one
+/// another. It refuses as `read_template` does, and a gap is `Malformed`.
+pub fn read_closed(alloc: Global, bytes: &[u8], most: u32) -> Result<Items, TmplFault>
+    ensures items { MatchResult result (λ f. IsClosedTemplate most bytes.now f) (λ e. IsClosedRefused most bytes.now e) }
+    ensures closed { IfOk result (λ f. (g : ℕ) → count g f ≡ 0) }
+{
+    match closed_at_once(alloc, bytes, most)? {
+        Some(items) => Ok(items),
+        None => closed_by_pieces(alloc, bytes, most),
+    }
 }

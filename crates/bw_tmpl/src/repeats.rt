@@ -1,13 +1,48 @@
 //! Attributes that a tag names twice.
 ghost use Rattle.std.specs.Prelude.{◌≡◌, IfOk};
-ghost use Rattle.bw_lang.specs.RepeatedAttributes as spec;
+ghost use Rattle.std.specs.List.{list_any};
+ghost use Rattle.bw_lang.specs.Table.Names.{same};
+ghost use Rattle.bw_lang.specs.Template.RepeatedAttributes as spec;
 
 use bw_lang::pieces::{Piece, RawAttr};
-use bw_lang::{Memory, NameTable};
+use bw_lang::{Memory, Name, NameTable};
 use std::alloc::Global;
 
-/// Whether two of the attributes have the same name. It takes time in proportion to their number.
-fn is_repeated(alloc: Global, attrs: &[RawAttr]) -> Result<bool, Memory>
+/// So many attributes at most are compared each with each, which takes no memory.
+const FEW: usize = 8;
+
+/// Whether an attribute has the name.
+fn is_named(name: &Name, attrs: &[RawAttr]) -> bool
+    ensures { result ≡ list_any (same name.now) (spec.attr_names attrs.now) }
+{
+    for attr in attrs {
+        if *name == attr.name {
+            return true;
+        }
+    }
+    false
+}
+
+/// Whether two of a few attributes have the same name.
+fn few_repeat(attrs: &[RawAttr]) -> bool
+    ensures { result ≡ spec.repeated (spec.attr_names attrs.now) }
+{
+    let mut rest = attrs;
+    'names: loop {
+        match rest {
+            [] => return false,
+            [first, after @ ..] => {
+                if is_named(&first.name, after) {
+                    return true;
+                }
+                rest = after;
+            }
+        }
+    }
+}
+
+/// Whether two of many attributes have the same name, found with a table of those that were seen.
+fn many_repeat(alloc: Global, attrs: &[RawAttr]) -> Result<bool, Memory>
     ensures { IfOk result (λ b. b ≡ spec.repeated (spec.attr_names attrs.now)) }
 {
     let mut seen = NameTable::new(alloc);
@@ -18,6 +53,17 @@ fn is_repeated(alloc: Global, attrs: &[RawAttr]) -> Result<bool, Memory>
         }
     }
     Ok(false)
+}
+
+/// Whether two of the attributes have the same name. It takes time in proportion to their number.
+pub fn is_repeated(alloc: Global, attrs: &[RawAttr]) -> Result<bool, Memory>
+    ensures { IfOk result (λ b. b ≡ spec.repeated (spec.attr_names attrs.now)) }
+{
+    if attrs.len() <= FEW {
+        Ok(few_repeat(attrs))
+    } else {
+        many_repeat(alloc, attrs)
+    }
 }
 
 /// Whether the piece is a tag that names an attribute twice.

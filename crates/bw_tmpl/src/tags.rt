@@ -1,9 +1,9 @@
 //! Attributes, tags and pieces at the front of bytes.
 ghost use Rattle.std.specs.Prelude.{◌≡◌, IfOk};
-ghost use Rattle.bw_lang.specs.Bytes.{is_blank};
-ghost use Rattle.bw_lang.specs.MarkupNames.{begins};
-ghost use Rattle.bw_tmpl.specs.Reading as spec;
-ghost use Rattle.bw_tmpl.specs.Reading.{attr_at, piece_at};
+ghost use Rattle.bw_lang.specs.Text.Bytes.{is_blank};
+ghost use Rattle.bw_lang.specs.Template.MarkupNames.{begins};
+ghost use Rattle.bw_tmpl.specs.Steps.Reading as spec;
+ghost use Rattle.bw_tmpl.specs.Steps.Reading.{attr_at, piece_at};
 
 use crate::chars::{chars_at, checked, name_at, past_blanks};
 use crate::fault::TmplFault;
@@ -12,12 +12,12 @@ use bw_lang::{Memory, is_blank};
 use std::alloc::Global;
 
 /// A value up to its quote, behind the first quote, and the bytes behind it.
-#[tactic(auto, unfolding(crate::specs::Reading::quoted_at))]
+#[tactic(auto, unfolding(crate::specs::Steps::Reading::quoted_at))]
 fn quoted_at(alloc: Global, quote: u8, bytes: &[u8]) -> Result<(RawValue, &[u8]), TmplFault>
     ensures { spec.Gives (λ x. (x.0, x.1.now)) result (spec.quoted_at quote bytes.now) }
 {
     let (text, after) = chars_at(alloc, quote, bytes)?;
-    let value = checked(alloc, text.as_slice())?;
+    let value = checked(text)?;
     let front = [quote];
     match after.strip_prefix(&front) {
         Some(rest) => Ok((RawValue::Fixed(value), rest)),
@@ -26,7 +26,7 @@ fn quoted_at(alloc: Global, quote: u8, bytes: &[u8]) -> Result<(RawValue, &[u8])
 }
 
 /// The name of a gap up to `]`, behind `[`, and the bytes behind it.
-#[tactic(auto, unfolding(crate::specs::Reading::hole_at))]
+#[tactic(auto, unfolding(crate::specs::Steps::Reading::hole_at))]
 fn hole_at(alloc: Global, bytes: &[u8]) -> Result<(RawValue, &[u8]), TmplFault>
     ensures { spec.Gives (λ x. (x.0, x.1.now)) result (spec.hole_at bytes.now) }
 {
@@ -38,7 +38,7 @@ fn hole_at(alloc: Global, bytes: &[u8]) -> Result<(RawValue, &[u8]), TmplFault>
 }
 
 /// A value, or a gap in its place, and the bytes behind it.
-#[tactic(auto, unfolding(crate::specs::Reading::value_at))]
+#[tactic(auto, unfolding(crate::specs::Steps::Reading::value_at))]
 fn value_at(alloc: Global, bytes: &[u8]) -> Result<(RawValue, &[u8]), TmplFault>
     ensures { spec.Gives (λ x. (x.0, x.1.now)) result (spec.value_at bytes.now) }
 {
@@ -65,7 +65,7 @@ fn begins_blank(bytes: &[u8]) -> bool
 }
 
 /// An attribute with the blanks in front of it, and the bytes behind it.
-#[tactic(auto, unfolding(crate::specs::Reading::attr_at))]
+#[tactic(auto, unfolding(crate::specs::Steps::Reading::attr_at))]
 fn attr_at(alloc: Global, bytes: &[u8]) -> Result<(RawAttr, &[u8]), TmplFault>
     ensures { spec.Gives (λ x. (x.0, x.1.now)) result (spec.attr_at bytes.now) }
 {
@@ -81,7 +81,7 @@ fn attr_at(alloc: Global, bytes: &[u8]) -> Result<(RawAttr, &[u8]), TmplFault>
 }
 
 /// A content gap, behind `<[`, and the bytes behind it.
-#[tactic(auto, unfolding(crate::specs::Reading::gap_at))]
+#[tactic(auto, unfolding(crate::specs::Steps::Reading::gap_at))]
 fn gap_at(alloc: Global, bytes: &[u8]) -> Result<(Piece, &[u8]), TmplFault>
     ensures { spec.Gives (λ x. (x.0, x.1.now)) result (spec.gap_at bytes.now) }
 {
@@ -93,7 +93,7 @@ fn gap_at(alloc: Global, bytes: &[u8]) -> Result<(Piece, &[u8]), TmplFault>
 }
 
 /// An end tag, behind `</`, and the bytes behind it.
-#[tactic(auto, unfolding(crate::specs::Reading::end_at))]
+#[tactic(auto, unfolding(crate::specs::Steps::Reading::end_at))]
 fn end_at(alloc: Global, bytes: &[u8]) -> Result<(Piece, &[u8]), TmplFault>
     ensures { spec.Gives (λ x. (x.0, x.1.now)) result (spec.end_at bytes.now) }
 {
@@ -105,7 +105,7 @@ fn end_at(alloc: Global, bytes: &[u8]) -> Result<(Piece, &[u8]), TmplFault>
 }
 
 /// A text, as long as it can be, and the bytes behind it.
-#[tactic(auto, unfolding(crate::specs::Reading::text_at))]
+#[tactic(auto, unfolding(crate::specs::Steps::Reading::text_at))]
 fn text_at(alloc: Global, bytes: &[u8]) -> Result<(Piece, &[u8]), TmplFault>
     ensures { spec.Gives (λ x. (x.0, x.1.now)) result (spec.text_at bytes.now) }
 {
@@ -113,7 +113,7 @@ fn text_at(alloc: Global, bytes: &[u8]) -> Result<(Piece, &[u8]), TmplFault>
     if text.as_slice().is_empty() {
         return Err(TmplFault::Malformed);
     }
-    let text = checked(alloc, text.as_slice())?;
+    let text = checked(text)?;
     Ok((Piece::Text(text), rest))
 }
 
@@ -136,7 +136,7 @@ fn attrs_at(alloc: Global, bytes: &[u8]) -> Result<(Vec<RawAttr>, &[u8]), Memory
 }
 
 /// A tag's name, its attributes and the blanks behind them, and the bytes behind these.
-#[tactic(auto, unfolding(crate::specs::Reading::tag_at))]
+#[tactic(auto, unfolding(crate::specs::Steps::Reading::tag_at))]
 fn tag_at(alloc: Global, bytes: &[u8]) -> Result<(Tag, &[u8]), TmplFault>
     ensures { spec.Gives (λ x. (x.0, x.1.now)) result (spec.tag_at bytes.now) }
 {
@@ -147,7 +147,7 @@ fn tag_at(alloc: Global, bytes: &[u8]) -> Result<(Tag, &[u8]), TmplFault>
 }
 
 /// A start tag or a whole tag, behind `<`, and the bytes behind it.
-#[tactic(auto, unfolding(crate::specs::Reading::whole_at))]
+#[tactic(auto, unfolding(crate::specs::Steps::Reading::whole_at))]
 fn whole_at(alloc: Global, bytes: &[u8]) -> Result<(Piece, &[u8]), TmplFault>
     ensures { spec.Gives (λ x. (x.0, x.1.now)) result (spec.whole_at bytes.now) }
 {
@@ -162,8 +162,8 @@ fn whole_at(alloc: Global, bytes: &[u8]) -> Result<(Piece, &[u8]), TmplFault>
 }
 
 /// The piece at the front, and the bytes behind it.
-#[tactic(auto, unfolding(crate::specs::Reading::piece_at))]
-fn next_piece(alloc: Global, bytes: &[u8]) -> Result<(Piece, &[u8]), TmplFault>
+#[tactic(auto, unfolding(crate::specs::Steps::Reading::piece_at))]
+pub fn next_piece(alloc: Global, bytes: &[u8]) -> Result<(Piece, &[u8]), TmplFault>
     ensures { spec.Gives (λ x. (x.0, x.1.now)) result (piece_at bytes.now) }
 {
     if let Some(rest) = bytes.strip_prefix(b"<[") {
@@ -197,7 +197,7 @@ fn pieces_at(alloc: Global, bytes: &[u8]) -> Result<(Vec<Piece>, &[u8]), Memory>
 }
 
 /// The pieces of all of the bytes.
-#[tactic(auto, unfolding(crate::specs::Reading::pieces_of))]
+#[tactic(auto, unfolding(crate::specs::Steps::Reading::pieces_of))]
 pub fn pieces_of(alloc: Global, bytes: &[u8]) -> Result<Vec<Piece>, TmplFault>
     ensures { spec.Gives (λ x. x.items) result (spec.pieces_of bytes.now) }
 {

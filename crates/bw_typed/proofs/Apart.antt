@@ -8,9 +8,9 @@ use Rattle.bw_lang.specs.declared.service.Service.{Service}
 use Rattle.bw_lang.specs.declared.service.Session.{Session}
 use Rattle.bw_lang.specs.declared.stmt.Kind.{Kind}
 use Rattle.bw_lang.specs.declared.stmt.Kind.TheVariants.{Str}
-use Rattle.bw_lang.specs.Code.{Code, done, declare, assign, if_then, if_else, while_loop, block, for_each, show, exit}
-use Rattle.bw_lang.specs.CodeNames.{local_names}
-use Rattle.bw_types.specs.Scopes.{Scope, no_locals, declared_names, with_local, behind, behind_each}
+use Rattle.bw_lang.specs.Service.Code.{Code, done, declare, assign, if_then, if_else, while_loop, block, for_each, show, exit}
+use Rattle.bw_lang.specs.Service.CodeNames.{local_names}
+use Rattle.bw_types.specs.Scopes.{Scope, no_locals, declared_names, with_local, scope_behind, behind_each}
 use Rattle.bw_types.proofs.Differing.{Differ, none_differ}
 use Rattle.bw_lang.proofs.Small.{readable_is_woven}
 use Rattle.bw_types.proofs.OwnLocals.{locals_own}
@@ -88,7 +88,7 @@ module _ (s : Service) where
   apart k (assign w e c) more h = (apart_now k (assign w e c) more h, apart k c more h)
   apart k (if_then e y c) more h =
       let g = same_names k _ (local_names y ++ (local_names c ++ more)) (append_assoc (local_names y) (local_names c) more) h in
-      (apart_now k (if_then e y c) more h, apart k y (local_names c ++ more) g, apart (behind k y) c more (gone k (local_names y) (local_names c ++ more) g))
+      (apart_now k (if_then e y c) more h, apart k y (local_names c ++ more) g, apart (scope_behind k y) c more (gone k (local_names y) (local_names c ++ more) g))
   apart k (if_else e y n c) more h =
       let g =
       same_names k _ (local_names y ++ (local_names n ++ (local_names c ++ more)))
@@ -97,15 +97,15 @@ module _ (s : Service) where
       let m = gone k (local_names y) (local_names n ++ (local_names c ++ more)) g in (
         apart_now k (if_else e y n c) more h,
         apart k y (local_names n ++ (local_names c ++ more)) g,
-        apart (behind k y) n (local_names c ++ more) m,
-        apart (behind (behind k y) n) c more (gone (behind k y) (local_names n) (local_names c ++ more) m),
+        apart (scope_behind k y) n (local_names c ++ more) m,
+        apart (scope_behind (scope_behind k y) n) c more (gone (scope_behind k y) (local_names n) (local_names c ++ more) m),
       )
   apart k (while_loop e y c) more h =
       let g = same_names k _ (local_names y ++ (local_names c ++ more)) (append_assoc (local_names y) (local_names c) more) h in
-      (apart_now k (while_loop e y c) more h, apart k y (local_names c ++ more) g, apart (behind k y) c more (gone k (local_names y) (local_names c ++ more) g))
+      (apart_now k (while_loop e y c) more h, apart k y (local_names c ++ more) g, apart (scope_behind k y) c more (gone k (local_names y) (local_names c ++ more) g))
   apart k (block y c) more h =
       let g = same_names k _ (local_names y ++ (local_names c ++ more)) (append_assoc (local_names y) (local_names c) more) h in
-      (apart_now k (block y c) more h, apart k y (local_names c ++ more) g, apart (behind k y) c more (gone k (local_names y) (local_names c ++ more) g))
+      (apart_now k (block y c) more h, apart k y (local_names c ++ more) g, apart (scope_behind k y) c more (gone k (local_names y) (local_names c ++ more) g))
   apart k (for_each w e y c) more h =
       let g = same_names k _ (w ∷ (local_names y ++ (local_names c ++ more))) (ap (λ l. w ∷ l) (append_assoc (local_names y) (local_names c) more)) h in (
         apart_now k (for_each w e y c) more h,

@@ -11,11 +11,11 @@ use Rattle.bw_lang.specs.declared.pieces.Piece.TheVariants as piece
 use Rattle.bw_lang.specs.declared.pieces.RawAttr.{RawAttr}
 use Rattle.bw_lang.specs.declared.pieces.RawValue.{RawValue}
 use Rattle.bw_lang.specs.declared.pieces.RawValue.TheVariants as raw
-use Rattle.bw_lang.specs.Forest.{Forest, none, text, gap, element}
-use Rattle.bw_lang.specs.Names.{same, number, with_name, with_names}
-use Rattle.bw_lang.specs.NumberedGaps.{numbered, numbered_value}
-use Rattle.bw_lang.specs.PieceGaps.{value_gaps, attr_gaps, gap_names}
-use Rattle.bw_lang.specs.PieceItems.{ReadsPieces}
+use Rattle.bw_lang.specs.Document.Forest.{Forest, none, text, gap, element}
+use Rattle.bw_lang.specs.Table.Names.{same, name_number, with_name, with_names}
+use Rattle.bw_lang.specs.Template.NumberedGaps.{numbered, numbered_value}
+use Rattle.bw_lang.specs.Template.PieceGaps.{value_gaps, attr_gaps, gap_names}
+use Rattle.bw_lang.specs.Template.PieceItems.{ReadsPieces}
 use Rattle.bw_lang.proofs.Small.{of_each}
 use Rattle.bw_lang.proofs.TableLaws.{names_stay, numbers_stay, added_are_there}
 use Rattle.bw_types.specs.declared.fault.GapKind.{GapKind}
@@ -25,7 +25,7 @@ use Rattle.bw_typed.specs.Numbered.{numbers}
 module _ (names : List (List ℕ)) where
   -- the numbers of names
   abbrev pub numbered_names : List (List ℕ) → List ℕ
-  numbered_names ns = map (number names) ns
+  numbered_names ns = map (name_number names) ns
 
   value_reads : (v : RawValue) → numbers (value_use (numbered_value names v)) ≡ numbered_names (value_gaps v)
   value_reads (raw.Fixed s) = refl
@@ -35,7 +35,7 @@ module _ (names : List (List ℕ)) where
   numbers-append a b = map-append (λ (x : ℕ × GapKind). x.0) a b
 
   names-append : (a b : List (List ℕ)) → numbered_names (a ++ b) ≡ numbered_names a ++ numbered_names b
-  names-append a b = map-append (number names) a b
+  names-append a b = map-append (name_number names) a b
 
   attrs_read : (raws : List RawAttr) → numbers (attr_uses (map (numbered names) raws)) ≡ numbered_names (attr_gaps raws)
   attrs_read [] = refl
@@ -84,39 +84,39 @@ module _ (names : List (List ℕ)) where
 pub gaps_inside : (before after : List (List ℕ)) (f : Forest) (ps : List Piece) → after ≡ with_names before (gap_names ps) → ReadsPieces after f ps []
     → All (λ x. x.0 < length after) (gap_uses f)
 gaps_inside before after f ps e h =
-    let there : All (λ n. number after n < length after) (gap_names ps) =
-    subst (λ table. All (λ n. number table n < length table) (gap_names ps)) (sym e) (added_are_there before (gap_names ps)) in
+    let there : All (λ n. name_number after n < length after) (gap_names ps) =
+    subst (λ table. All (λ n. name_number table n < length table) (gap_names ps)) (sym e) (added_are_there before (gap_names ps)) in
     of_each (λ g. g < length after) (λ (x : ℕ × GapKind). x.0) (gap_uses f)
-    (subst (All (λ g. g < length after)) (sym (all_gaps after f ps h)) (All-map (λ g. g < length after) (number after) (gap_names ps) there))
+    (subst (All (λ g. g < length after)) (sym (all_gaps after f ps h)) (All-map (λ g. g < length after) (name_number after) (gap_names ps) there))
 
 -- ---- the table has no more names than were taken in
 
 -- a name that isn't there gets the next place
-number_new : (names : List (List ℕ)) (n : List ℕ) → list_any (same n) names ≡ false → number (names ++ n ∷ []) n ≡ length names
+number_new : (names : List (List ℕ)) (n : List ℕ) → list_any (same n) names ≡ false → name_number (names ++ n ∷ []) n ≡ length names
 number_new [] n h = ap (λ b. cond (not b) 1 0) (nat_list_eq_equiv.refl n)
 number_new (m ∷ names) n h = by_test (same n m) h (number_new names n)
   where
-    by_test : (b : Bool) → (b || list_any (same n) names) ≡ false → (list_any (same n) names ≡ false → number (names ++ n ∷ []) n ≡ length names)
-        → cond (not b) (1 + number (names ++ n ∷ []) n) 0 ≡ length (m ∷ names)
+    by_test : (b : Bool) → (b || list_any (same n) names) ≡ false → (list_any (same n) names ≡ false → name_number (names ++ n ∷ []) n ≡ length names)
+        → cond (not b) (1 + name_number (names ++ n ∷ []) n) 0 ≡ length (m ∷ names)
     by_test true h ih = absurd (cc)
     by_test false h ih = omega (arith, ih h)
 
 -- a place that the name brought in is its number
 brought : (old : List (List ℕ)) (n : List ℕ) (g : ℕ) → g < length (with_name old n)
-    → (g < length old) ⊎ ((number (with_name old n) n ≡ g) × (g < length (with_name old n)))
+    → (g < length old) ⊎ ((name_number (with_name old n) n ≡ g) × (g < length (with_name old n)))
 brought old n g h = by_test (list_any (same n) old) refl h
   where
     last : (a : ℕ) → g < suc a → (g < a) ⊎ (a ≡ g)
     last a h = grind arith
 
     by_test : (b : Bool) → list_any (same n) old ≡ b → g < length (if b then old else old ++ n ∷ [])
-        → (g < length old) ⊎ ((number (if b then old else old ++ n ∷ []) n ≡ g) × (g < length (if b then old else old ++ n ∷ [])))
+        → (g < length old) ⊎ ((name_number (if b then old else old ++ n ∷ []) n ≡ g) × (g < length (if b then old else old ++ n ∷ [])))
     by_test true e h = inl h
     by_test false e h = elim (last (length old) (omega (arith, h, length-append old (n ∷ [])))) [ inl l ↦ inl l | inr s ↦ inr (number_new old n e ∙ s, h) ]
 
 -- each place of the table is one that it had, or the number of a name that was taken in
 pub covered : (old added : List (List ℕ)) (g : ℕ) → g < length (with_names old added)
-    → (g < length old) ⊎ Contains (map (number (with_names old added)) added) g
+    → (g < length old) ⊎ Contains (map (name_number (with_names old added)) added) g
 covered old [] g h = inl h
 covered old (n ∷ added) g h = elim (covered (with_name old n) added g h) [
   | inl l ↦ elim (brought old n g l) [

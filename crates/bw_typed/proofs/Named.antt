@@ -11,9 +11,9 @@ use Rattle.bw_lang.specs.declared.service.Shared.{Shared}
 use Rattle.bw_lang.specs.declared.service.Template.{Template}
 use Rattle.bw_lang.specs.declared.stmt.Kind.{Kind}
 use Rattle.bw_lang.specs.declared.stmt.Kind.TheVariants.{Int, Bool as Truth, Str, Html}
-use Rattle.bw_lang.specs.Names.{same, number}
-use Rattle.bw_lang.specs.Reads.{IsReadable}
-use Rattle.bw_lang.specs.Term.{no_more, filling}
+use Rattle.bw_lang.specs.Table.Names.{same, name_number}
+use Rattle.bw_lang.specs.Service.Reads.{IsReadable}
+use Rattle.bw_lang.specs.Service.Term.{no_more, filling}
 use Rattle.bw_lang.proofs.Small.{readable_is_woven}
 use Rattle.bw_types.specs.declared.fault.GapKind.{GapKind}
 use Rattle.bw_types.specs.Faults.{literal_kind}
@@ -86,7 +86,7 @@ kind_inside s h g e =
 
 pub gaps_have_numbers : GapsHaveNumbers
 gaps_have_numbers s h w kind e =
-    let l = kind_inside s h (number s.gaps w) (ap is_some e) in
+    let l = kind_inside s h (name_number s.gaps w) (ap is_some e) in
     record { numbered = at_place (same w) s.gaps l; inside = l; has_kind = e }
 
 pub plugs_are_known : PlugsAreKnown

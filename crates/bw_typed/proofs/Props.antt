@@ -7,10 +7,10 @@ use Rattle.bw_lang.specs.declared.service.Literal.TheVariants as literals
 use Rattle.bw_lang.specs.declared.service.Session.{Session}
 use Rattle.bw_lang.specs.declared.service.Shared.{Shared}
 use Rattle.bw_lang.specs.declared.stmt.Receive.{Receive}
-use Rattle.bw_lang.specs.Code.{Code, done, declare, assign, if_then, if_else, while_loop, block, for_each, show, exit}
-use Rattle.bw_lang.specs.Levels.{IsSome, IsWritable, Levelled, AreLevelled}
-use Rattle.bw_lang.specs.Spelling.{HaveTargets, IsCode}
-use Rattle.bw_lang.specs.Term.{Term, int, truth, string, name, paren, not, neg, binary, call, plug, nothing, Fillings, no_more, filling}
+use Rattle.bw_lang.specs.Service.Code.{Code, done, declare, assign, if_then, if_else, while_loop, block, for_each, show, exit}
+use Rattle.bw_lang.specs.Text.Levels.{IsSome, IsWritable, Levelled, AreLevelled}
+use Rattle.bw_lang.specs.Text.Spelling.{HaveTargets, IsCode}
+use Rattle.bw_lang.specs.Service.Term.{Term, int, truth, string, name, paren, not, neg, binary, call, plug, nothing, Fillings, no_more, filling}
 use Rattle.std.specs.Prelude.{ℤ, pos, negsuc}
 use Rattle.bw_typed.specs.ShortNames.{HasShortNames, HaveShortNames, CodeHasShortNames, NamesShort, IsShortShared, IsShortSession}
 use Rattle.bw_typed.specs.Strings.{EachString, EachFilled, CodeStrings, LiteralString}

@@ -8,13 +8,13 @@ use Rattle.bw_lang.specs.declared.declaration.Declaration.TheVariants as declara
 use Rattle.bw_lang.specs.declared.declaration.Draft.{Draft}
 use Rattle.bw_lang.specs.declared.declaration.Draft.TheVariants as drafts
 use Rattle.bw_lang.specs.declared.service.Template.{Template}
-use Rattle.bw_lang.specs.Drafts.{IsFormed, AreFormed, IsShareable}
-use Rattle.bw_lang.specs.Measures.{nest}
-use Rattle.bw_lang.specs.Names.{number, Extends}
-use Rattle.bw_lang.specs.PieceGaps.{gap_names}
-use Rattle.bw_lang.specs.Reads.{IsRead, AreRead}
-use Rattle.bw_lang.specs.Sorted.{templates_of}
-use Rattle.bw_lang.specs.Spelling.{IsCode}
+use Rattle.bw_lang.specs.Service.Drafts.{IsFormed, AreFormed, IsShareable}
+use Rattle.bw_lang.specs.Document.Measures.{nest}
+use Rattle.bw_lang.specs.Table.Names.{name_number, Extends}
+use Rattle.bw_lang.specs.Template.PieceGaps.{gap_names}
+use Rattle.bw_lang.specs.Service.Reads.{IsRead, AreRead}
+use Rattle.bw_lang.specs.Service.Sorted.{templates_of}
+use Rattle.bw_lang.specs.Text.Spelling.{IsCode}
 use Rattle.bw_lang.proofs.TableLaws.{extends_refl, extends_trans, names_stay}
 use Rattle.bw_tmpl.specs.Markup.{IsMarkup}
 use Rattle.bw_tmpl.proofs.Made.{reads_markup}
@@ -88,7 +88,7 @@ place_here before (drafts.Template n i) (declarations.Template t) after rs g h l
     elim (covered before ns g (subst (λ table. g < length table) e l)) [
       | inl k ↦ inl k
       | inr c ↦ inr (in_template t (templates_of rs) g
-          (subst (λ l. Contains l g) (ap (λ table. map (number table) ns) (sym e) ∙ sym (all_gaps after t.items h.1.read.pieces h.1.read.reads)) c))
+          (subst (λ l. Contains l g) (ap (λ table. map (name_number table) ns) (sym e) ∙ sym (all_gaps after t.items h.1.read.pieces h.1.read.reads)) c))
     ]
 place_here before (drafts.Shared k n i) (declarations.Shared v) after rs g h l = inl (subst (λ table. g < length table) h.1 l)
 place_here before (drafts.Session s) (declarations.Session t) after rs g h l = inl (subst (λ table. g < length table) h.1 l)

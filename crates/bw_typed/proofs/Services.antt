@@ -9,12 +9,12 @@ use Rattle.bw_lang.specs.declared.service.Service.{Service}
 use Rattle.bw_lang.specs.declared.service.Session.{Session}
 use Rattle.bw_lang.specs.declared.service.Shared.{Shared}
 use Rattle.bw_lang.specs.declared.service.Template.{Template}
-use Rattle.bw_lang.specs.Drafts.{IsShareable}
-use Rattle.bw_lang.specs.Forest.{Forest}
-use Rattle.bw_lang.specs.Measures.{constant_weight, nest}
-use Rattle.bw_lang.specs.Reads.{Reads}
-use Rattle.bw_lang.specs.Sorted.{as_template, as_shared, as_session, templates_of}
-use Rattle.bw_lang.specs.Spelling.{IsCode}
+use Rattle.bw_lang.specs.Service.Drafts.{IsShareable}
+use Rattle.bw_lang.specs.Document.Forest.{Forest}
+use Rattle.bw_lang.specs.Document.Measures.{constant_weight, nest}
+use Rattle.bw_lang.specs.Service.Reads.{Reads}
+use Rattle.bw_lang.specs.Service.Sorted.{as_template, as_shared, as_session, templates_of}
+use Rattle.bw_lang.specs.Text.Spelling.{IsCode}
 use Rattle.bw_lang.proofs.Small.{all_within, of_each}
 use Rattle.bw_tmpl.specs.Markup.{IsMarkup}
 use Rattle.bw_types.proofs.Differing.{all_sorted}

@@ -4,9 +4,9 @@ use Rattle.std.specs.List.{All}
 use Rattle.std.proofs.lemmas.List.Elements.{All-cons, All-nil, All-head, All-tail}
 use Rattle.bw_lang.specs.declared.limits.Leaf.TheVariants as leaves
 use Rattle.bw_lang.specs.declared.stmt.Receive.{Receive}
-use Rattle.bw_lang.specs.Code.{Code, done, declare, assign, if_then, if_else, while_loop, block, for_each, show, exit}
-use Rattle.bw_lang.specs.Limits.{term_lengths, pair_lengths, receive_lengths, code_lengths}
-use Rattle.bw_lang.specs.Term.{Term, int, truth, string, name, paren, not, neg, binary, call, plug, nothing, Fillings, no_more, filling}
+use Rattle.bw_lang.specs.Service.Code.{Code, done, declare, assign, if_then, if_else, while_loop, block, for_each, show, exit}
+use Rattle.bw_lang.specs.Service.Limits.{term_lengths, pair_lengths, receive_lengths, code_lengths}
+use Rattle.bw_lang.specs.Service.Term.{Term, int, truth, string, name, paren, not, neg, binary, call, plug, nothing, Fillings, no_more, filling}
 use Rattle.bw_types.proofs.Parts.{all_first, all_behind}
 use Rattle.bw_typed.specs.ShortNames.{IsShortName, HasShortNames, HaveShortNames, IsShortReceive, CodeHasShortNames}
 use Rattle.bw_typed.specs.ShortStrings.{HasShort, HaveShort, CodeHasShort}

@@ -14,13 +14,13 @@ use Rattle.bw_lang.specs.declared.items.AttrValue.TheVariants.{Fixed, Hole}
 use Rattle.bw_lang.specs.declared.limits.Leaf.TheVariants as leaves
 use Rattle.bw_lang.specs.declared.service.Service.{Service}
 use Rattle.bw_lang.specs.declared.stmt.Receive.{Receive}
-use Rattle.bw_lang.specs.Code.{Code, done, declare, assign, if_then, if_else, while_loop, block, for_each, show, exit}
-use Rattle.bw_lang.specs.CodeNames.{received_fields}
-use Rattle.bw_lang.specs.Controls.{fixed, fixed_value, is_control, unless_empty, control_name, control_names}
-use Rattle.bw_lang.specs.Forest.{Forest, none, text, gap, element}
-use Rattle.bw_lang.specs.Limits.{gap_length, value_lengths, attr_lengths, item_lengths, code_lengths, declared_fields}
-use Rattle.bw_lang.specs.Names.{same}
-use Rattle.bw_lang.specs.Reads.{Reads}
+use Rattle.bw_lang.specs.Service.Code.{Code, done, declare, assign, if_then, if_else, while_loop, block, for_each, show, exit}
+use Rattle.bw_lang.specs.Service.CodeNames.{received_fields}
+use Rattle.bw_lang.specs.Template.Controls.{fixed, fixed_value, is_control, unless_empty, control_name, control_names}
+use Rattle.bw_lang.specs.Document.Forest.{Forest, none, text, gap, element}
+use Rattle.bw_lang.specs.Service.Limits.{gap_length, value_lengths, attr_lengths, item_lengths, code_lengths, declared_fields}
+use Rattle.bw_lang.specs.Table.Names.{same}
+use Rattle.bw_lang.specs.Service.Reads.{Reads}
 use Rattle.bw_lang.proofs.Small.{declarations_are}
 use Rattle.bw_types.specs.Fields.{field_names}
 use Rattle.bw_types.proofs.Parts.{all_parts}

@@ -11,9 +11,9 @@ use Rattle.bw_lang.specs.declared.service.Literal.TheVariants as literals
 use Rattle.bw_lang.specs.declared.service.Service.{Service}
 use Rattle.bw_lang.specs.declared.service.Session.{Session}
 use Rattle.bw_lang.specs.declared.service.Shared.{Shared}
-use Rattle.bw_lang.specs.Limits.{declaration_lengths, literal_lengths}
-use Rattle.bw_lang.specs.Reads.{Reads}
-use Rattle.bw_lang.specs.Sorted.{as_shared, as_session}
+use Rattle.bw_lang.specs.Service.Limits.{declaration_lengths, literal_lengths}
+use Rattle.bw_lang.specs.Service.Reads.{Reads}
+use Rattle.bw_lang.specs.Service.Sorted.{as_shared, as_session}
 use Rattle.bw_lang.proofs.Small.{all_within}
 use Rattle.bw_types.proofs.Differing.{all_sorted}
 use Rattle.bw_types.proofs.Parts.{parts_of_all}

@@ -8,10 +8,10 @@ use Rattle.bw_lang.specs.declared.items.Attr.{Attr}
 use Rattle.bw_lang.specs.declared.items.AttrValue.{AttrValue}
 use Rattle.bw_lang.specs.declared.items.AttrValue.TheVariants.{Fixed, Hole}
 use Rattle.bw_lang.specs.declared.service.Template.{Template}
-use Rattle.bw_lang.specs.Controls.{is_control}
-use Rattle.bw_lang.specs.Forest.{Forest, none, text, gap, element}
-use Rattle.bw_lang.specs.Limits.{gap_length, value_lengths, attr_lengths, item_lengths}
-use Rattle.bw_lang.specs.Names.{same}
+use Rattle.bw_lang.specs.Template.Controls.{is_control}
+use Rattle.bw_lang.specs.Document.Forest.{Forest, none, text, gap, element}
+use Rattle.bw_lang.specs.Service.Limits.{gap_length, value_lengths, attr_lengths, item_lengths}
+use Rattle.bw_lang.specs.Table.Names.{same}
 use Rattle.bw_types.specs.declared.fault.GapKind.{GapKind}
 use Rattle.bw_types.specs.declared.fault.GapKind.TheVariants.{Content, Attribute}
 use Rattle.bw_types.specs.Gaps.{value_use, attr_uses, gap_uses, template_uses}

@@ -15,13 +15,13 @@ use Rattle.bw_lang.specs.declared.service.Shared.{Shared}
 use Rattle.bw_lang.specs.declared.stmt.Receive.{Receive}
 use Rattle.bw_lang.specs.declared.token.Lexeme.{Lexeme}
 use Rattle.bw_lang.specs.declared.token.Lexeme.TheVariants as lex
-use Rattle.bw_lang.specs.Code.{Code, done, declare, assign, if_then, if_else, while_loop, block, for_each, show, exit}
-use Rattle.bw_lang.specs.Drafts.{literal_of, spell_literal, spell_draft, spell_drafts, spell_service}
-use Rattle.bw_lang.specs.Reads.{Reads, IsRead, AreRead}
-use Rattle.bw_lang.specs.Sorted.{as_shared, as_session}
-use Rattle.bw_lang.specs.Spelling.{spell, spell_pairs, spell_each, spell_receives, spell_code}
-use Rattle.bw_lang.specs.Term.{Term, int, truth, string, name, paren, not, neg, binary, call, plug, nothing, Fillings, no_more, filling}
-use Rattle.bw_lang.specs.Words.{op_sign}
+use Rattle.bw_lang.specs.Service.Code.{Code, done, declare, assign, if_then, if_else, while_loop, block, for_each, show, exit}
+use Rattle.bw_lang.specs.Service.Drafts.{literal_of, spell_literal, spell_draft, spell_drafts, spell_service}
+use Rattle.bw_lang.specs.Service.Reads.{Reads, IsRead, AreRead}
+use Rattle.bw_lang.specs.Service.Sorted.{as_shared, as_session}
+use Rattle.bw_lang.specs.Text.Spelling.{spell, spell_pairs, spell_each, spell_receives, spell_code}
+use Rattle.bw_lang.specs.Service.Term.{Term, int, truth, string, name, paren, not, neg, binary, call, plug, nothing, Fillings, no_more, filling}
+use Rattle.bw_lang.specs.Text.Words.{op_sign}
 use Rattle.bw_types.proofs.Differing.{all_sorted}
 use Rattle.bw_typed.specs.Strings.{EachString, EachFilled, CodeStrings, LiteralString, SessionsSayTokens, SharedSayTokens}
 

@@ -8,9 +8,9 @@ use Rattle.std.proofs.lemmas.Str.{is_utf8-from_IsUtf8}
 use Rattle.bw_lang.specs.declared.token.Lexeme.{Lexeme}
 use Rattle.bw_lang.specs.declared.token.TokenKind.{TokenKind}
 use Rattle.bw_lang.specs.declared.token.TokenKind.TheVariants as kinds
-use Rattle.bw_lang.specs.Cuts.{HasText, IsWithin}
-use Rattle.bw_lang.specs.Lexemes.{lexeme, lexeme_of}
-use Rattle.bw_lang.specs.Reads.{IsText}
+use Rattle.bw_lang.specs.Text.Cuts.{HasText, StandsIn}
+use Rattle.bw_lang.specs.Text.Lexemes.{lexeme, lexeme_of}
+use Rattle.bw_lang.specs.Service.Reads.{IsText}
 use Rattle.bw_lex.proofs.Within.{all-within}
 use Rattle.bw_typed.specs.Strings.{IsUtf8Text, SessionsAreUtf8, SharedAreUtf8}
 use Rattle.bw_typed.proofs.Props.{code_strings_prop, literal_string_prop}
@@ -26,7 +26,7 @@ kind_says kinds.Sign bytes from to h = tt
 text_says : (bytes : List ℕ) (ls : List Lexeme) → IsText bytes ls → All (Says IsUtf8Text) ls
 text_says bytes ls x =
     subst (All (Says IsUtf8Text)) (sym x.says) (All-map (Says IsUtf8Text) (lexeme bytes) x.tokens
-    (All-weaker (IsWithin bytes) (λ t. Says IsUtf8Text (lexeme bytes t)) (λ t w. kind_says t.what bytes t.start t.end w.text) x.tokens
+    (All-weaker (StandsIn bytes) (λ t. Says IsUtf8Text (lexeme bytes t)) (λ t w. kind_says t.what bytes t.start t.end w.text) x.tokens
     (all-within bytes x.tokens x.cut)))
 
 pub sessions_are_utf8 : SessionsAreUtf8

@@ -3,11 +3,11 @@ use Rattle.std.specs.Prelude.{◌≢◌, ℕ, List, [], ◌++◌, map}
 use Rattle.std.specs.List.{All, AllPairs, Contains}
 use Rattle.bw_lang.specs.declared.service.Service.{Service}
 use Rattle.bw_lang.specs.declared.stmt.Kind.TheVariants.{Str}
-use Rattle.bw_lang.specs.Code.{Code, done, declare, assign, if_then, if_else, while_loop, block, for_each, show, exit}
-use Rattle.bw_lang.specs.CodeNames.{local_names}
-use Rattle.bw_lang.specs.Reads.{IsReadable}
+use Rattle.bw_lang.specs.Service.Code.{Code, done, declare, assign, if_then, if_else, while_loop, block, for_each, show, exit}
+use Rattle.bw_lang.specs.Service.CodeNames.{local_names}
+use Rattle.bw_lang.specs.Service.Reads.{IsReadable}
 use Rattle.bw_types.specs.Faults.{IsWellTyped}
-use Rattle.bw_types.specs.Scopes.{Scope, no_locals, declared_names, with_local, behind, behind_each}
+use Rattle.bw_types.specs.Scopes.{Scope, no_locals, declared_names, with_local, scope_behind, behind_each}
 
 -- the names of the locals in scope, the newest first
 abbrev pub names_in : Scope → List (List ℕ)
@@ -27,14 +27,14 @@ AreApart service scope (declare kind w e rest) more =
     IsApart service scope (declare kind w e rest) more × AreApart service (with_local scope w kind) rest more
 AreApart service scope (assign w e rest) more = IsApart service scope (assign w e rest) more × AreApart service scope rest more
 AreApart service scope (if_then t y rest) more =
-    IsApart service scope (if_then t y rest) more × AreApart service scope y (local_names rest ++ more) × AreApart service (behind scope y) rest more
+    IsApart service scope (if_then t y rest) more × AreApart service scope y (local_names rest ++ more) × AreApart service (scope_behind scope y) rest more
 AreApart service scope (if_else t y n rest) more =
     IsApart service scope (if_else t y n rest) more × AreApart service scope y (local_names n ++ (local_names rest ++ more))
-    × AreApart service (behind scope y) n (local_names rest ++ more) × AreApart service (behind (behind scope y) n) rest more
+    × AreApart service (scope_behind scope y) n (local_names rest ++ more) × AreApart service (scope_behind (scope_behind scope y) n) rest more
 AreApart service scope (while_loop t b rest) more =
-    IsApart service scope (while_loop t b rest) more × AreApart service scope b (local_names rest ++ more) × AreApart service (behind scope b) rest more
+    IsApart service scope (while_loop t b rest) more × AreApart service scope b (local_names rest ++ more) × AreApart service (scope_behind scope b) rest more
 AreApart service scope (block b rest) more =
-    IsApart service scope (block b rest) more × AreApart service scope b (local_names rest ++ more) × AreApart service (behind scope b) rest more
+    IsApart service scope (block b rest) more × AreApart service scope b (local_names rest ++ more) × AreApart service (scope_behind scope b) rest more
 AreApart service scope (for_each w e b rest) more =
     IsApart service scope (for_each w e b rest) more × AreApart service (with_local scope w Str) b (local_names rest ++ more)
     × AreApart service (behind_each scope w b) rest more

@@ -1,7 +1,7 @@
 -- A gap, and a field, is tested against the kind of its first place in all templates. An earlier place says the same.
 use Rattle.std.specs.Prelude.{◌≡◌, ℕ, List, ◌∷◌, ◌++◌}
 use Rattle.bw_lang.specs.declared.controls.FieldKind.{FieldKind}
-use Rattle.bw_lang.specs.Names.{beside}
+use Rattle.bw_lang.specs.Table.Names.{beside}
 use Rattle.bw_types.specs.declared.fault.GapKind.{GapKind}
 use Rattle.bw_types.specs.Gaps.{gap_kind}
 use Rattle.bw_types.specs.TemplateFaults.{is_other_gap_kind, is_other_field_kind}

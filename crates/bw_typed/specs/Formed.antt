@@ -1,9 +1,9 @@
 -- The sessions and the shared variables of a service that was read.
 use Rattle.std.specs.List.{All}
 use Rattle.bw_lang.specs.declared.service.Service.{Service}
-use Rattle.bw_lang.specs.Drafts.{IsShareable}
-use Rattle.bw_lang.specs.Reads.{IsReadable}
-use Rattle.bw_lang.specs.Spelling.{IsCode}
+use Rattle.bw_lang.specs.Service.Drafts.{IsShareable}
+use Rattle.bw_lang.specs.Service.Reads.{IsReadable}
+use Rattle.bw_lang.specs.Text.Spelling.{IsCode}
 
 -- the body of each session is code
 abbrev pub BodiesAreCode : Type 0

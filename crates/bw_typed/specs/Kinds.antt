@@ -4,12 +4,12 @@ use Rattle.std.specs.List.{All}
 use Rattle.bw_lang.specs.declared.service.Service.{Service}
 use Rattle.bw_lang.specs.declared.stmt.Kind.{Kind}
 use Rattle.bw_lang.specs.declared.stmt.Kind.TheVariants.{Bool as Truth, Str, Html, Strs}
-use Rattle.bw_lang.specs.Code.{Code, done, declare, assign, if_then, if_else, while_loop, block, for_each, show, exit}
-use Rattle.bw_lang.specs.Reads.{IsReadable}
-use Rattle.bw_lang.specs.Term.{Term}
+use Rattle.bw_lang.specs.Service.Code.{Code, done, declare, assign, if_then, if_else, while_loop, block, for_each, show, exit}
+use Rattle.bw_lang.specs.Service.Reads.{IsReadable}
+use Rattle.bw_lang.specs.Service.Term.{Term}
 use Rattle.bw_types.specs.ExpressionFaults.{kind_of}
 use Rattle.bw_types.specs.Faults.{IsWellTyped}
-use Rattle.bw_types.specs.Scopes.{Scope, no_locals, variable_kind, with_local, behind, behind_each}
+use Rattle.bw_types.specs.Scopes.{Scope, no_locals, variable_kind, with_local, scope_behind, behind_each}
 use Rattle.bw_types.specs.Typing.{HasKind, IsTypedSession}
 
 -- what has a kind has the one that is found for it
@@ -28,13 +28,13 @@ MeetsKinds service scope (declare kind w e rest) = (kind_of service scope e ≡ 
 MeetsKinds service scope (assign w e rest) =
     ((kind : Kind) × (variable_kind service scope w ≡ Some kind) × (kind_of service scope e ≡ Some kind)) × MeetsKinds service scope rest
 MeetsKinds service scope (if_then t y rest) =
-    (kind_of service scope t ≡ Some Truth) × MeetsKinds service scope y × MeetsKinds service (behind scope y) rest
+    (kind_of service scope t ≡ Some Truth) × MeetsKinds service scope y × MeetsKinds service (scope_behind scope y) rest
 MeetsKinds service scope (if_else t y n rest) =
-    (kind_of service scope t ≡ Some Truth) × MeetsKinds service scope y × MeetsKinds service (behind scope y) n
-    × MeetsKinds service (behind (behind scope y) n) rest
+    (kind_of service scope t ≡ Some Truth) × MeetsKinds service scope y × MeetsKinds service (scope_behind scope y) n
+    × MeetsKinds service (scope_behind (scope_behind scope y) n) rest
 MeetsKinds service scope (while_loop t b rest) =
-    (kind_of service scope t ≡ Some Truth) × MeetsKinds service scope b × MeetsKinds service (behind scope b) rest
-MeetsKinds service scope (block b rest) = MeetsKinds service scope b × MeetsKinds service (behind scope b) rest
+    (kind_of service scope t ≡ Some Truth) × MeetsKinds service scope b × MeetsKinds service (scope_behind scope b) rest
+MeetsKinds service scope (block b rest) = MeetsKinds service scope b × MeetsKinds service (scope_behind scope b) rest
 MeetsKinds service scope (for_each w e b rest) =
     (kind_of service scope e ≡ Some Strs) × MeetsKinds service (with_local scope w Str) b × MeetsKinds service (behind_each scope w b) rest
 MeetsKinds service scope (show p rs rest) = (kind_of service scope p ≡ Some Html) × MeetsKinds service scope rest

@@ -1,11 +1,11 @@
+pub mod Apart
+pub mod Earlier
 pub mod Formed
+pub mod Kinds
+pub mod Markup
 pub mod Measured
+pub mod Named
 pub mod Numbered
 pub mod ShortNames
 pub mod ShortStrings
-pub mod Kinds
-pub mod Markup
-pub mod Named
-pub mod Apart
-pub mod Earlier
 pub mod Strings

@@ -2,7 +2,7 @@
 use Rattle.std.specs.Prelude.{ℕ, List}
 use Rattle.std.specs.List.{All}
 use Rattle.bw_lang.specs.declared.service.Service.{Service}
-use Rattle.bw_lang.specs.Reads.{Reads}
+use Rattle.bw_lang.specs.Service.Reads.{Reads}
 use Rattle.bw_tmpl.specs.Markup.{IsMarkup}
 
 abbrev pub TemplatesAreMarkup : Type 0

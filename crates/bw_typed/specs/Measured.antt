@@ -2,9 +2,9 @@
 use Rattle.std.specs.Prelude.{◌≤◌}
 use Rattle.std.specs.List.{All}
 use Rattle.bw_lang.specs.declared.service.Service.{Service}
-use Rattle.bw_lang.specs.Forest.{Forest}
-use Rattle.bw_lang.specs.Measures.{constant_weight, constant_measure, nest, IsWithin}
-use Rattle.bw_lang.specs.Reads.{IsReadable}
+use Rattle.bw_lang.specs.Document.Forest.{Forest}
+use Rattle.bw_lang.specs.Document.Measures.{constant_weight, constant_measure, nest, IsWithin}
+use Rattle.bw_lang.specs.Service.Reads.{IsReadable}
 
 -- the constant of these items is small, and so within the limits of documents
 pub record IsMeasured (items : Forest) : Type 0 where

@@ -6,9 +6,9 @@ use Rattle.bw_lang.specs.declared.service.Literal.TheVariants as literals
 use Rattle.bw_lang.specs.declared.service.Service.{Service}
 use Rattle.bw_lang.specs.declared.stmt.Kind.{Kind}
 use Rattle.bw_lang.specs.declared.stmt.Kind.TheVariants.{Int, Bool as Truth, Str, Html}
-use Rattle.bw_lang.specs.Names.{number}
-use Rattle.bw_lang.specs.Reads.{IsReadable}
-use Rattle.bw_lang.specs.Term.{Fillings, no_more, filling}
+use Rattle.bw_lang.specs.Table.Names.{name_number}
+use Rattle.bw_lang.specs.Service.Reads.{IsReadable}
+use Rattle.bw_lang.specs.Service.Term.{Fillings, no_more, filling}
 use Rattle.bw_types.specs.declared.fault.GapKind.{GapKind}
 use Rattle.bw_types.specs.Faults.{IsWellTyped}
 use Rattle.bw_types.specs.Gaps.{gap_number, kind_of_gap, kind_of_number}
@@ -32,9 +32,9 @@ SharedBegin = (service : Service) → ∥ IsReadable service ∥₁ → IsWellTy
 
 -- the name is that of a gap of this kind: it has a number, of the table of gaps, and the kind is that of its number
 pub record IsGapOf (service : Service) (w : List ℕ) (kind : GapKind) : Type 0 where
-  pub numbered : gap_number service w ≡ Some (number service.gaps w)
-  pub inside : number service.gaps w < length service.gaps
-  pub has_kind : kind_of_number service (number service.gaps w) ≡ Some kind
+  pub numbered : gap_number service w ≡ Some (name_number service.gaps w)
+  pub inside : name_number service.gaps w < length service.gaps
+  pub has_kind : kind_of_number service (name_number service.gaps w) ≡ Some kind
 
 -- a name that has the kind of a gap is that of one
 abbrev pub GapsHaveNumbers : Type 0

@@ -2,7 +2,7 @@
 use Rattle.std.specs.Prelude.{◌<◌, ℕ, List, length, map}
 use Rattle.std.specs.List.{All, Contains}
 use Rattle.bw_lang.specs.declared.service.Service.{Service}
-use Rattle.bw_lang.specs.Reads.{IsReadable}
+use Rattle.bw_lang.specs.Service.Reads.{IsReadable}
 use Rattle.bw_types.specs.declared.fault.GapKind.{GapKind}
 use Rattle.bw_types.specs.Gaps.{gap_uses, template_uses}
 

@@ -3,9 +3,9 @@ use Rattle.std.specs.Prelude.{◌≤◌, ℕ, List, length}
 use Rattle.std.specs.List.{All}
 use Rattle.bw_lang.specs.declared.service.Literal.{Literal}
 use Rattle.bw_lang.specs.declared.service.Service.{Service}
-use Rattle.bw_lang.specs.Code.{Code}
-use Rattle.bw_lang.specs.Reads.{IsReadable}
-use Rattle.bw_lang.specs.Term.{Term, Fillings}
+use Rattle.bw_lang.specs.Service.Code.{Code}
+use Rattle.bw_lang.specs.Service.Reads.{IsReadable}
+use Rattle.bw_lang.specs.Service.Term.{Term, Fillings}
 use Rattle.bw_typed.specs.Strings.{EachString, EachFilled, CodeStrings, LiteralString}
 
 abbrev pub IsShort : List ℕ → Type 0

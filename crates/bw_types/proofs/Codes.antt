@@ -7,16 +7,16 @@ use Rattle.bw_lang.specs.declared.stmt.Kind.{Kind}
 use Rattle.bw_lang.specs.declared.stmt.Kind.TheVariants as kinds
 use Rattle.bw_lang.specs.declared.stmt.Stmt.{Stmt}
 use Rattle.bw_lang.specs.declared.stmt.Stmt.TheVariants.{Declare, Assign, If, While, Block, Each, Show, Exit}
-use Rattle.bw_lang.specs.Code.{Code, done, declare, assign, if_then, if_else, while_loop, block, for_each, show, exit}
-use Rattle.bw_lang.specs.CodeNames.{local_names}
-use Rattle.bw_lang.specs.CodeView.{before, code}
-use Rattle.bw_lang.specs.Term.{Term}
-use Rattle.bw_lang.specs.TermView.{term}
+use Rattle.bw_lang.specs.Service.Code.{Code, done, declare, assign, if_then, if_else, while_loop, block, for_each, show, exit}
+use Rattle.bw_lang.specs.Service.CodeNames.{local_names}
+use Rattle.bw_lang.specs.Service.CodeView.{before, code}
+use Rattle.bw_lang.specs.Service.Term.{Term}
+use Rattle.bw_lang.specs.Service.TermView.{term}
 use Rattle.std.specs.Prelude.{slice_get}
 use Rattle.bw_types.specs.declared.fault.TypeFault.{TypeFault}
 use Rattle.bw_types.specs.Faults.{code_faults, ends_in_exit}
 use Rattle.bw_types.specs.Places.{after, outside}
-use Rattle.bw_types.specs.Scopes.{Scope, with_local, behind, behind_each}
+use Rattle.bw_types.specs.Scopes.{Scope, with_local, scope_behind, behind_each}
 use Rattle.bw_types.proofs.First.{drop_more}
 
 -- ---- one statement more
@@ -71,10 +71,10 @@ locals_after : (k : Scope) (a : Code) → (after k a).locals ≡ added a ++ k.lo
 locals_after k done = refl
 locals_after k (declare t w e a) = locals_after (with_local k w t) a ∙ sym (append_assoc (added a) ((w, t) ∷ []) k.locals)
 locals_after k (assign w e a) = locals_after k a
-locals_after k (if_then t y a) = locals_after (behind k y) a
-locals_after k (if_else t y n a) = locals_after (behind (behind k y) n) a
-locals_after k (while_loop t y a) = locals_after (behind k y) a
-locals_after k (block y a) = locals_after (behind k y) a
+locals_after k (if_then t y a) = locals_after (scope_behind k y) a
+locals_after k (if_else t y n a) = locals_after (scope_behind (scope_behind k y) n) a
+locals_after k (while_loop t y a) = locals_after (scope_behind k y) a
+locals_after k (block y a) = locals_after (scope_behind k y) a
 locals_after k (for_each w e y a) = locals_after (behind_each k w y) a
 locals_after k (show p rs a) = locals_after k a
 locals_after k (exit p a) = locals_after k a
@@ -83,17 +83,17 @@ taken_after : (k : Scope) (a : Code) → (after k a).taken ≡ k.taken ++ local_
 taken_after k done = sym (append-nil k.taken)
 taken_after k (declare t w e a) = taken_after (with_local k w t) a ∙ append_assoc k.taken (w ∷ []) (local_names a)
 taken_after k (assign w e a) = taken_after k a
-taken_after k (if_then t y a) = taken_after (behind k y) a ∙ append_assoc k.taken (local_names y) (local_names a)
+taken_after k (if_then t y a) = taken_after (scope_behind k y) a ∙ append_assoc k.taken (local_names y) (local_names a)
 taken_after k (if_else t y n a) =
-    taken_after (behind (behind k y) n) a ∙ append_assoc (k.taken ++ local_names y) (local_names n) (local_names a) ∙ append_assoc k.taken (local_names y) (local_names n ++ local_names a)
-taken_after k (while_loop t y a) = taken_after (behind k y) a ∙ append_assoc k.taken (local_names y) (local_names a)
-taken_after k (block y a) = taken_after (behind k y) a ∙ append_assoc k.taken (local_names y) (local_names a)
+    taken_after (scope_behind (scope_behind k y) n) a ∙ append_assoc (k.taken ++ local_names y) (local_names n) (local_names a) ∙ append_assoc k.taken (local_names y) (local_names n ++ local_names a)
+taken_after k (while_loop t y a) = taken_after (scope_behind k y) a ∙ append_assoc k.taken (local_names y) (local_names a)
+taken_after k (block y a) = taken_after (scope_behind k y) a ∙ append_assoc k.taken (local_names y) (local_names a)
 taken_after k (for_each w e y a) = taken_after (behind_each k w y) a ∙ append_assoc k.taken (w ∷ local_names y) (local_names a)
 taken_after k (show p rs a) = taken_after k a
 taken_after k (exit p a) = taken_after k a
 
 -- leaving a block
-pub outside-after : (k : Scope) (a : Code) → outside (length k.locals) (after k a) ≡ behind k a
+pub outside-after : (k : Scope) (a : Code) → outside (length k.locals) (after k a) ≡ scope_behind k a
 outside-after k a =
     let m = after k a in
     let n : length m.locals - length k.locals ≡ length (added a) = omega (arith, ap length (locals_after k a), length-append (added a) k.locals) in
@@ -101,7 +101,7 @@ outside-after k a =
     ap (λ x. record { locals = x; taken = m.taken }) l ∙ ap (λ x. record { locals = k.locals; taken = x }) (taken_after k a)
 
 -- leaving a foreach: its local goes too
-pub outside-each : (k : Scope) (w : List ℕ) (y : Code) → outside (length k.locals) (behind (with_local k w kinds.Str) y) ≡ behind_each k w y
+pub outside-each : (k : Scope) (w : List ℕ) (y : Code) → outside (length k.locals) (scope_behind (with_local k w kinds.Str) y) ≡ behind_each k w y
 outside-each k w y =
     let n : length ((w, kinds.Str) ∷ k.locals) - length k.locals ≡ 1 = omega arith in
     ap (λ i. record { locals = drop i ((w, kinds.Str) ∷ k.locals); taken = (k.taken ++ w ∷ []) ++ local_names y }) n

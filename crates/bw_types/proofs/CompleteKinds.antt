@@ -7,16 +7,16 @@ use Rattle.bw_lang.specs.declared.service.Service.{Service}
 use Rattle.bw_lang.specs.declared.stmt.Kind.{Kind}
 use Rattle.bw_lang.specs.declared.stmt.Kind.TheVariants.{Int, Bool as Truth, Str, Html, Strs}
 use Rattle.bw_lang.specs.declared.stmt.Receive.{Receive}
-use Rattle.bw_lang.specs.Code.{Code, done, declare, assign, if_then, if_else, while_loop, block, for_each, show, exit}
-use Rattle.bw_lang.specs.Term as t
-use Rattle.bw_lang.specs.Term.{Term, Fillings, no_more, filling}
+use Rattle.bw_lang.specs.Service.Code.{Code, done, declare, assign, if_then, if_else, while_loop, block, for_each, show, exit}
+use Rattle.bw_lang.specs.Service.Term as t
+use Rattle.bw_lang.specs.Service.Term.{Term, Fillings, no_more, filling}
 use Rattle.bw_types.specs.declared.fault.GapKind.{GapKind}
 use Rattle.bw_types.specs.declared.fault.GapKind.TheVariants.{Content, Attribute}
 use Rattle.bw_types.specs.declared.fault.TypeFault.TheVariants as faults
 use Rattle.bw_types.specs.ExpressionFaults.{OpSort, joins_truths, tests_equality, compares, adds, computes, op_sort, op_kind, fun_takes, kind_of, demand, demand_same, demand_sum, left_demand, right_demand, gap_demand, gap_unknown, name_unknown, faults_in, faults_in_pairs, wanted}
 use Rattle.bw_types.specs.Faults.{code_faults, receive_fault, demand_received, local_repeated, local_faults}
 use Rattle.bw_types.specs.Gaps.{kind_of_gap}
-use Rattle.bw_types.specs.Scopes.{Scope, is_among, declared_names, name_kind, variable_kind, with_local, behind, behind_each}
+use Rattle.bw_types.specs.Scopes.{Scope, is_among, declared_names, name_kind, variable_kind, with_local, scope_behind, behind_each}
 use Rattle.bw_types.proofs.Elements.{passing}
 use Rattle.bw_types.proofs.Differing.{among_none}
 use Rattle.bw_types.proofs.Parts.{none_of_both}
@@ -131,13 +131,13 @@ code_passes s k (assign w e a) h =
     none_of_both (name_unknown w v) _ (known w v h.0.0 h.0.1)
     (none_of_both (faults_in s k e) _ p.0 (none_of_both (demand_same v (kind_of s k e)) _ (ap (λ o. demand_same o (kind_of s k e)) h.0.1 ∙ demand_met h.0.0 (kind_of s k e) p.1) (code_passes s k a h.1)))
 code_passes s k (if_then e y a) h =
-    none_of_both (wanted s k Truth e) _ (wanted_passes s k Truth e h.0) (none_of_both (code_faults s k y) _ (code_passes s k y h.1) (code_passes s (behind k y) a h.2))
+    none_of_both (wanted s k Truth e) _ (wanted_passes s k Truth e h.0) (none_of_both (code_faults s k y) _ (code_passes s k y h.1) (code_passes s (scope_behind k y) a h.2))
 code_passes s k (if_else e y n a) h =
     none_of_both (wanted s k Truth e) _ (wanted_passes s k Truth e h.0)
-    (none_of_both (code_faults s k y) _ (code_passes s k y h.1) (none_of_both (code_faults s (behind k y) n) _ (code_passes s (behind k y) n h.2) (code_passes s (behind (behind k y) n) a h.3)))
+    (none_of_both (code_faults s k y) _ (code_passes s k y h.1) (none_of_both (code_faults s (scope_behind k y) n) _ (code_passes s (scope_behind k y) n h.2) (code_passes s (scope_behind (scope_behind k y) n) a h.3)))
 code_passes s k (while_loop e y a) h =
-    none_of_both (wanted s k Truth e) _ (wanted_passes s k Truth e h.0) (none_of_both (code_faults s k y) _ (code_passes s k y h.1) (code_passes s (behind k y) a h.2))
-code_passes s k (block y a) h = none_of_both (code_faults s k y) _ (code_passes s k y h.0) (code_passes s (behind k y) a h.1)
+    none_of_both (wanted s k Truth e) _ (wanted_passes s k Truth e h.0) (none_of_both (code_faults s k y) _ (code_passes s k y h.1) (code_passes s (scope_behind k y) a h.2))
+code_passes s k (block y a) h = none_of_both (code_faults s k y) _ (code_passes s k y h.0) (code_passes s (scope_behind k y) a h.1)
 code_passes s k (for_each w e y a) h =
     none_of_both (local_faults s k w Strs e) _ (local_passes s k w Strs e h.0 h.1)
     (none_of_both (code_faults s (with_local k w Str) y) _ (code_passes s (with_local k w Str) y h.2) (code_passes s (behind_each k w y) a h.3))

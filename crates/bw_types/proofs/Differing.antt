@@ -10,7 +10,7 @@ use Rattle.std.proofs.lemmas.List.Kept.{AllPairs-cons}
 use Rattle.std.proofs.lemmas.List.Quantifiers.{all_pairs_push}
 use Rattle.std.proofs.Math.Seq.{get_or-append_seam}
 use Rattle.bw_lang.specs.declared.declaration.Declaration.{Declaration}
-use Rattle.bw_lang.specs.Names.{same, with_names}
+use Rattle.bw_lang.specs.Table.Names.{same, with_names}
 use Rattle.bw_lang.proofs.Small.{of_each}
 use Rattle.bw_types.specs.declared.fault.TypeFault.TheVariants as faults
 use Rattle.bw_types.specs.Scopes.{is_among, name_of}

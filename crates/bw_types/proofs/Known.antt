@@ -5,9 +5,9 @@ use Rattle.bw_lang.specs.declared.declaration.Declaration.{Declaration}
 use Rattle.bw_lang.specs.declared.declaration.Declaration.TheVariants as declarations
 use Rattle.bw_lang.specs.declared.service.Service.{Service}
 use Rattle.bw_lang.specs.declared.stmt.Kind.{Kind}
-use Rattle.bw_lang.specs.Names.{same, beside}
-use Rattle.bw_lang.specs.Order.{declarations_of, IsWoven}
-use Rattle.bw_lang.specs.Sorted.{templates_of, shared_of, sessions_of}
+use Rattle.bw_lang.specs.Table.Names.{same, beside}
+use Rattle.bw_lang.specs.Service.Order.{declarations_of, IsWoven}
+use Rattle.bw_lang.specs.Service.Sorted.{templates_of, shared_of, sessions_of}
 use Rattle.bw_types.specs.declared.tables.Tables.{Tables}
 use Rattle.bw_types.specs.Fields.{kind_of_field, template_fields}
 use Rattle.bw_types.specs.Gaps.{gap_kind, kind_of_number, template_uses}

@@ -5,9 +5,9 @@ use Rattle.std.proofs.lemmas.List.{reverse-append, length-reverse, take-append-d
 use Rattle.std.proofs.Math.Seq.{drop-append_seam}
 use Rattle.indexmap.proofs.ReorderLemmas.{map-reverse}
 use Rattle.bw_lang.specs.declared.stmt.Kind.{Kind}
-use Rattle.bw_lang.specs.Names.{same}
+use Rattle.bw_lang.specs.Table.Names.{same}
 use Rattle.bw_types.specs.declared.locals.Local.{Local}
-use Rattle.bw_lang.specs.Names.{beside}
+use Rattle.bw_lang.specs.Table.Names.{beside}
 use Rattle.bw_types.specs.Scopes.{Scope}
 
 abbrev pub named : Local → List ℕ × Kind

@@ -3,10 +3,10 @@ use Rattle.std.proofs.Common.{◌≡◌, ℕ, ◌+◌, ◌<◌, List, ◌∷◌,
 use Rattle.std.proofs.lemmas.List.Sums.{fold-append}
 use Rattle.bw_lang.specs.declared.controls.FieldKind.{FieldKind}
 use Rattle.bw_lang.specs.declared.items.Item.{Item}
-use Rattle.bw_lang.specs.Controls.{fields}
-use Rattle.bw_lang.specs.Documents.{append}
-use Rattle.bw_lang.specs.Forest.{Forest, none, text, gap, element}
-use Rattle.bw_lang.specs.View.{forest, before}
+use Rattle.bw_lang.specs.Template.Controls.{fields}
+use Rattle.bw_lang.specs.Document.Documents.{append}
+use Rattle.bw_lang.specs.Document.Forest.{Forest, none, text, gap, element}
+use Rattle.bw_lang.specs.Document.View.{forest, before}
 use Rattle.bw_lang.proofs.Forests.{forest_at_read}
 use Rattle.bw_types.specs.declared.fault.GapKind.{GapKind}
 use Rattle.bw_types.specs.declared.fault.GapKind.TheVariants.{Content}

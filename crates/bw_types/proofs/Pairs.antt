@@ -2,8 +2,8 @@
 use Rattle.std.proofs.Common.{◌≡◌, ℕ, ◌<◌, List, [], ◌∷◌, ◌++◌, length, get_or, zero, suc, refl, arith, append_assoc, append-nil}
 use Rattle.bw_lang.specs.declared.expr.Pair.{Pair}
 use Rattle.bw_lang.specs.declared.service.Service.{Service}
-use Rattle.bw_lang.specs.Term.{nodes, nodes_in, filling, no_more}
-use Rattle.bw_lang.specs.TermView.{term, fillings}
+use Rattle.bw_lang.specs.Service.Term.{nodes, nodes_in, filling, no_more}
+use Rattle.bw_lang.specs.Service.TermView.{term, fillings}
 use Rattle.bw_types.specs.declared.fault.TypeFault.{TypeFault}
 use Rattle.bw_types.specs.ExpressionFaults.{faults_in_pairs}
 use Rattle.bw_types.specs.Scopes.{Scope}

@@ -7,11 +7,11 @@ use Rattle.std.proofs.lemmas.Bool.{eqb-true}
 use Rattle.std.proofs.lemmas.Bool.Decides.{nat_tests}
 use Rattle.std.proofs.lemmas.List.Folds.{list_any-append}
 use Rattle.std.proofs.lemmas.Slice.Eq.{bytes_eq-Decides}
-use Rattle.bw_lang.specs.Names.{same, number, with_name, with_names}
+use Rattle.bw_lang.specs.Table.Names.{same, name_number, with_name, with_names}
 use Rattle.bw_lang.proofs.TableLaws.{known}
 use Rattle.bw_types.specs.declared.fault.GapKind.{GapKind}
 use Rattle.bw_types.specs.Gaps.{gap_kind}
-use Rattle.bw_lang.specs.Names.{beside}
+use Rattle.bw_lang.specs.Table.Names.{beside}
 use Rattle.bw_types.specs.Scopes.{is_among}
 use Rattle.bw_types.specs.Tables.{with_kind, with_kinds, with_use, with_uses}
 
@@ -96,11 +96,11 @@ gap_kind-append g a b = seek-append is_gap g a b
 
 -- ---- names that are among others
 
-missed : (names : List (List ℕ)) (w : List ℕ) → list_any (same w) names ≡ false → length names ≤ number names w
+missed : (names : List (List ℕ)) (w : List ℕ) → list_any (same w) names ≡ false → length names ≤ name_number names w
 missed [] w h = omega arith
 missed (m ∷ names) w h = by_test (same w m) h (missed names w)
   where
-    by_test : (b : Bool) → (b || list_any (same w) names) ≡ false → (list_any (same w) names ≡ false → length names ≤ number names w) → length (m ∷ names) ≤ cond (not b) (1 + number names w) 0
+    by_test : (b : Bool) → (b || list_any (same w) names) ≡ false → (list_any (same w) names ≡ false → length names ≤ name_number names w) → length (m ∷ names) ≤ cond (not b) (1 + name_number names w) 0
     by_test true h ih = absurd (cc)
     by_test false h ih = omega (arith, ih h)
 
@@ -111,12 +111,12 @@ below : (m n : ℕ) → m < n → nat_lt m n ≡ true
 below m n h = grind (arith, nat_tests)
 
 -- a name that has a place in the table is among its names
-pub among_by_number : (names : List (List ℕ)) (w : List ℕ) → nat_lt (number names w) (length names) ≡ is_among w names
+pub among_by_number : (names : List (List ℕ)) (w : List ℕ) → nat_lt (name_number names w) (length names) ≡ is_among w names
 among_by_number names w = by_test (list_any (same w) names) refl
   where
-    by_test : (b : Bool) → list_any (same w) names ≡ b → nat_lt (number names w) (length names) ≡ b
-    by_test true e = below (number names w) (length names) (known names w e)
-    by_test false e = above (number names w) (length names) (missed names w e)
+    by_test : (b : Bool) → list_any (same w) names ≡ b → nat_lt (name_number names w) (length names) ≡ b
+    by_test true e = below (name_number names w) (length names) (known names w e)
+    by_test false e = above (name_number names w) (length names) (missed names w e)
 
 pub among-append : (w : List ℕ) (a b : List (List ℕ)) → is_among w (a ++ b) ≡ (is_among w a || is_among w b)
 among-append w a b = list_any-append (same w) a b

@@ -13,7 +13,7 @@ use Rattle.bw_lang.specs.declared.service.Shared.{Shared}
 use Rattle.bw_lang.specs.declared.service.Template.{Template}
 use Rattle.bw_lang.specs.declared.stmt.Kind.{Kind}
 use Rattle.bw_lang.specs.declared.stmt.Kind.TheVariants.{Int, Bool as Truth, Str}
-use Rattle.bw_lang.specs.Sorted.{as_template, as_shared, as_session, templates_of, shared_of, sessions_of}
+use Rattle.bw_lang.specs.Service.Sorted.{as_template, as_shared, as_session, templates_of, shared_of, sessions_of}
 use Rattle.bw_types.specs.declared.fault.TypeFault.TheVariants as faults
 use Rattle.bw_types.specs.ExpressionFaults.{demand}
 use Rattle.bw_types.specs.Faults.{code_faults, literal_kind, literal_unknown, ends_in_exit, own_faults, faults_behind}

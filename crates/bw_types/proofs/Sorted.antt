@@ -7,10 +7,10 @@ use Rattle.bw_lang.specs.declared.service.Service.{Service}
 use Rattle.bw_lang.specs.declared.service.Session.{Session}
 use Rattle.bw_lang.specs.declared.service.Shared.{Shared}
 use Rattle.bw_lang.specs.declared.service.Template.{Template}
-use Rattle.bw_lang.specs.Names.{same}
-use Rattle.bw_lang.specs.Order.{declarations_of, IsWoven}
-use Rattle.bw_lang.specs.Readable.{IsSmall}
-use Rattle.bw_lang.specs.Sorted.{as_template, as_shared, as_session}
+use Rattle.bw_lang.specs.Table.Names.{same}
+use Rattle.bw_lang.specs.Service.Order.{declarations_of, IsWoven}
+use Rattle.bw_lang.specs.Service.Readable.{IsSmall}
+use Rattle.bw_lang.specs.Service.Sorted.{as_template, as_shared, as_session}
 use Rattle.bw_types.specs.Faults.{own_faults, literal_kind, IsWellTyped}
 use Rattle.bw_types.specs.declared.tables.Tables.{Tables}
 use Rattle.bw_types.specs.Known.{IsKnown}

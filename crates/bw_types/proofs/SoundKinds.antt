@@ -7,15 +7,15 @@ use Rattle.bw_lang.specs.declared.service.Service.{Service}
 use Rattle.bw_lang.specs.declared.stmt.Kind.{Kind}
 use Rattle.bw_lang.specs.declared.stmt.Kind.TheVariants.{Int, Bool as Truth, Str, Html, Strs}
 use Rattle.bw_lang.specs.declared.stmt.Receive.{Receive}
-use Rattle.bw_lang.specs.Code.{Code, done, declare, assign, if_then, if_else, while_loop, block, for_each, show, exit}
-use Rattle.bw_lang.specs.Term as t
-use Rattle.bw_lang.specs.Term.{Term, Fillings, no_more, filling}
+use Rattle.bw_lang.specs.Service.Code.{Code, done, declare, assign, if_then, if_else, while_loop, block, for_each, show, exit}
+use Rattle.bw_lang.specs.Service.Term as t
+use Rattle.bw_lang.specs.Service.Term.{Term, Fillings, no_more, filling}
 use Rattle.bw_types.specs.declared.fault.GapKind.{GapKind}
 use Rattle.bw_types.specs.declared.fault.GapKind.TheVariants.{Content, Attribute}
 use Rattle.bw_types.specs.ExpressionFaults.{OpSort, joins_truths, tests_equality, compares, adds, computes, op_sort, op_kind, fun_takes, fun_gives, kind_of, demand, demand_same, demand_plain, demand_sum, left_demand, right_demand, gap_demand, gap_unknown, name_unknown, faults_in, faults_in_pairs, wanted}
 use Rattle.bw_types.specs.Faults.{code_faults, receive_fault, demand_received, local_repeated, local_faults}
 use Rattle.bw_types.specs.Gaps.{kind_of_gap}
-use Rattle.bw_types.specs.Scopes.{Scope, is_among, declared_names, name_kind, variable_kind, with_local, behind, behind_each}
+use Rattle.bw_types.specs.Scopes.{Scope, is_among, declared_names, name_kind, variable_kind, with_local, scope_behind, behind_each}
 use Rattle.bw_types.specs.Typing.{Takes, Fits, HasKind, AreTyped, IsNew, IsReceived, IsTypedCode}
 use Rattle.bw_types.proofs.Elements.{passes}
 use Rattle.bw_types.proofs.Differing.{not_among}
@@ -178,18 +178,18 @@ code_typed s k (assign w e a) h =
     (assigned s k w e (nothing_first _ _ h) (nothing_first _ _ b) (nothing_first _ _ c), code_typed s k a (nothing_behind (demand_same (variable_kind s k w) (kind_of s k e)) _ c))
 code_typed s k (if_then e y a) h =
     let b = nothing_behind (wanted s k Truth e) _ h in
-    (has_wanted s k Truth e (nothing_first _ _ h), code_typed s k y (nothing_first _ _ b), code_typed s (behind k y) a (nothing_behind (code_faults s k y) _ b))
+    (has_wanted s k Truth e (nothing_first _ _ h), code_typed s k y (nothing_first _ _ b), code_typed s (scope_behind k y) a (nothing_behind (code_faults s k y) _ b))
 code_typed s k (if_else e y n a) h =
     let b = nothing_behind (wanted s k Truth e) _ h in let c = nothing_behind (code_faults s k y) _ b in (
       has_wanted s k Truth e (nothing_first _ _ h),
       code_typed s k y (nothing_first _ _ b),
-      code_typed s (behind k y) n (nothing_first _ _ c),
-      code_typed s (behind (behind k y) n) a (nothing_behind (code_faults s (behind k y) n) _ c),
+      code_typed s (scope_behind k y) n (nothing_first _ _ c),
+      code_typed s (scope_behind (scope_behind k y) n) a (nothing_behind (code_faults s (scope_behind k y) n) _ c),
     )
 code_typed s k (while_loop e y a) h =
     let b = nothing_behind (wanted s k Truth e) _ h in
-    (has_wanted s k Truth e (nothing_first _ _ h), code_typed s k y (nothing_first _ _ b), code_typed s (behind k y) a (nothing_behind (code_faults s k y) _ b))
-code_typed s k (block y a) h = (code_typed s k y (nothing_first _ _ h), code_typed s (behind k y) a (nothing_behind (code_faults s k y) _ h))
+    (has_wanted s k Truth e (nothing_first _ _ h), code_typed s k y (nothing_first _ _ b), code_typed s (scope_behind k y) a (nothing_behind (code_faults s k y) _ b))
+code_typed s k (block y a) h = (code_typed s k y (nothing_first _ _ h), code_typed s (scope_behind k y) a (nothing_behind (code_faults s k y) _ h))
 code_typed s k (for_each w e y a) h =
     let l = local_typed s k w Strs e (nothing_first _ _ h) in let b = nothing_behind (local_faults s k w Strs e) _ h in
     (l.0, l.1, code_typed s (with_local k w Str) y (nothing_first _ _ b), code_typed s (behind_each k w y) a (nothing_behind (code_faults s (with_local k w Str) y) _ b))

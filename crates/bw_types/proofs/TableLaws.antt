@@ -5,10 +5,10 @@ use Rattle.std.specs.Map.{lookup}
 use Rattle.std.proofs.lemmas.Bool.Decides.{nat_tests}
 use Rattle.std.proofs.lemmas.List.{map-append}
 use Rattle.indexmap.specs.IndexMap.{insert_entry}
-use Rattle.bw_lang.specs.Names.{same}
+use Rattle.bw_lang.specs.Table.Names.{same}
 use Rattle.bw_types.specs.declared.fault.GapKind.{GapKind}
 use Rattle.bw_types.specs.Gaps.{gap_kind}
-use Rattle.bw_lang.specs.Names.{beside}
+use Rattle.bw_lang.specs.Table.Names.{beside}
 use Rattle.bw_types.specs.Tables.{with_kind, with_use}
 
 nat_eq_flips : (a b : ℕ) → nat_eq a b ≡ nat_eq b a

@@ -6,10 +6,10 @@ use Rattle.bw_lang.specs.declared.items.Attr.{Attr}
 use Rattle.bw_lang.specs.declared.items.Item.{Item}
 use Rattle.bw_lang.specs.declared.items.Item.TheVariants.{Text, Element, Gap}
 use Rattle.bw_lang.specs.declared.service.Service.{Service}
-use Rattle.bw_lang.specs.Controls.{field_of}
-use Rattle.bw_lang.specs.Forest.{none}
-use Rattle.bw_lang.specs.Order.{seen}
-use Rattle.bw_lang.specs.View.{forest, before}
+use Rattle.bw_lang.specs.Template.Controls.{field_of}
+use Rattle.bw_lang.specs.Document.Forest.{none}
+use Rattle.bw_lang.specs.Service.Order.{seen}
+use Rattle.bw_lang.specs.Document.View.{forest, before}
 use Rattle.bw_types.specs.declared.fault.TypeFault.{TypeFault}
 use Rattle.bw_types.specs.declared.fault.TypeFault.TheVariants as faults
 use Rattle.bw_types.specs.Faults.{own_faults, faults_behind}

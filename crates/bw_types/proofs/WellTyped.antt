@@ -8,8 +8,8 @@ use Rattle.bw_lang.specs.declared.service.Service.{Service}
 use Rattle.bw_lang.specs.declared.service.Session.{Session}
 use Rattle.bw_lang.specs.declared.service.Shared.{Shared}
 use Rattle.bw_lang.specs.declared.service.Template.{Template}
-use Rattle.bw_lang.specs.Controls.{fields}
-use Rattle.bw_lang.specs.Order.{declarations_of, IsWoven}
+use Rattle.bw_lang.specs.Template.Controls.{fields}
+use Rattle.bw_lang.specs.Service.Order.{declarations_of, IsWoven}
 use Rattle.bw_types.specs.declared.fault.GapKind.{GapKind}
 use Rattle.bw_types.specs.Faults.{own_faults, IsWellTyped}
 use Rattle.bw_types.specs.Fields.{template_fields}

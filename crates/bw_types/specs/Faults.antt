@@ -8,13 +8,13 @@ use Rattle.bw_lang.specs.declared.service.Service.{Service}
 use Rattle.bw_lang.specs.declared.stmt.Kind.{Kind}
 use Rattle.bw_lang.specs.declared.stmt.Kind.TheVariants.{Int, Bool as Truth, Str, Html, Strs}
 use Rattle.bw_lang.specs.declared.stmt.Receive.{Receive}
-use Rattle.bw_lang.specs.Code.{Code, done, declare, assign, if_then, if_else, while_loop, block, for_each, show, exit}
-use Rattle.bw_lang.specs.Order.{declarations_of}
-use Rattle.bw_lang.specs.Term.{Term}
+use Rattle.bw_lang.specs.Service.Code.{Code, done, declare, assign, if_then, if_else, while_loop, block, for_each, show, exit}
+use Rattle.bw_lang.specs.Service.Order.{declarations_of}
+use Rattle.bw_lang.specs.Service.Term.{Term}
 use Rattle.bw_types.specs.declared.fault.TypeFault.{TypeFault}
 use Rattle.bw_types.specs.declared.fault.TypeFault.TheVariants as faults
 use Rattle.bw_types.specs.ExpressionFaults.{faults_in, kind_of, wanted, demand, demand_same, name_unknown}
-use Rattle.bw_types.specs.Scopes.{Scope, no_locals, is_among, name_of, declared_names, template_kind, variable_kind, with_local, behind, behind_each}
+use Rattle.bw_types.specs.Scopes.{Scope, no_locals, is_among, name_of, declared_names, template_kind, variable_kind, with_local, scope_behind, behind_each}
 use Rattle.bw_types.specs.TemplateFaults.{fault_if, items_faults}
 
 -- at a local's declaration: its name is taken by the service or by a local in front
@@ -43,13 +43,13 @@ code_faults service scope (assign w e rest) =
     name_unknown w (variable_kind service scope w) ++ (faults_in service scope e ++
     (demand_same (variable_kind service scope w) (kind_of service scope e) ++ code_faults service scope rest))
 code_faults service scope (if_then t y rest) =
-    wanted service scope Truth t ++ (code_faults service scope y ++ code_faults service (behind scope y) rest)
+    wanted service scope Truth t ++ (code_faults service scope y ++ code_faults service (scope_behind scope y) rest)
 code_faults service scope (if_else t y n rest) =
-    wanted service scope Truth t ++ (code_faults service scope y ++ (code_faults service (behind scope y) n ++
-    code_faults service (behind (behind scope y) n) rest))
+    wanted service scope Truth t ++ (code_faults service scope y ++ (code_faults service (scope_behind scope y) n ++
+    code_faults service (scope_behind (scope_behind scope y) n) rest))
 code_faults service scope (while_loop t b rest) =
-    wanted service scope Truth t ++ (code_faults service scope b ++ code_faults service (behind scope b) rest)
-code_faults service scope (block b rest) = code_faults service scope b ++ code_faults service (behind scope b) rest
+    wanted service scope Truth t ++ (code_faults service scope b ++ code_faults service (scope_behind scope b) rest)
+code_faults service scope (block b rest) = code_faults service scope b ++ code_faults service (scope_behind scope b) rest
 code_faults service scope (for_each w e b rest) =
     local_faults service scope w Strs e ++ (code_faults service (with_local scope w Str) b ++
     code_faults service (behind_each scope w b) rest)

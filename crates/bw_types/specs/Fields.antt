@@ -3,10 +3,10 @@ use Rattle.std.specs.Prelude.{ℕ, List, [], flat_map, position, Option}
 use Rattle.bw_lang.specs.declared.controls.FieldKind.{FieldKind}
 use Rattle.bw_lang.specs.declared.service.Service.{Service}
 use Rattle.bw_lang.specs.declared.service.Template.{Template}
-use Rattle.bw_lang.specs.Controls.{fields}
-use Rattle.bw_lang.specs.Limits.{declared_fields}
-use Rattle.bw_lang.specs.Names.{same, beside, with_names}
-use Rattle.bw_lang.specs.Order.{declarations_of}
+use Rattle.bw_lang.specs.Template.Controls.{fields}
+use Rattle.bw_lang.specs.Service.Limits.{declared_fields}
+use Rattle.bw_lang.specs.Table.Names.{same, beside, with_names}
+use Rattle.bw_lang.specs.Service.Order.{declarations_of}
 
 -- the names of controls and the fields of receives, in source order
 abbrev pub field_names : Service → List (List ℕ)

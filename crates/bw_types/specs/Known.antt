@@ -1,7 +1,7 @@
 -- What tables say of the names of a service.
 use Rattle.std.specs.Prelude.{◌≡◌, []}
 use Rattle.bw_lang.specs.declared.service.Service.{Service}
-use Rattle.bw_lang.specs.Names.{with_names}
+use Rattle.bw_lang.specs.Table.Names.{with_names}
 use Rattle.bw_types.specs.declared.tables.Tables.{Tables}
 use Rattle.bw_types.specs.Fields.{template_fields}
 use Rattle.bw_types.specs.Gaps.{template_uses}

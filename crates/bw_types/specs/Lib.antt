@@ -3,10 +3,10 @@ pub mod Faults
 pub mod Fields
 pub mod First
 pub mod Gaps
+pub mod Known
+pub mod Laws
 pub mod Places
 pub mod Scopes
 pub mod Tables
 pub mod TemplateFaults
-pub mod Known
-pub mod Laws
 pub mod Typing

@@ -7,10 +7,10 @@ use Rattle.bw_lang.specs.declared.declaration.Declaration.TheVariants as declara
 use Rattle.bw_lang.specs.declared.service.Service.{Service}
 use Rattle.bw_lang.specs.declared.stmt.Kind.{Kind}
 use Rattle.bw_lang.specs.declared.stmt.Kind.TheVariants as kinds
-use Rattle.bw_lang.specs.Code.{Code}
-use Rattle.bw_lang.specs.CodeNames.{local_names}
-use Rattle.bw_lang.specs.Names.{same, beside}
-use Rattle.bw_lang.specs.Order.{declarations_of}
+use Rattle.bw_lang.specs.Service.Code.{Code}
+use Rattle.bw_lang.specs.Service.CodeNames.{local_names}
+use Rattle.bw_lang.specs.Table.Names.{same, beside}
+use Rattle.bw_lang.specs.Service.Order.{declarations_of}
 
 -- the name is one of these
 abbrev pub is_among : List ℕ → List (List ℕ) → Bool
@@ -67,8 +67,8 @@ abbrev pub with_local : Scope → List ℕ → Kind → Scope
 with_local scope w kind = record { locals = (w, kind) ∷ scope.locals; taken = scope.taken ++ w ∷ [] }
 
 -- the scope behind a block, whose locals are out of scope again
-abbrev pub behind : Scope → Code → Scope
-behind scope inner = record { locals = scope.locals; taken = scope.taken ++ local_names inner }
+abbrev pub scope_behind : Scope → Code → Scope
+scope_behind scope inner = record { locals = scope.locals; taken = scope.taken ++ local_names inner }
 
 -- the scope behind a foreach with its local and its body
 abbrev pub behind_each : Scope → List ℕ → Code → Scope

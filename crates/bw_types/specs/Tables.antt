@@ -1,6 +1,6 @@
 -- Tables of kinds: each name and each gap with the kind that it was first given.
 use Rattle.std.specs.Prelude.{ℕ, if◌then◌else◌, List, [], ◌∷◌, ◌++◌, is_some, fold}
-use Rattle.bw_lang.specs.Names.{beside}
+use Rattle.bw_lang.specs.Table.Names.{beside}
 use Rattle.bw_types.specs.declared.fault.GapKind.{GapKind}
 use Rattle.bw_types.specs.Gaps.{gap_kind}
 

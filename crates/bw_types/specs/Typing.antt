@@ -7,16 +7,16 @@ use Rattle.bw_lang.specs.declared.service.Session.{Session}
 use Rattle.bw_lang.specs.declared.stmt.Kind.{Kind}
 use Rattle.bw_lang.specs.declared.stmt.Kind.TheVariants.{Int, Bool as Truth, Str, Html, Strs}
 use Rattle.bw_lang.specs.declared.stmt.Receive.{Receive}
-use Rattle.bw_lang.specs.Code.{Code, done, declare, assign, if_then, if_else, while_loop, block, for_each, show, exit}
-use Rattle.bw_lang.specs.Forest.{Forest, none, text, gap, element}
-use Rattle.bw_lang.specs.Term.{Term, int, truth, string, name, paren, not, neg, binary, call, plug, nothing, Fillings, no_more, filling}
+use Rattle.bw_lang.specs.Service.Code.{Code, done, declare, assign, if_then, if_else, while_loop, block, for_each, show, exit}
+use Rattle.bw_lang.specs.Document.Forest.{Forest, none, text, gap, element}
+use Rattle.bw_lang.specs.Service.Term.{Term, int, truth, string, name, paren, not, neg, binary, call, plug, nothing, Fillings, no_more, filling}
 use Rattle.bw_types.specs.declared.fault.GapKind.{GapKind}
 use Rattle.bw_types.specs.declared.fault.GapKind.TheVariants.{Content, Attribute}
 use Rattle.bw_types.specs.ExpressionFaults.{OpSort, joins_truths, tests_equality, compares, adds, computes, op_sort, fun_takes, fun_gives}
 use Rattle.bw_types.specs.Faults.{literal_kind, ends_in_exit}
 use Rattle.bw_types.specs.Fields.{template_fields}
 use Rattle.bw_types.specs.Gaps.{kind_of_gap, template_uses}
-use Rattle.bw_types.specs.Scopes.{Scope, no_locals, declared_names, name_kind, variable_kind, with_local, behind, behind_each}
+use Rattle.bw_types.specs.Scopes.{Scope, no_locals, declared_names, name_kind, variable_kind, with_local, scope_behind, behind_each}
 use Rattle.bw_types.specs.TemplateFaults.{is_reserved, is_file_input, is_bad_control}
 
 -- An operator of this sort takes two sides of the first kind and gives the second: equality is of all but documents and
@@ -68,11 +68,11 @@ IsTypedCode service scope done = Unit {0}
 IsTypedCode service scope (declare kind w e rest) = IsNew service scope w × HasKind service scope e kind × IsTypedCode service (with_local scope w kind) rest
 IsTypedCode service scope (assign w e rest) =
     ((kind : Kind) × (variable_kind service scope w ≡ Some kind) × HasKind service scope e kind) × IsTypedCode service scope rest
-IsTypedCode service scope (if_then t y rest) = HasKind service scope t Truth × IsTypedCode service scope y × IsTypedCode service (behind scope y) rest
+IsTypedCode service scope (if_then t y rest) = HasKind service scope t Truth × IsTypedCode service scope y × IsTypedCode service (scope_behind scope y) rest
 IsTypedCode service scope (if_else t y n rest) =
-    HasKind service scope t Truth × IsTypedCode service scope y × IsTypedCode service (behind scope y) n × IsTypedCode service (behind (behind scope y) n) rest
-IsTypedCode service scope (while_loop t b rest) = HasKind service scope t Truth × IsTypedCode service scope b × IsTypedCode service (behind scope b) rest
-IsTypedCode service scope (block b rest) = IsTypedCode service scope b × IsTypedCode service (behind scope b) rest
+    HasKind service scope t Truth × IsTypedCode service scope y × IsTypedCode service (scope_behind scope y) n × IsTypedCode service (scope_behind (scope_behind scope y) n) rest
+IsTypedCode service scope (while_loop t b rest) = HasKind service scope t Truth × IsTypedCode service scope b × IsTypedCode service (scope_behind scope b) rest
+IsTypedCode service scope (block b rest) = IsTypedCode service scope b × IsTypedCode service (scope_behind scope b) rest
 IsTypedCode service scope (for_each w e b rest) =
     IsNew service scope w × HasKind service scope e Strs × IsTypedCode service (with_local scope w Str) b × IsTypedCode service (behind_each scope w b) rest
 IsTypedCode service scope (show p rs rest) = HasKind service scope p Html × All (IsReceived service scope) rs × IsTypedCode service scope rest

@@ -1,7 +1,7 @@
 //! The tests of a service, in one walk over its declarations.
 ghost use Rattle.std.specs.Prelude.{◌≡◌, Some, IfOk, IfErr, OnOk, [], ◌∷◌, ◌++◌, map};
-ghost use Rattle.bw_lang.specs.Order.{seen};
-ghost use Rattle.bw_lang.specs.Reads.{IsReadable};
+ghost use Rattle.bw_lang.specs.Service.Order.{seen};
+ghost use Rattle.bw_lang.specs.Service.Reads.{IsReadable};
 ghost use Rattle.bw_lang.specs.declared.declaration.Declaration.TheVariants as declarations;
 ghost use Rattle.bw_types.specs.declared.fault.TypeFault.TheVariants.{Repeated};
 ghost use Rattle.bw_types.specs.Faults as spec;

@@ -1,7 +1,7 @@
 //! The kinds of expressions.
 ghost use Rattle.std.specs.Prelude.{◌≡◌, Some, IfOk, IfErr, OnOk, []};
-ghost use Rattle.bw_lang.specs.Term.{binary, no_more, filling};
-ghost use Rattle.bw_lang.specs.TermView.{term};
+ghost use Rattle.bw_lang.specs.Service.Term.{binary, no_more, filling};
+ghost use Rattle.bw_lang.specs.Service.TermView.{term};
 ghost use Rattle.bw_types.specs.ExpressionFaults as spec;
 ghost use Rattle.bw_types.specs.First.{IsFirst};
 ghost use Rattle.bw_types.specs.Gaps.{kind_of_gap};

@@ -1,6 +1,6 @@
 //! The locals of a session.
 ghost use Rattle.std.specs.Prelude.{◌≡◌, false, OnOk, length};
-ghost use Rattle.bw_lang.specs.Names.{beside};
+ghost use Rattle.bw_lang.specs.Table.Names.{beside};
 ghost use Rattle.bw_types.specs.Scopes.{is_among, no_locals, with_local};
 ghost use Rattle.bw_types.specs.Places.{outside};
 

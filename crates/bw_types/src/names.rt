@@ -1,6 +1,6 @@
 //! What the names of a service stand for.
 ghost use Rattle.std.specs.Prelude.{◌≡◌, ◌||◌};
-ghost use Rattle.bw_lang.specs.Reads.{IsReadable};
+ghost use Rattle.bw_lang.specs.Service.Reads.{IsReadable};
 ghost use Rattle.bw_types.specs.Fields.{kind_of_field};
 ghost use Rattle.bw_types.specs.Gaps.{kind_of_gap, kind_of_number};
 ghost use Rattle.bw_types.specs.Known.{IsKnown};

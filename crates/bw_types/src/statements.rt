@@ -1,13 +1,13 @@
 //! The tests of statements.
 ghost use Rattle.std.specs.Prelude.{◌≡◌, ◌++◌, Some, IfOk, IfErr, OnOk, [], ◌∷◌, flat_map};
-ghost use Rattle.bw_lang.specs.Code.{done, assign};
-ghost use Rattle.bw_lang.specs.CodeView.{before};
-ghost use Rattle.bw_lang.specs.TermView.{term};
+ghost use Rattle.bw_lang.specs.Service.Code.{done, assign};
+ghost use Rattle.bw_lang.specs.Service.CodeView.{before};
+ghost use Rattle.bw_lang.specs.Service.TermView.{term};
 ghost use Rattle.bw_types.specs.ExpressionFaults.{name_unknown};
 ghost use Rattle.bw_types.specs.Faults as spec;
 ghost use Rattle.bw_types.specs.First.{IsFirst};
 ghost use Rattle.bw_types.specs.Places.{after};
-ghost use Rattle.bw_types.specs.Scopes.{variable_kind, with_local, behind};
+ghost use Rattle.bw_types.specs.Scopes.{variable_kind, with_local, scope_behind};
 
 use crate::fault::TypeFault;
 use crate::kinds::demand_of_target;
@@ -21,7 +21,7 @@ impl Names<'_> {
     #[cycle(block)]
     pub fn block(&self, locals: &mut Locals, block: &Block) -> Result<(), TypeFault>
         ensures none { OnOk result (spec.code_faults self.now.service.now locals.old block.now ≡ []) }
-        ensures left { OnOk result (locals.new ≡ behind locals.old block.now) }
+        ensures left { OnOk result (locals.new ≡ scope_behind locals.old block.now) }
         ensures first { IfErr result (λ e. IsFirst e (spec.code_faults self.now.service.now locals.old block.now)) }
     {
         let depth = locals.depth();

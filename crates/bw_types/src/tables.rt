@@ -1,9 +1,9 @@
 //! Tables of names and gaps, with the kinds that they were first given.
 ghost use Rattle.std.specs.Prelude.{◌≡◌, ◌∷◌, ◌<◌, ◌^◌, IfOk, OnOk, [], length, map, position};
-ghost use Rattle.bw_lang.specs.Controls.{fields, field_of};
-ghost use Rattle.bw_lang.specs.Forest.{none};
-ghost use Rattle.bw_lang.specs.Names.{same, beside, with_names};
-ghost use Rattle.bw_lang.specs.View.{before};
+ghost use Rattle.bw_lang.specs.Template.Controls.{fields, field_of};
+ghost use Rattle.bw_lang.specs.Document.Forest.{none};
+ghost use Rattle.bw_lang.specs.Table.Names.{same, beside, with_names};
+ghost use Rattle.bw_lang.specs.Document.View.{before};
 ghost use Rattle.bw_types.specs.Fields.{template_fields};
 ghost use Rattle.bw_types.specs.Gaps.{gap_kind, value_use, attr_uses, gap_uses, template_uses};
 ghost use Rattle.bw_types.specs.Scopes.{is_among};

@@ -1,9 +1,9 @@
 //! The tests of templates.
 ghost use Rattle.std.specs.Prelude.{◌≡◌, IfOk, IfErr, OnOk, [], ◌∷◌, flat_map, option_copied};
 ghost use Rattle.std.specs.List.{list_any};
-ghost use Rattle.bw_lang.specs.Forest.{none};
-ghost use Rattle.bw_lang.specs.View.{before};
-ghost use Rattle.bw_lang.specs.Controls.{field_of};
+ghost use Rattle.bw_lang.specs.Document.Forest.{none};
+ghost use Rattle.bw_lang.specs.Document.View.{before};
+ghost use Rattle.bw_lang.specs.Template.Controls.{field_of};
 ghost use Rattle.bw_types.specs.First.{IsFirst};
 ghost use Rattle.bw_types.specs.Gaps.{gap_name};
 ghost use Rattle.bw_types.specs.TemplateFaults as spec;

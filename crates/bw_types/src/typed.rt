@@ -1,7 +1,7 @@
 //! Services that are well typed.
 ghost use Rattle.std.specs.Prelude.{◌≡◌, ◌⊎◌, [], Some, None, IfOk, IfErr, MatchOption, slice_get};
-ghost use Rattle.bw_lang.specs.Names.{with_names};
-ghost use Rattle.bw_lang.specs.Reads.{IsReadable};
+ghost use Rattle.bw_lang.specs.Table.Names.{with_names};
+ghost use Rattle.bw_lang.specs.Service.Reads.{IsReadable};
 ghost use Rattle.bw_types.specs.declared.fault.TypeFault.TheVariants as faults;
 ghost use Rattle.bw_types.specs.Faults.{IsWellTyped, first_fault};
 ghost use Rattle.bw_types.specs.Fields.{field_names, field_number, kind_of_field};

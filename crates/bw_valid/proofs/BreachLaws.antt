@@ -2,8 +2,8 @@
 use Rattle.std.proofs.Common.{◌≡◌, ℕ, suc, ◌+◌, Bool, true, false, not, ◌||◌, ◌&&◌, List, Option, Some, None, IfSome, is_some, if◌then◌else◌, refl, ap, sym, ◌∙◌}
 use Rattle.std.specs.List.{list_all}
 use Rattle.std.proofs.lemmas.Bool.{false≢true}
-use Rattle.bw_lang.specs.Documents.{elements, close, closed_attrs}
-use Rattle.bw_lang.specs.Forest.{Forest, none, text, gap, element}
+use Rattle.bw_lang.specs.Document.Documents.{elements, close, closed_attrs}
+use Rattle.bw_lang.specs.Document.Forest.{Forest, none, text, gap, element}
 use Rattle.bw_lang.specs.declared.items.Attr.{Attr}
 use Rattle.bw_schema.proofs.ValidLaws.{all_has, closed_child, closed_each, closed_holds, closed_root, closed_text}
 use Rattle.bw_schema.specs.Rules.{allows, permits, rule_of}

@@ -6,12 +6,12 @@ use Rattle.std.proofs.lemmas.List.{drop_more}
 use Rattle.bw_lang.specs.declared.items.Attr.{Attr}
 use Rattle.bw_lang.specs.declared.items.Item.{Item}
 use Rattle.bw_lang.specs.declared.items.Item.TheVariants.{Text, Element, Gap}
-use Rattle.bw_lang.specs.Forest.{Forest, none, text, gap, element, forest_size}
-use Rattle.bw_lang.specs.View.{forest, before}
-use Rattle.bw_lang.specs.Documents.{append, elements}
+use Rattle.bw_lang.specs.Document.Forest.{Forest, none, text, gap, element, forest_size}
+use Rattle.bw_lang.specs.Document.View.{forest, before}
+use Rattle.bw_lang.specs.Document.Documents.{append, elements}
 use denote.Param.Weighed.{at_most}
 use Rattle.bw_lang.specs.declared.items.Items.TheDeep.{deep-Item}
-use Rattle.bw_lang.specs.Falls.{most_le-forest_size}
+use Rattle.bw_lang.specs.Encoding.Falls.{most_le-forest_size}
 use Rattle.bw_lang.proofs.Counts.{elements-append}
 use Rattle.bw_lang.proofs.Forests.{forest_steps, forest-take, forest-split}
 use Rattle.bw_schema.specs.declared.needs.Formula.{Formula}

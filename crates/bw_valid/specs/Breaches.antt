@@ -1,8 +1,8 @@
 -- The first element of a page that breaks its rule.
 use Rattle.std.specs.Prelude.{ℕ, ◌+◌, Bool, true, false, not, ◌&&◌, ◌||◌, List, Option, Some, None, if◌then◌else◌}
 use Rattle.std.specs.List.{list_all}
-use Rattle.bw_lang.specs.Documents.{elements}
-use Rattle.bw_lang.specs.Forest.{Forest, none, text, gap, element}
+use Rattle.bw_lang.specs.Document.Documents.{elements}
+use Rattle.bw_lang.specs.Document.Forest.{Forest, none, text, gap, element}
 use Rattle.bw_lang.specs.declared.items.Attr as items
 use Rattle.bw_schema.specs.Rules.{allows, permits, rule_of}
 use Rattle.bw_schema.specs.Validity.{each_child, each_fixed, each_text, has_fixed, has_value, holds, is_bare, is_other, is_rooted, ordered}

@@ -1,9 +1,9 @@
 -- Laws of validity.
 use Rattle.std.specs.Prelude.{◌≡◌, ◌↔◌, ℕ, List, None}
 use Rattle.bw_lang.specs.declared.items.Attr.{Attr}
-use Rattle.bw_lang.specs.Documents.{close}
-use Rattle.bw_lang.specs.Forest.{Forest, none, element}
-use Rattle.bw_lang.specs.Print.{joined}
+use Rattle.bw_lang.specs.Document.Documents.{close}
+use Rattle.bw_lang.specs.Document.Forest.{Forest, none, element}
+use Rattle.bw_lang.specs.Document.Print.{joined}
 use Rattle.bw_schema.specs.Validity.{Valid}
 use Rattle.bw_schema.specs.declared.schema.Schema.{Schema}
 use Rattle.bw_valid.specs.Breaches.{breach}

@@ -1,8 +1,8 @@
 //! The first element of a page that breaks its rule.
 ghost use Rattle.std.specs.Prelude.{◌≡◌, ◌+◌, ◌^◌, ◌<◌, ◌||◌, false, Some, None, MatchOption, IfOk, IfErr, OnOk};
-ghost use Rattle.bw_lang.specs.Documents.{elements};
-ghost use Rattle.bw_lang.specs.Forest.{Forest, none};
-ghost use Rattle.bw_lang.specs.View.{before};
+ghost use Rattle.bw_lang.specs.Document.Documents.{elements};
+ghost use Rattle.bw_lang.specs.Document.Forest.{Forest, none};
+ghost use Rattle.bw_lang.specs.Document.View.{before};
 ghost use Rattle.bw_schema.specs.Rules.{rule_of};
 ghost use Rattle.bw_schema.specs.Validity as validity;
 ghost use Rattle.bw_valid.specs.Breaches as spec;

@@ -1,7 +1,7 @@
 //! The children of an element. Open gaps count as absent.
 ghost use Rattle.std.specs.Prelude.{◌≡◌, ◌&&◌, ◌||◌, not};
-ghost use Rattle.bw_lang.specs.Forest.{none};
-ghost use Rattle.bw_lang.specs.View.{before};
+ghost use Rattle.bw_lang.specs.Document.Forest.{none};
+ghost use Rattle.bw_lang.specs.Document.View.{before};
 ghost use Rattle.bw_schema.specs.Validity as validity;
 ghost use Rattle.bw_schema.specs.Words as words;
 

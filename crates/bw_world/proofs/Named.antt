@@ -13,13 +13,13 @@ use Rattle.bw_lang.specs.declared.service.Session.{Session}
 use Rattle.bw_lang.specs.declared.stmt.Kind.{Kind}
 use Rattle.bw_lang.specs.declared.stmt.Kind.TheVariants as kinds
 use Rattle.bw_lang.specs.declared.stmt.Receive.{Receive}
-use Rattle.bw_lang.specs.Code.{Code, done, declare, assign, if_then, if_else, while_loop, for_each, block, show, exit, numbered}
-use Rattle.bw_lang.specs.CodeNames.{received_fields}
-use Rattle.bw_lang.specs.Limits.{declared_fields}
-use Rattle.bw_lang.specs.Names.{number}
-use Rattle.bw_lang.specs.Order.{declarations_of}
-use Rattle.bw_lang.specs.Sorted.{as_session}
-use Rattle.bw_lang.specs.Submissions.{values_of}
+use Rattle.bw_lang.specs.Service.Code.{Code, done, declare, assign, if_then, if_else, while_loop, for_each, block, show, exit, numbered}
+use Rattle.bw_lang.specs.Service.CodeNames.{received_fields}
+use Rattle.bw_lang.specs.Service.Limits.{declared_fields}
+use Rattle.bw_lang.specs.Table.Names.{name_number}
+use Rattle.bw_lang.specs.Service.Order.{declarations_of}
+use Rattle.bw_lang.specs.Service.Sorted.{as_session}
+use Rattle.bw_lang.specs.Service.Submissions.{values_of}
 use Rattle.bw_lang.proofs.Small.{readable_is_woven}
 use Rattle.bw_lang.proofs.TableLaws.{added_are_there}
 use Rattle.bw_types.specs.declared.typed.Typed.{Typed}
@@ -113,7 +113,7 @@ module _ (P : List ℕ → Type 0) where
 
 -- the number of the field is there
 abbrev IsThere : Service → List ℕ → Type 0
-IsThere service w = number (fields_of service) w < length (fields_of service)
+IsThere service w = name_number (fields_of service) w < length (fields_of service)
 
 bodies_there : (typed : Typed) (session : ℕ) → All (IsThere typed.service) (received_fields (body_of typed.service session))
 bodies_there typed session =

@@ -3,7 +3,7 @@ use Rattle.std.proofs.Common.{◌≡◌, ℕ, List, [], length, Some, sym, ap, �
 use Rattle.std.specs.Option.{option_map}
 use Rattle.bw_http.specs.Replies.{IsReply}
 use Rattle.bw_lang.specs.declared.service.Service.{Service}
-use Rattle.bw_lang.specs.Numbers.{first_number}
+use Rattle.bw_lang.specs.Service.Numbers.{first_number}
 use Rattle.bw_types.specs.declared.typed.Typed.{Typed}
 use Rattle.bw_typed.proofs.Services.{shared_are_no_lists}
 use Rattle.bw_flow.specs.Layout.{plan_of, receives}

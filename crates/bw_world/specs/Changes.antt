@@ -10,7 +10,7 @@ use Rattle.bw_http.specs.Paths.{spelling}
 use Rattle.bw_lang.specs.declared.service.Service.{Service}
 use Rattle.bw_lang.specs.declared.turn.TurnFault.{TurnFault}
 use Rattle.bw_lang.specs.declared.turn.TurnFault.TheVariants.{Memory}
-use Rattle.bw_lang.specs.Print.{print}
+use Rattle.bw_lang.specs.Document.Print.{print}
 use Rattle.bw_page.specs.Pages.{show_page, exit_page}
 use Rattle.bw_run.specs.declared.turn.Frame.{Frame}
 use Rattle.bw_run.specs.declared.fields.FieldFault.{FieldFault}

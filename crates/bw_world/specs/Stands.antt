@@ -5,7 +5,7 @@ use Rattle.bw_http.specs.declared.replies.Reply.{Reply}
 use Rattle.bw_http.specs.declared.replies.Reply.TheVariants as replies
 use Rattle.bw_http.specs.Replies.{IsReply}
 use Rattle.bw_lang.specs.declared.service.Service.{Service}
-use Rattle.bw_lang.specs.Names.{with_names}
+use Rattle.bw_lang.specs.Table.Names.{with_names}
 use Rattle.bw_meaning.specs.States.{Outcome, Shown}
 use Rattle.bw_meaning.specs.Values as meaning
 use Rattle.bw_model.specs.Sessions.{Live, World, now, current}

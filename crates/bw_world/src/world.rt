@@ -37,9 +37,9 @@ impl Model for World {
 
     ghost use Rattle.std.specs.Coded.{codes};
     ghost use Rattle.bw_lang.specs.contracts.service.Service as service;
-    ghost use Rattle.bw_doc.specs.MadeCode.{coded_made};
+    ghost use Rattle.bw_doc.specs.Encoding.MadeEncoding.{encoded_made};
 
-    ghost coded = { Prim.hlevel (codes, coded_made, service.the_row.coded) };
+    ghost coded = { Prim.hlevel (codes, encoded_made, service.the_row.coded) };
 
     ghost view = { λ w. record {
       service = w.checked.typed.service;

@@ -1,6 +1,6 @@
 use Rattle.std.proofs.Common.{◌≡◌, ◌≤◌}
 use Rattle.bw_answer.specs.Answers.{place}
-use Rattle.bw_answer.specs.Turns.{Stands}
+use Rattle.bw_answer.specs.Steps.Turns.{Stands}
 use Rattle.bw_answer.proofs.stream.answer.Given as goal
 
 abbrev pub invariant-messages : goal.invariant-messages

@@ -1,5 +1,5 @@
 use Rattle.std.proofs.Common.{ap, ◌∙◌, []}
-use Rattle.bw_lang.specs.Names.{with_names}
+use Rattle.bw_lang.specs.Table.Names.{with_names}
 use Rattle.bw_types.specs.Fields.{field_names}
 use Rattle.bw_answer.proofs.Messages.{answer_broken, refusal_broken}
 use Rattle.bw_answer.proofs.stream.answer_next.Goals as goal

@@ -1,5 +1,5 @@
 use Rattle.std.proofs.Common.{◌≡◌, ◌++◌, take}
-use Rattle.bw_lang.specs.View.{forest}
+use Rattle.bw_lang.specs.Document.View.{forest}
 use Rattle.bw_doc.specs.Notes.{notes}
 use Rattle.bw_doc.proofs.notes.+notes.Given as goal
 

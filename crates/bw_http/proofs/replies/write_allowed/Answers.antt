@@ -7,5 +7,5 @@ pub returns : goal.returns
 returns g c =
     subst
     (λ (t : List ℕ). Sends g.W.Channel c.args.sink.now c.write_text.new.sink
-    (message (codes "405 Method Not Allowed") text_type t (codes "method not allowed\n")) c.write_text.result)
+    (message (codes "HTTP/1.1 405 Method Not Allowed") text_type t (codes "method not allowed\n")) c.write_text.result)
     c.allow_line.ensures c.write_text.ensures

@@ -6,9 +6,9 @@ use Rattle.bw_http.proofs.replies.write_sheet.Goals as goal
 pub returns-in_err-write_head : goal.returns-in_err-write_head
 returns-in_err-write_head g c =
     sends_stops _ c.args.sheet c.in_err-write_head.ensures c.from_residual.ensures.0
-    (sheet_bytes (codes "200 OK") c.args.kind.now [] c.args.sheet _ c.length.ensures)
+    (sheet_bytes (codes "HTTP/1.1 200 OK") c.args.kind.now [] c.args.sheet _ c.length.ensures)
 
 pub returns : goal.returns
 returns g c =
     then_sends g.W.Channel g.met.W.Sink.same_trans _ c.args.sheet (sent c.in_ok-write_head.ensures) c.write.ensures
-    (sheet_bytes (codes "200 OK") c.args.kind.now [] c.args.sheet _ c.length.ensures)
+    (sheet_bytes (codes "HTTP/1.1 200 OK") c.args.kind.now [] c.args.sheet _ c.length.ensures)

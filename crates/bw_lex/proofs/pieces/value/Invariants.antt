@@ -1,5 +1,5 @@
 use Rattle.std.proofs.Common.{◌≡◌, ◌≤◌, take}
-use Rattle.bw_lang.specs.TokenForms.{value}
+use Rattle.bw_lang.specs.Text.TokenForms.{value}
 use Rattle.bw_lex.proofs.pieces.value.Given as goal
 
 abbrev pub invariant-loop-b : goal.invariant-loop-b

@@ -1,5 +1,5 @@
 use Rattle.std.proofs.Common.{◌≡◌, ◌≤◌, drop, max}
-use Rattle.bw_lang.specs.Brackets.{deepest}
+use Rattle.bw_lang.specs.Text.Brackets.{deepest}
 use Rattle.bw_limits.proofs.brackets.deepest.Given as goal
 
 abbrev pub invariant-loop-lexeme : goal.invariant-loop-lexeme

@@ -1,6 +1,6 @@
 use Rattle.std.proofs.Common.{◌≡◌, ◌≤◌, drop, find}
 use Rattle.std.specs.Prelude.{nat_lt}
-use Rattle.bw_lang.specs.Brackets.{stretches}
+use Rattle.bw_lang.specs.Text.Brackets.{stretches}
 use Rattle.bw_limits.proofs.brackets.long_stretch.Given as goal
 
 abbrev pub invariant-loop-lexeme : goal.invariant-loop-lexeme

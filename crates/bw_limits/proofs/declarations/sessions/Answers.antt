@@ -1,6 +1,6 @@
 use Rattle.std.proofs.Common.{rules, ◌≡◌, ◌∙◌, count_by}
 use Rattle.std.specs.Option.{is_some}
-use Rattle.bw_lang.specs.Sorted.{as_session}
+use Rattle.bw_lang.specs.Service.Sorted.{as_session}
 use Rattle.bw_limits.proofs.Sorts.{sort_counted}
 use Rattle.bw_limits.proofs.declarations.sessions.Goals as goal
 

@@ -1,6 +1,6 @@
 use Rattle.std.proofs.Common.{rules, ◌≡◌, ◌∙◌, count_by}
 use Rattle.std.specs.Option.{is_some}
-use Rattle.bw_lang.specs.Sorted.{as_template}
+use Rattle.bw_lang.specs.Service.Sorted.{as_template}
 use Rattle.bw_limits.proofs.Sorts.{sort_counted}
 use Rattle.bw_limits.proofs.declarations.templates.Goals as goal
 

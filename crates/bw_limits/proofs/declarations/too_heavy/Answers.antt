@@ -1,7 +1,7 @@
 use Rattle.std.proofs.Common.{◌<◌, ◌^◌}
 use Rattle.bw_limits.proofs.Firsts.{looked_at, by_sort}
-use Rattle.bw_lang.specs.Sorted.{as_template}
-use Rattle.bw_lang.specs.Measures.{constant_weight}
+use Rattle.bw_lang.specs.Service.Sorted.{as_template}
+use Rattle.bw_lang.specs.Document.Measures.{constant_weight}
 use Rattle.bw_limits.proofs.Sorts.{sort_read}
 use Rattle.bw_limits.proofs.declarations.too_heavy.Goals as goal
 

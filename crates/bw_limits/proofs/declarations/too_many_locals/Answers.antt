@@ -1,7 +1,7 @@
 use Rattle.bw_limits.proofs.Firsts.{looked_at, by_sort}
 use Rattle.std.proofs.Common.{length, ◌<◌, ◌^◌}
-use Rattle.bw_lang.specs.CodeNames.{local_names}
-use Rattle.bw_lang.specs.Sorted.{as_session}
+use Rattle.bw_lang.specs.Service.CodeNames.{local_names}
+use Rattle.bw_lang.specs.Service.Sorted.{as_session}
 use Rattle.bw_limits.proofs.Sorts.{sort_read}
 use Rattle.bw_limits.proofs.declarations.too_many_locals.Goals as goal
 

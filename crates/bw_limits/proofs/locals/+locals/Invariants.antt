@@ -1,6 +1,6 @@
 use Rattle.std.proofs.Common.{◌≡◌, length, take}
-use Rattle.bw_lang.specs.CodeNames.{local_names}
-use Rattle.bw_lang.specs.CodeView.{code}
+use Rattle.bw_lang.specs.Service.CodeNames.{local_names}
+use Rattle.bw_lang.specs.Service.CodeView.{code}
 use Rattle.bw_limits.proofs.locals.+locals.Given as goal
 
 abbrev pub invariant-in_block-loop-stmt : goal.invariant-in_block-loop-stmt

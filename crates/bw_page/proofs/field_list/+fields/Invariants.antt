@@ -1,6 +1,6 @@
 use Rattle.std.proofs.Common.{◌≡◌, ◌++◌, take}
-use Rattle.bw_lang.specs.View.{forest}
-use Rattle.bw_lang.specs.Controls.{fields}
+use Rattle.bw_lang.specs.Document.View.{forest}
+use Rattle.bw_lang.specs.Template.Controls.{fields}
 use Rattle.bw_page.proofs.field_list.+fields.Given as goal
 
 abbrev pub invariant-put_items-loop-item : goal.invariant-put_items-loop-item

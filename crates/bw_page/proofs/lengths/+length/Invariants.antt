@@ -1,6 +1,6 @@
 use Rattle.std.proofs.Common.{◌≡◌, length, take}
-use Rattle.bw_lang.specs.View.{forest}
-use Rattle.bw_lang.specs.Print.{print}
+use Rattle.bw_lang.specs.Document.View.{forest}
+use Rattle.bw_lang.specs.Document.Print.{print}
 use Rattle.bw_page.proofs.lengths.+length.Given as goal
 
 abbrev pub invariant-items_length-loop-item : goal.invariant-items_length-loop-item

@@ -1,5 +1,5 @@
 use Rattle.std.proofs.Common.{◌≡◌, length, take}
-use Rattle.bw_lang.specs.Print.{printed_attrs}
+use Rattle.bw_lang.specs.Document.Print.{printed_attrs}
 use Rattle.bw_page.proofs.lengths.attrs_length.Given as goal
 
 abbrev pub invariant-loop-attr : goal.invariant-loop-attr

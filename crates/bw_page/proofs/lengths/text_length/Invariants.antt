@@ -1,5 +1,5 @@
 use Rattle.std.proofs.Common.{◌≡◌, length, take}
-use Rattle.bw_lang.specs.Markup.{escaped}
+use Rattle.bw_lang.specs.Template.Markup.{escaped}
 use Rattle.bw_page.proofs.lengths.text_length.Given as goal
 
 abbrev pub invariant-loop-byte : goal.invariant-loop-byte

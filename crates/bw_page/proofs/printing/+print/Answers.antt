@@ -1,9 +1,9 @@
 use Rattle.std.proofs.Common.{refl, ap, sym, ◌∙◌, ◌+◌, ◌++◌, take, drop}
 use Rattle.std.specs.Prelude.{codes}
 use Rattle.std.proofs.lemmas.List.{append-nil}
-use Rattle.bw_lang.specs.Forest.{none}
-use Rattle.bw_lang.specs.View.{forest, before}
-use Rattle.bw_lang.specs.Print.{print, printed_start, printed_end}
+use Rattle.bw_lang.specs.Document.Forest.{none}
+use Rattle.bw_lang.specs.Document.View.{forest, before}
+use Rattle.bw_lang.specs.Document.Print.{print, printed_start, printed_end}
 use Rattle.bw_out.proofs.SendLaws.{sent, sent_more, then_sends, sends_stops}
 use Rattle.bw_page.proofs.Printed.{print-parts, print-more, void_bytes, open_bytes}
 use Rattle.bw_page.proofs.printing.+print.Goals as goal

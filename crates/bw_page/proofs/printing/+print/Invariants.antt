@@ -1,6 +1,6 @@
 use Rattle.std.proofs.Common.{take}
-use Rattle.bw_lang.specs.View.{forest}
-use Rattle.bw_lang.specs.Print.{print}
+use Rattle.bw_lang.specs.Document.View.{forest}
+use Rattle.bw_lang.specs.Document.Print.{print}
 use Rattle.bw_out.specs.Sends.{Sent}
 use Rattle.bw_page.proofs.printing.+print.Given as goal
 

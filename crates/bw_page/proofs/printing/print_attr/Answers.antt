@@ -1,6 +1,6 @@
 use Rattle.std.proofs.Common.{ap, ◌++◌}
 use Rattle.std.specs.Prelude.{codes}
-use Rattle.bw_lang.specs.Markup.{escaped}
+use Rattle.bw_lang.specs.Template.Markup.{escaped}
 use Rattle.bw_out.proofs.SendLaws.{sent, then_sends, sends_stops}
 use Rattle.bw_page.proofs.Printed.{attr_bytes}
 use Rattle.bw_page.proofs.printing.print_attr.Goals as goal

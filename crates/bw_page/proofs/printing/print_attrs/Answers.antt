@@ -1,5 +1,5 @@
 use Rattle.std.proofs.Common.{refl, ap, ◌∙◌, ◌+◌, take, drop}
-use Rattle.bw_lang.specs.Print.{printed_attr, printed_attrs}
+use Rattle.bw_lang.specs.Document.Print.{printed_attr, printed_attrs}
 use Rattle.bw_out.proofs.SendLaws.{sent, sent_more, then_sends, sends_stops}
 use Rattle.bw_page.proofs.Printed.{printed_attrs-parts, printed_attrs-more}
 use Rattle.bw_page.proofs.printing.print_attrs.Goals as goal

@@ -1,5 +1,5 @@
 use Rattle.std.proofs.Common.{take}
-use Rattle.bw_lang.specs.Print.{printed_attrs}
+use Rattle.bw_lang.specs.Document.Print.{printed_attrs}
 use Rattle.bw_out.specs.Sends.{Sent}
 use Rattle.bw_page.proofs.printing.print_attrs.Given as goal
 

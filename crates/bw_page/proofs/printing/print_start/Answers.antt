@@ -1,4 +1,4 @@
-use Rattle.bw_lang.specs.Print.{printed_attrs}
+use Rattle.bw_lang.specs.Document.Print.{printed_attrs}
 use Rattle.bw_out.proofs.SendLaws.{sent, then_sends, sends_stops}
 use Rattle.bw_page.proofs.Printed.{start_bytes}
 use Rattle.bw_page.proofs.printing.print_start.Goals as goal

@@ -1,5 +1,5 @@
 use Rattle.std.proofs.Common.{refl, ap, ◌∙◌, ◌+◌, get_or, take, drop}
-use Rattle.bw_lang.specs.Markup.{escaped, escaped_byte}
+use Rattle.bw_lang.specs.Template.Markup.{escaped, escaped_byte}
 use Rattle.bw_out.proofs.SendLaws.{sent, sent_more, then_sends, sends_stops}
 use Rattle.bw_page.proofs.Printed.{escaped-parts, escaped-more}
 use Rattle.bw_page.proofs.printing.print_text.Goals as goal

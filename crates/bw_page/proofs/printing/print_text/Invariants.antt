@@ -1,5 +1,5 @@
 use Rattle.std.proofs.Common.{take}
-use Rattle.bw_lang.specs.Markup.{escaped}
+use Rattle.bw_lang.specs.Template.Markup.{escaped}
 use Rattle.bw_out.specs.Sends.{Sent}
 use Rattle.bw_page.proofs.printing.print_text.Given as goal
 

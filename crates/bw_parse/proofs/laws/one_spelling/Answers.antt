@@ -1,5 +1,5 @@
 use Rattle.std.proofs.Common.{◌∙◌, sym, ap}
-use Rattle.bw_parse.specs.Services.{parse_service}
+use Rattle.bw_parse.specs.Steps.Services.{parse_service}
 use Rattle.bw_parse.proofs.Drafts.{service_gives}
 use Rattle.bw_lang.proofs.Options.{some_is}
 use Rattle.bw_parse.proofs.laws.one_spelling.Goals as goal

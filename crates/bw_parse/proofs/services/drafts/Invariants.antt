@@ -1,5 +1,5 @@
 use Rattle.std.proofs.Common.{◌≡◌, length, []}
-use Rattle.bw_parse.specs.Services.{parse_drafts}
+use Rattle.bw_parse.specs.Steps.Services.{parse_drafts}
 use Rattle.bw_parse.proofs.services.drafts.Given as goal
 
 abbrev pub invariant-drafts : goal.invariant-drafts

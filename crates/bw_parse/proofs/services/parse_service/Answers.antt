@@ -6,7 +6,7 @@ use Rattle.bw_parse.specs.declared.fault.ParseFault.{ParseFault}
 use Rattle.bw_parse.specs.declared.fault.ParseFault.TheVariants as faults
 use Rattle.bw_parse.specs.declared.services.ServiceDraft.{ServiceDraft}
 use Rattle.bw_parse.specs.Gives.{Gives}
-use Rattle.bw_parse.specs.Services.{parse_service}
+use Rattle.bw_parse.specs.Steps.Services.{parse_service}
 use Rattle.bw_parse.proofs.Drafts.{ReadsService, service_is, service_gives}
 use Rattle.bw_parse.proofs.services.parse_service.Goals as goal
 

@@ -1,6 +1,6 @@
 use Rattle.std.proofs.Common.{◌≡◌, ◌≤◌, ◌+◌, ◌*◌, length}
-use Rattle.bw_lang.specs.CodeView.{code}
-use Rattle.bw_parse.specs.Statements.{parse_code, with_code}
+use Rattle.bw_lang.specs.Service.CodeView.{code}
+use Rattle.bw_parse.specs.Steps.Statements.{parse_code, with_code}
 use Rattle.bw_parse.proofs.statements.+statement.Given as goal
 
 abbrev pub decreases-braces : goal.decreases-braces

@@ -1,5 +1,5 @@
 use Rattle.std.proofs.Common.{◌≡◌, ◌≤◌, length, []}
-use Rattle.bw_parse.specs.Statements.{parse_list}
+use Rattle.bw_parse.specs.Steps.Statements.{parse_list}
 use Rattle.bw_parse.proofs.statements.receive_list.Given as goal
 
 abbrev pub invariant-receives : goal.invariant-receives

@@ -1,5 +1,5 @@
 use Rattle.std.proofs.Common.{◌∙◌, sym, ap}
-use Rattle.bw_read.specs.Root as spec
+use Rattle.bw_read.specs.Steps.Root as spec
 use Rattle.bw_read.proofs.Decided.{rootless}
 use Rattle.bw_read.proofs.reading.is_root.Goals as goal
 

@@ -1,6 +1,6 @@
 use Rattle.std.proofs.Common.{◌≤◌, ℕ, List, length, subst, sym, arith}
 use Rattle.std.proofs.lemmas.Result.{err_from_is_err_and}
-use Rattle.bw_lang.specs.Templates.{IsClosedTemplate}
+use Rattle.bw_lang.specs.Template.Templates.{IsClosedTemplate}
 use Rattle.bw_tmpl.specs.Refusals.{IsClosedRefused}
 use Rattle.bw_read.proofs.Decided.{page_read, refused, not_rooted}
 use Rattle.bw_read.proofs.Pages.{pages_are_small}

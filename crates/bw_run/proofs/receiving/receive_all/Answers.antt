@@ -1,5 +1,5 @@
 use Rattle.std.proofs.Common.{sym, ◌∙◌, refl, map, subst}
-use Rattle.bw_lang.specs.Submissions.{values_of}
+use Rattle.bw_lang.specs.Service.Submissions.{values_of}
 use Rattle.bw_meaning.specs.Statements.{received}
 use Rattle.bw_run.specs.Code.{state, AreShort}
 use Rattle.bw_follow.specs.Runs.{plain}

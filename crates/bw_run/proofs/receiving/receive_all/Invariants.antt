@@ -3,7 +3,7 @@ use Rattle.bw_meaning.specs.Statements.{received}
 use Rattle.std.proofs.Common.{List}
 use Rattle.std.specs.List.{All}
 use Rattle.bw_lang.specs.declared.service.Template.{Template}
-use Rattle.bw_lang.specs.Submissions.{values_of}
+use Rattle.bw_lang.specs.Service.Submissions.{values_of}
 use Rattle.bw_run.specs.Code.{state, AreShort, IsSound}
 use Rattle.bw_follow.specs.Runs.{plain}
 use Rattle.bw_run.proofs.receiving.receive_all.Given as goal

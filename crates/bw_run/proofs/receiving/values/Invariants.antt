@@ -1,5 +1,5 @@
 use Rattle.std.proofs.Common.{◌≡◌, take}
-use Rattle.bw_lang.specs.Submissions.{values_of}
+use Rattle.bw_lang.specs.Service.Submissions.{values_of}
 use Rattle.bw_run.proofs.receiving.values.Given as goal
 
 abbrev pub invariant-loop-name : goal.invariant-loop-name

@@ -1,4 +1,4 @@
-use Rattle.bw_lang.specs.TermView.{term}
+use Rattle.bw_lang.specs.Service.TermView.{term}
 use Rattle.bw_meaning.specs.Expressions.{eval}
 use Rattle.bw_eval.specs.View.{values}
 use Rattle.bw_eval.proofs.Fills.{ok_document}

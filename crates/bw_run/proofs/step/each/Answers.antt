@@ -1,7 +1,7 @@
 use Rattle.std.proofs.Common.{arith, rules}
 use Rattle.std.proofs.lemmas.Grind.{common_steps}
 use Rattle.bw_flow.specs.Steps.{goes_over}
-use Rattle.bw_lang.specs.TermView.{term}
+use Rattle.bw_lang.specs.Service.TermView.{term}
 use Rattle.bw_run.proofs.Tidy.{sound_rules}
 use Rattle.bw_run.proofs.step.each.Goals as goal
 

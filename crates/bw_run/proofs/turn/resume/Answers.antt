@@ -6,7 +6,7 @@ use Rattle.std.proofs.lemmas.List.Elements.{All-nil}
 use Rattle.bw_flow.specs.Stands.{IsAt}
 use Rattle.bw_flow.specs.Steps.{Plan}
 use Rattle.bw_flow.specs.View.{seen}
-use Rattle.bw_lang.specs.Submissions.{values_of}
+use Rattle.bw_lang.specs.Service.Submissions.{values_of}
 use Rattle.bw_eval.specs.View.{values}
 use Rattle.bw_follow.specs.Runs.{first_of, fields_of}
 use Rattle.bw_follow.specs.Scoped.{names_in}

@@ -1,5 +1,5 @@
 use Rattle.std.proofs.Common.{◌≡◌, drop}
-use Rattle.bw_schema.specs.Judging.{marks_of}
+use Rattle.bw_schema.specs.Steps.Judging.{marks_of}
 use Rattle.bw_schema.specs.Marks.{first_missing}
 use Rattle.bw_schema.proofs.claims.known.Given as goal
 

@@ -1,7 +1,7 @@
 use Rattle.std.proofs.Common.{ap, sym, ◌∙◌}
 use Rattle.bw_schema.specs.Forms.{is_nothing}
 use Rattle.bw_schema.specs.Needs.{Needs}
-use Rattle.bw_schema.specs.Reading.{formula_at}
+use Rattle.bw_schema.specs.Steps.Reading.{formula_at}
 use Rattle.bw_schema.proofs.Complete.{all_needs, formula_less, no_depth, onto, onto_more, onto_none, parts_found, some_needs}
 use Rattle.bw_schema.proofs.formulas.+formulas.Goals as goal
 

@@ -1,5 +1,5 @@
 use Rattle.std.proofs.Common.{◌≡◌, ◌+◌, drop}
-use Rattle.bw_schema.specs.Reading.{count_values}
+use Rattle.bw_schema.specs.Steps.Reading.{count_values}
 use Rattle.bw_schema.proofs.formulas.count_values.Given as goal
 
 abbrev pub invariant-loop-word : goal.invariant-loop-word

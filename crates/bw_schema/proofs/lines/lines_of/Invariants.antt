@@ -1,5 +1,5 @@
 use Rattle.std.proofs.Common.{◌≡◌, drop}
-use Rattle.bw_schema.specs.Reading.{lines_of}
+use Rattle.bw_schema.specs.Steps.Reading.{lines_of}
 use Rattle.bw_schema.proofs.Loops.{in_front}
 use Rattle.bw_schema.proofs.lines.lines_of.Given as goal
 

@@ -1,5 +1,5 @@
 use Rattle.std.proofs.Common.{◌≡◌, inr, ap, sym, ◌∙◌}
-use Rattle.bw_schema.specs.Reading.{read, read_said}
+use Rattle.bw_schema.specs.Steps.Reading.{read, read_said}
 use Rattle.bw_schema.specs.Words.{said}
 use Rattle.bw_schema.proofs.Schemas.{not_utf8, short_step}
 use Rattle.bw_schema.proofs.reading.read.Goals as goal

@@ -1,6 +1,6 @@
 use Rattle.std.proofs.Common.{◌≡◌, drop}
-use Rattle.bw_lang.specs.Names.{with_names}
-use Rattle.bw_lang.specs.TermView.{fillings}
+use Rattle.bw_lang.specs.Table.Names.{with_names}
+use Rattle.bw_lang.specs.Service.TermView.{fillings}
 use Rattle.bw_strings.specs.Literals.{filling_strings}
 use Rattle.bw_strings.proofs.reading.+expression.Given as goal
 

@@ -1,6 +1,6 @@
 use Rattle.std.proofs.Common.{◌≡◌, drop}
-use Rattle.bw_lang.specs.CodeView.{code}
-use Rattle.bw_lang.specs.Names.{with_names}
+use Rattle.bw_lang.specs.Service.CodeView.{code}
+use Rattle.bw_lang.specs.Table.Names.{with_names}
 use Rattle.bw_strings.specs.Literals.{code_strings}
 use Rattle.bw_strings.proofs.reading.+statements.Given as goal
 

@@ -1,6 +1,6 @@
 use Rattle.std.proofs.Common.{◌≡◌, drop, map, flat_map}
-use Rattle.bw_lang.specs.Names.{with_names}
-use Rattle.bw_lang.specs.Order.{declarations_of, seen}
+use Rattle.bw_lang.specs.Table.Names.{with_names}
+use Rattle.bw_lang.specs.Service.Order.{declarations_of, seen}
 use Rattle.bw_strings.specs.Literals.{declaration_strings}
 use Rattle.bw_strings.proofs.reading.add_strings.Given as goal
 

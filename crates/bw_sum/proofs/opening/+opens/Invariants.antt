@@ -1,5 +1,5 @@
 use Rattle.std.proofs.Common.{◌≡◌, drop}
-use Rattle.bw_lang.specs.View.{forest}
+use Rattle.bw_lang.specs.Document.View.{forest}
 use Rattle.bw_sum.specs.Opening.{opens}
 use Rattle.bw_sum.proofs.opening.+opens.Given as goal
 

@@ -1,5 +1,5 @@
 use Rattle.std.proofs.Common.{◌≡◌, take, map}
-use Rattle.bw_lang.specs.Lexemes.{lexeme}
+use Rattle.bw_lang.specs.Text.Lexemes.{lexeme}
 use Rattle.bw_syntax.proofs.lexemes.lexemes_of.Given as goal
 
 abbrev pub invariant-loop-token : goal.invariant-loop-token

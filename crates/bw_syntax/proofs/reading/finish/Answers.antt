@@ -1,6 +1,6 @@
 use Rattle.std.proofs.Common.{[], sym, subst}
 use Rattle.std.specs.Prelude.{All}
-use Rattle.bw_lang.specs.Sorted.{templates_of, sessions_of}
+use Rattle.bw_lang.specs.Service.Sorted.{templates_of, sessions_of}
 use Rattle.bw_syntax.proofs.Sizes.{IsLight, HasFewLocals, read_small}
 use Rattle.bw_syntax.proofs.Stages.{first_unread_refuses}
 use Rattle.bw_syntax.proofs.reading.finish.Goals as goal

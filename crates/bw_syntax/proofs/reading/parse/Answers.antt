@@ -1,5 +1,5 @@
 use Rattle.std.proofs.Common.{◌∙◌, sym, ap}
-use Rattle.bw_lang.specs.Brackets.{too_deep}
+use Rattle.bw_lang.specs.Text.Brackets.{too_deep}
 use Rattle.bw_syntax.proofs.reading.parse.Goals as goal
 
 pub returns-in-Err-Syntax-clause-unparsed : goal.returns-in-Err-Syntax-clause-unparsed

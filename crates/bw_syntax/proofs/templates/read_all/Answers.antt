@@ -1,6 +1,6 @@
 use Rattle.std.proofs.Common.{[], ◌∷◌, ◌++◌, sym, ap, ◌∙◌, subst, append_assoc}
-use Rattle.bw_lang.specs.Drafts.{AreFormed}
-use Rattle.bw_lang.specs.Reads.{AreRead}
+use Rattle.bw_lang.specs.Service.Drafts.{AreFormed}
+use Rattle.bw_lang.specs.Service.Reads.{AreRead}
 use Rattle.bw_syntax.specs.Refusals.{IsFirstUnread}
 use Rattle.bw_syntax.proofs.Declared.{one_more, one_unread, formed_at}
 use Rattle.bw_syntax.proofs.templates.read_all.Goals as goal

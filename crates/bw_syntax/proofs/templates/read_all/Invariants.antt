@@ -1,5 +1,5 @@
 use Rattle.std.proofs.Common.{◌≡◌, ◌++◌, []}
-use Rattle.bw_lang.specs.Reads.{AreRead}
+use Rattle.bw_lang.specs.Service.Reads.{AreRead}
 use Rattle.bw_syntax.proofs.templates.read_all.Given as goal
 
 abbrev pub invariant-loop-draft : goal.invariant-loop-draft

@@ -1,5 +1,5 @@
 use Rattle.std.proofs.Common.{refl, subst}
-use Rattle.bw_lang.specs.Reads.{IsInside}
+use Rattle.bw_lang.specs.Service.Reads.{IsInside}
 use Rattle.bw_syntax.proofs.Declared.{inside_read}
 use Rattle.bw_syntax.proofs.templates.read_one.Goals as goal
 

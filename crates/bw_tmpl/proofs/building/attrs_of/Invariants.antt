@@ -1,5 +1,5 @@
 use Rattle.std.proofs.Common.{◌≡◌, map, take}
-use Rattle.bw_lang.specs.NumberedGaps.{numbered}
+use Rattle.bw_lang.specs.Template.NumberedGaps.{numbered}
 use Rattle.bw_tmpl.proofs.building.attrs_of.Given as goal
 
 abbrev pub invariant-loop-attr : goal.invariant-loop-attr

@@ -1,6 +1,6 @@
 use Rattle.std.proofs.Common.{◌≡◌, ◌+◌, drop}
-use Rattle.bw_tmpl.specs.Reading.{leading}
-use Rattle.bw_lang.specs.MarkupNames.{later_of}
+use Rattle.bw_tmpl.specs.Steps.Reading.{leading}
+use Rattle.bw_lang.specs.Template.MarkupNames.{later_of}
 use Rattle.bw_tmpl.proofs.chars.name_length.Given as goal
 
 abbrev pub invariant-loop-b : goal.invariant-loop-b

@@ -1,6 +1,6 @@
 use Rattle.std.proofs.Common.{◌≡◌, ◌+◌, drop}
-use Rattle.bw_tmpl.specs.Reading.{leading}
-use Rattle.bw_lang.specs.Bytes.{is_blank}
+use Rattle.bw_tmpl.specs.Steps.Reading.{leading}
+use Rattle.bw_lang.specs.Text.Bytes.{is_blank}
 use Rattle.bw_tmpl.proofs.chars.past_blanks.Given as goal
 
 abbrev pub invariant-loop-b : goal.invariant-loop-b

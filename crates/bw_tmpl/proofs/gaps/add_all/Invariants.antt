@@ -1,6 +1,6 @@
 use Rattle.std.proofs.Common.{◌≡◌, drop}
-use Rattle.bw_lang.specs.Names.{with_names, Extends}
-use Rattle.bw_lang.specs.PieceGaps.{gap_names}
+use Rattle.bw_lang.specs.Table.Names.{with_names, Extends}
+use Rattle.bw_lang.specs.Template.PieceGaps.{gap_names}
 use Rattle.bw_tmpl.proofs.gaps.add_all.Given as goal
 
 abbrev pub invariant-loop-piece : goal.invariant-loop-piece

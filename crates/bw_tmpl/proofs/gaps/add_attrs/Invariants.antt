@@ -1,6 +1,6 @@
 use Rattle.std.proofs.Common.{◌≡◌, drop}
-use Rattle.bw_lang.specs.Names.{with_names, Extends}
-use Rattle.bw_lang.specs.PieceGaps.{attr_gaps}
+use Rattle.bw_lang.specs.Table.Names.{with_names, Extends}
+use Rattle.bw_lang.specs.Template.PieceGaps.{attr_gaps}
 use Rattle.bw_tmpl.proofs.gaps.add_attrs.Given as goal
 
 abbrev pub invariant-loop-attr : goal.invariant-loop-attr

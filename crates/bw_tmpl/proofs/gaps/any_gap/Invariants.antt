@@ -1,5 +1,5 @@
 use Rattle.std.proofs.Common.{◌≡◌, drop}
-use Rattle.bw_lang.specs.PieceGaps.{gap_names}
+use Rattle.bw_lang.specs.Template.PieceGaps.{gap_names}
 use Rattle.bw_tmpl.proofs.gaps.any_gap.Given as goal
 
 abbrev pub invariant-loop-piece : goal.invariant-loop-piece

@@ -1,14 +1,14 @@
 use Rattle.std.proofs.Common.{◌≡◌, ◌≢◌, ℕ, List, Some, ap, sym, ◌∙◌}
 use Rattle.std.proofs.lemmas.Result.{err_from_is_err_and, MatchResult-weaker}
-use Rattle.bw_lang.specs.Forest.{Forest}
-use Rattle.bw_lang.specs.Names.{with_names}
+use Rattle.bw_lang.specs.Document.Forest.{Forest}
+use Rattle.bw_lang.specs.Table.Names.{with_names}
 use Rattle.bw_tmpl.specs.declared.fault.TmplFault.{TmplFault}
 use Rattle.bw_tmpl.specs.declared.fault.TmplFault.TheVariants as fault
 use Rattle.bw_lang.specs.declared.pieces.Piece.{Piece}
 use Rattle.bw_tmpl.specs.declared.reading.TheConstants.{TEMPLATE_NESTING}
 use Rattle.bw_tmpl.specs.Building.{built, MismatchedIfNone}
-use Rattle.bw_lang.specs.PieceGaps.{gap_names}
-use Rattle.bw_lang.specs.Pieces.{SpellsPieces}
+use Rattle.bw_lang.specs.Template.PieceGaps.{gap_names}
+use Rattle.bw_lang.specs.Template.Pieces.{SpellsPieces}
 use Rattle.bw_tmpl.proofs.GapLaws.{none_unknown}
 use Rattle.bw_tmpl.proofs.Inverse.{built_reads}
 use Rattle.bw_tmpl.proofs.SpelledPieces.{pieces_spelled}

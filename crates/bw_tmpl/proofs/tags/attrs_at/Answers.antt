@@ -1,6 +1,6 @@
 use Rattle.std.proofs.Common.{ap, ◌∙◌, List}
 use Rattle.bw_lang.specs.declared.pieces.RawAttr.{RawAttr}
-use Rattle.bw_tmpl.specs.Reading.{each, attr_at}
+use Rattle.bw_tmpl.specs.Steps.Reading.{each, attr_at}
 use Rattle.bw_tmpl.proofs.Many.{onto, onto_more, onto_none}
 use Rattle.bw_tmpl.proofs.Shrinking.{attr_less, attr_shrinks}
 use Rattle.bw_tmpl.proofs.tags.attrs_at.Goals as goal

@@ -1,6 +1,6 @@
 use Rattle.std.proofs.Common.{ap, ◌∙◌, List}
 use Rattle.bw_lang.specs.declared.pieces.Piece.{Piece}
-use Rattle.bw_tmpl.specs.Reading.{each, piece_at}
+use Rattle.bw_tmpl.specs.Steps.Reading.{each, piece_at}
 use Rattle.bw_tmpl.proofs.Many.{onto, onto_more, onto_none}
 use Rattle.bw_tmpl.proofs.Shrinking.{piece_less, piece_shrinks}
 use Rattle.bw_tmpl.proofs.tags.pieces_at.Goals as goal

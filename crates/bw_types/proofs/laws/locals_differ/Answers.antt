@@ -2,7 +2,7 @@ use Rattle.std.specs.List.{All, AllPairs, Contains}
 use Rattle.std.specs.Prelude.{◌≢◌}
 use Rattle.std.proofs.lemmas.List.Elements.{All-nil}
 use Rattle.bw_lang.specs.declared.service.Session.{Session}
-use Rattle.bw_lang.specs.CodeNames.{local_names}
+use Rattle.bw_lang.specs.Service.CodeNames.{local_names}
 use Rattle.bw_lang.proofs.Small.{readable_is_woven}
 use Rattle.bw_types.specs.Scopes.{declared_names, no_locals}
 use Rattle.bw_types.proofs.OwnLocals.{locals_own}

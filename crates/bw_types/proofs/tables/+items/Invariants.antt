@@ -1,6 +1,6 @@
 use Rattle.std.proofs.Common.{◌≡◌, take}
-use Rattle.bw_lang.specs.Controls.{fields}
-use Rattle.bw_lang.specs.View.{forest}
+use Rattle.bw_lang.specs.Template.Controls.{fields}
+use Rattle.bw_lang.specs.Document.View.{forest}
 use Rattle.bw_types.specs.Gaps.{gap_uses}
 use Rattle.bw_types.specs.Tables.{with_kinds, with_uses}
 use Rattle.bw_types.proofs.tables.+items.Given as goal

@@ -1,5 +1,5 @@
 use Rattle.std.proofs.Common.{◌≡◌, [], map, take}
-use Rattle.bw_lang.specs.Names.{with_names}
+use Rattle.bw_lang.specs.Table.Names.{with_names}
 use Rattle.bw_types.proofs.tables.template_names.Given as goal
 
 abbrev pub invariant-loop-template : goal.invariant-loop-template

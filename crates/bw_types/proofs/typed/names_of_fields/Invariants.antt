@@ -1,7 +1,7 @@
 use Rattle.std.proofs.Common.{◌≡◌, [], take, map, flat_map}
-use Rattle.bw_lang.specs.Limits.{declared_fields}
-use Rattle.bw_lang.specs.Names.{with_names}
-use Rattle.bw_lang.specs.Order.{seen}
+use Rattle.bw_lang.specs.Service.Limits.{declared_fields}
+use Rattle.bw_lang.specs.Table.Names.{with_names}
+use Rattle.bw_lang.specs.Service.Order.{seen}
 use Rattle.bw_types.proofs.typed.names_of_fields.Given as goal
 
 abbrev pub invariant-loop-declaration : goal.invariant-loop-declaration

@@ -1,6 +1,6 @@
 use Rattle.std.proofs.Common.{arith, ap, ◌∙◌, sym, subst}
-use Rattle.bw_lang.specs.Documents.{elements}
-use Rattle.bw_lang.specs.Forest.{forest_size}
+use Rattle.bw_lang.specs.Document.Documents.{elements}
+use Rattle.bw_lang.specs.Document.Forest.{forest_size}
 use Rattle.bw_valid.specs.Breaches.{first_broken}
 use Rattle.bw_valid.proofs.Walks.{broken_there, elements_upto, item_le-size}
 use Rattle.bw_valid.proofs.breach.+walk.Goals as goal

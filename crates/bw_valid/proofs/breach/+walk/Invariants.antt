@@ -1,6 +1,6 @@
 use Rattle.std.proofs.Common.{◌≡◌, ◌+◌, take, None}
-use Rattle.bw_lang.specs.View.{forest}
-use Rattle.bw_lang.specs.Documents.{elements}
+use Rattle.bw_lang.specs.Document.View.{forest}
+use Rattle.bw_lang.specs.Document.Documents.{elements}
 use Rattle.bw_valid.specs.Breaches.{first_broken}
 use Rattle.bw_valid.proofs.breach.+walk.Given as goal
 

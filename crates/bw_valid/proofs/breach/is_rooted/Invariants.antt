@@ -1,5 +1,5 @@
 use Rattle.std.proofs.Common.{◌≡◌, drop}
-use Rattle.bw_lang.specs.View.{forest}
+use Rattle.bw_lang.specs.Document.View.{forest}
 use Rattle.bw_schema.specs.Validity.{is_rooted}
 use Rattle.bw_valid.specs.Breaches.{is_rooted_from}
 use Rattle.bw_valid.proofs.breach.is_rooted.Given as goal

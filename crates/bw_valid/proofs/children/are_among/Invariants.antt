@@ -1,5 +1,5 @@
 use Rattle.std.proofs.Common.{◌≡◌, take}
-use Rattle.bw_lang.specs.View.{forest}
+use Rattle.bw_lang.specs.Document.View.{forest}
 use Rattle.bw_schema.specs.Words.{is_among}
 use Rattle.bw_schema.specs.Validity.{each_child}
 use Rattle.bw_valid.proofs.children.are_among.Given as goal

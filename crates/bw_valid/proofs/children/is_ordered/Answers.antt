@@ -1,5 +1,5 @@
 use Rattle.std.proofs.Common.{Bool, ◌+◌, drop, ap, sym, ◌∙◌}
-use Rattle.bw_lang.specs.View.{forest}
+use Rattle.bw_lang.specs.Document.View.{forest}
 use Rattle.bw_valid.specs.Breaches.{ordered_behind}
 use Rattle.bw_valid.proofs.Walks.{order_done, order_more}
 use Rattle.bw_valid.proofs.children.is_ordered.Goals as goal

@@ -1,5 +1,5 @@
 use Rattle.std.proofs.Common.{◌≡◌, drop}
-use Rattle.bw_lang.specs.View.{forest}
+use Rattle.bw_lang.specs.Document.View.{forest}
 use Rattle.bw_schema.specs.Validity.{ordered}
 use Rattle.bw_valid.specs.Breaches.{ordered_behind}
 use Rattle.bw_valid.proofs.children.is_ordered.Given as goal

@@ -1,5 +1,5 @@
 use Rattle.std.proofs.Common.{◌≤◌, ℕ, [], length, arith}
-use Rattle.bw_lang.specs.Templates.{IsTemplate}
+use Rattle.bw_lang.specs.Template.Templates.{IsTemplate}
 use Rattle.bw_lang.proofs.Weights.{parts_weigh}
 use Rattle.bw_tmpl.proofs.Weights.{items_bounded}
 use Rattle.schema_cases.proofs.pages.judged.Goals as goal

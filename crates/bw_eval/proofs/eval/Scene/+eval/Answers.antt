@@ -2,9 +2,9 @@ use Rattle.std.proofs.Common.{ap, ◌∙◌, arith}
 use Rattle.std.proofs.lemmas.Grind.{common_steps}
 use Rattle.bw_meaning.specs.Expressions.{fill}
 use Rattle.bw_typed.specs.ShortStrings.{HaveShort}
-use Rattle.bw_lang.specs.Names as names
-use Rattle.bw_lang.specs.Term.{Fillings}
-use Rattle.bw_lang.specs.TermView.{fillings}
+use Rattle.bw_lang.specs.Table.Names as names
+use Rattle.bw_lang.specs.Service.Term.{Fillings}
+use Rattle.bw_lang.specs.Service.TermView.{fillings}
 use Rattle.bw_eval.specs.View.{value, values}
 use Rattle.bw_eval.specs.Bases.{HaveBases}
 use Rattle.bw_eval.proofs.Fills.{next_at, stops_at, stops_with, pairs_from, pair_size_at_read}
@@ -37,7 +37,7 @@ fill-returns-in_err-filled-clause-value g t c =
     (value c.in_ok-v.v) c.in_err-filled.field-0.0 c.loop-pair.units c.eval.new.units c.number-gap.result
     (go (fillings c.as_slice-pair-items.result.now))
     c.pair-item.is c.loop-pair-test.true c.loop-pair.invariant.same (c.in_ok-v.ensures.value tt) (c.number-gap.ensures
-    ∙ (λ i. names.number (c.service.ensures i).gaps (c.as_str.ensures.text i))) (c.in_err-filled.ensures.value m)
+    ∙ (λ i. names.name_number (c.service.ensures i).gaps (c.as_str.ensures.text i))) (c.in_err-filled.ensures.value m)
     ∙ ap go c.as_slice-pair-items.ensures)
 
 pub fill-loop-pair-preserved : goal.fill-loop-pair-preserved
@@ -48,7 +48,7 @@ fill-loop-pair-preserved g t c = record {
       (fill c.args.self.now.typed.now.service (values c.args.self.now.locals.now) (values c.args.self.now.shared.now)
       (fillings c.as_slice-pair-items.result.now) (value c.args.base) c.args.units.now)
       c.pair-item.is c.loop-pair-test.true c.loop-pair.invariant.same (c.in_ok-v.ensures.value tt) (c.number-gap.ensures
-      ∙ (λ i. names.number (c.service.ensures i).gaps (c.as_str.ensures.text i))) (c.in_ok-filled.ensures.value tt);
+      ∙ (λ i. names.name_number (c.service.ensures i).gaps (c.as_str.ensures.text i))) (c.in_ok-filled.ensures.value tt);
   steps = omega (arith, c.loop-pair.invariant.steps, c.in_ok-v.ensures.steps);
   left = omega (arith, c.loop-pair.invariant.left, c.in_ok-v.ensures.left);
   filled_sound = c.in_ok-filled.ensures.sound c.args.self.now.typed.now.service.templates c.loop-pair.invariant.filled_sound c.in_ok-v.ensures.sound;

@@ -1,5 +1,5 @@
 use Rattle.std.proofs.Common.{◌≡◌, ◌+◌, ◌≤◌, drop}
-use Rattle.bw_lang.specs.TermView.{fillings}
+use Rattle.bw_lang.specs.Service.TermView.{fillings}
 use Rattle.bw_meaning.specs.Expressions.{fill}
 use Rattle.bw_typed.specs.ShortStrings.{HaveShort}
 use Rattle.bw_eval.specs.Bases.{HaveBases, IsDocument}

@@ -1,6 +1,6 @@
 use Rattle.std.proofs.Common.{◌≡◌, ap, sym, ◌∙◌, map, subst}
 use Rattle.std.specs.Prelude.{position}
-use Rattle.bw_lang.specs.Names.{same}
+use Rattle.bw_lang.specs.Table.Names.{same}
 use Rattle.bw_eval.specs.Sound.{AreSound}
 use Rattle.bw_eval.specs.View.{values}
 use Rattle.bw_eval.proofs.Lookups.{pair}

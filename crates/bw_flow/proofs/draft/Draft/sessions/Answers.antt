@@ -1,5 +1,5 @@
 use Rattle.std.proofs.Common.{◌∙◌}
-use Rattle.bw_flow.specs.Drafts.{first_of}
+use Rattle.bw_flow.specs.Drawing.{first_of}
 use Rattle.bw_flow.proofs.Drafts.{goes_next}
 use Rattle.bw_flow.proofs.draft.Draft.sessions.Goals as goal
 

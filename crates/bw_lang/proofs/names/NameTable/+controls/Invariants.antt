@@ -1,7 +1,7 @@
 use Rattle.std.proofs.Common.{◌≡◌, take}
-use Rattle.bw_lang.specs.Controls.{control_names}
-use Rattle.bw_lang.specs.Names.{with_names}
-use Rattle.bw_lang.specs.View.{forest}
+use Rattle.bw_lang.specs.Template.Controls.{control_names}
+use Rattle.bw_lang.specs.Table.Names.{with_names}
+use Rattle.bw_lang.specs.Document.View.{forest}
 use Rattle.bw_lang.proofs.names.NameTable.+controls.Given as goal
 
 abbrev pub invariant-add_controls-loop-item : goal.invariant-add_controls-loop-item

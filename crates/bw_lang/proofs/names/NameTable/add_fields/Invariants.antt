@@ -1,5 +1,5 @@
 use Rattle.std.proofs.Common.{◌≡◌, map, take}
-use Rattle.bw_lang.specs.Names.{with_names}
+use Rattle.bw_lang.specs.Table.Names.{with_names}
 use Rattle.bw_lang.proofs.names.NameTable.add_fields.Given as goal
 
 abbrev pub invariant-loop-receive : goal.invariant-loop-receive

@@ -1,5 +1,5 @@
 use Rattle.std.proofs.Common.{◌≡◌, ◌++◌, drop, map}
-use Rattle.bw_lang.specs.Order.{woven, seen, declarations_of}
+use Rattle.bw_lang.specs.Service.Order.{woven, seen, declarations_of}
 use Rattle.bw_lang.proofs.service.Service.declarations.Given as goal
 
 abbrev pub invariant-loop-sort : goal.invariant-loop-sort

@@ -1,5 +1,5 @@
 use Rattle.std.proofs.Common.{◌≡◌, drop, slice_get}
-use Rattle.bw_lang.specs.Submissions.{values_of}
+use Rattle.bw_lang.specs.Service.Submissions.{values_of}
 use Rattle.bw_lang.proofs.submission.Submission.value.Given as goal
 
 abbrev pub invariant-loop-name : goal.invariant-loop-name

@@ -1,7 +1,7 @@
 use Rattle.std.proofs.Common.{◌≡◌, drop, find}
 use Rattle.std.specs.Prelude.{nat_lt}
-use Rattle.bw_lang.specs.Limits.{code_lengths}
-use Rattle.bw_lang.specs.CodeView.{code}
+use Rattle.bw_lang.specs.Service.Limits.{code_lengths}
+use Rattle.bw_lang.specs.Service.CodeView.{code}
 use Rattle.bw_limits.proofs.lengths.Search.+block.Given as goal
 
 abbrev pub invariant-block-loop-stmt : goal.invariant-block-loop-stmt

@@ -1,7 +1,7 @@
 use Rattle.std.proofs.Common.{◌≡◌, drop, find}
 use Rattle.std.specs.Prelude.{nat_lt}
-use Rattle.bw_lang.specs.Limits.{item_lengths}
-use Rattle.bw_lang.specs.View.{forest}
+use Rattle.bw_lang.specs.Service.Limits.{item_lengths}
+use Rattle.bw_lang.specs.Document.View.{forest}
 use Rattle.bw_limits.proofs.lengths.Search.+items.Given as goal
 
 abbrev pub invariant-items-loop-item : goal.invariant-items-loop-item

@@ -1,8 +1,8 @@
 use Rattle.bw_limits.proofs.Firsts.{looked_at, by_elements}
 use Rattle.std.specs.Prelude.{◌&&◌, codes}
-use Rattle.bw_lang.specs.Controls.{is_control}
-use Rattle.bw_lang.specs.Names.{same}
-use Rattle.bw_lang.specs.Limits.{value_lengths}
+use Rattle.bw_lang.specs.Template.Controls.{is_control}
+use Rattle.bw_lang.specs.Table.Names.{same}
+use Rattle.bw_lang.specs.Service.Limits.{value_lengths}
 use Rattle.bw_limits.proofs.lengths.Search.attributes.Goals as goal
 
 pub returns-in-Some : goal.returns-in-Some

@@ -1,6 +1,6 @@
 use Rattle.std.proofs.Common.{◌≡◌, drop, find}
 use Rattle.std.specs.Prelude.{nat_lt}
-use Rattle.bw_lang.specs.Limits.{attr_lengths}
+use Rattle.bw_lang.specs.Service.Limits.{attr_lengths}
 use Rattle.bw_limits.proofs.lengths.Search.attributes.Given as goal
 
 abbrev pub invariant-loop-attr : goal.invariant-loop-attr

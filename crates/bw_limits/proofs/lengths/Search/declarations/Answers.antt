@@ -1,5 +1,5 @@
 use Rattle.bw_limits.proofs.Firsts.{looked_at, by_elements}
-use Rattle.bw_lang.specs.Limits.{declaration_lengths}
+use Rattle.bw_lang.specs.Service.Limits.{declaration_lengths}
 use Rattle.bw_limits.proofs.lengths.Search.declarations.Goals as goal
 
 pub returns-in-Some : goal.returns-in-Some

@@ -1,6 +1,6 @@
 use Rattle.std.proofs.Common.{◌≡◌, drop, find, flat_map}
 use Rattle.std.specs.Prelude.{nat_lt}
-use Rattle.bw_lang.specs.Limits.{declaration_lengths}
+use Rattle.bw_lang.specs.Service.Limits.{declaration_lengths}
 use Rattle.bw_limits.proofs.lengths.Search.declarations.Given as goal
 
 abbrev pub invariant-loop-declaration : goal.invariant-loop-declaration

@@ -1,6 +1,6 @@
 use Rattle.bw_limits.proofs.Firsts.{looked_at, by_elements}
 use Rattle.std.proofs.Common.{◌++◌}
-use Rattle.bw_lang.specs.Limits.{name_length}
+use Rattle.bw_lang.specs.Service.Limits.{name_length}
 use Rattle.bw_limits.proofs.lengths.Search.receives.Goals as goal
 
 pub returns-in-Some : goal.returns-in-Some

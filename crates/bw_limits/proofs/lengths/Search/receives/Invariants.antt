@@ -1,6 +1,6 @@
 use Rattle.std.proofs.Common.{◌≡◌, drop, find}
 use Rattle.std.specs.Prelude.{nat_lt}
-use Rattle.bw_lang.specs.Limits.{receive_lengths}
+use Rattle.bw_lang.specs.Service.Limits.{receive_lengths}
 use Rattle.bw_limits.proofs.lengths.Search.receives.Given as goal
 
 abbrev pub invariant-loop-receive : goal.invariant-loop-receive

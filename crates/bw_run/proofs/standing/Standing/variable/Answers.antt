@@ -1,5 +1,5 @@
 use Rattle.bw_eval.specs.View.{values}
-use Rattle.bw_lang.specs.Names.{beside}
+use Rattle.bw_lang.specs.Table.Names.{beside}
 use Rattle.bw_run.proofs.Stores.{variable_local, variable_shared}
 use Rattle.bw_run.proofs.standing.Standing.variable.Goals as goal
 

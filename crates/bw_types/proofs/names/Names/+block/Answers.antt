@@ -1,6 +1,6 @@
 use Rattle.std.proofs.Common.{◌+◌, length, drop, refl, ap, sym, ◌∙◌}
-use Rattle.bw_lang.specs.Code.{done}
-use Rattle.bw_lang.specs.CodeView.{before, code}
+use Rattle.bw_lang.specs.Service.Code.{done}
+use Rattle.bw_lang.specs.Service.CodeView.{before, code}
 use Rattle.bw_types.specs.Faults.{code_faults}
 use Rattle.bw_types.specs.Places.{after, outside}
 use Rattle.bw_types.proofs.First.{exits, passed}

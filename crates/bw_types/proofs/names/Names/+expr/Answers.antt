@@ -1,6 +1,6 @@
 use Rattle.std.proofs.Common.{List, ap, ◌∙◌, sym}
 use Rattle.bw_lang.specs.declared.expr.Pair.{Pair}
-use Rattle.bw_lang.specs.TermView.{fillings}
+use Rattle.bw_lang.specs.Service.TermView.{fillings}
 use Rattle.bw_types.specs.ExpressionFaults.{faults_in_pairs}
 use Rattle.bw_types.proofs.First.{exits, passed, at_element}
 use Rattle.bw_types.proofs.Pairs.{pair_faults, pairs_step}

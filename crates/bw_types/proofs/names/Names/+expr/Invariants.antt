@@ -1,6 +1,6 @@
 use Rattle.std.proofs.Common.{◌≡◌, ◌+◌, ◌*◌, drop}
-use Rattle.bw_lang.specs.Term.{nodes, nodes_in}
-use Rattle.bw_lang.specs.TermView.{term, fillings}
+use Rattle.bw_lang.specs.Service.Term.{nodes, nodes_in}
+use Rattle.bw_lang.specs.Service.TermView.{term, fillings}
 use Rattle.bw_types.specs.ExpressionFaults.{faults_in_pairs}
 use Rattle.bw_types.proofs.names.Names.+expr.Given as goal
 

@@ -1,7 +1,7 @@
 use Rattle.std.proofs.Common.{List, ap, sym, ◌∙◌}
 use Rattle.bw_lang.specs.declared.items.Item.{Item}
-use Rattle.bw_lang.specs.Forest.{none}
-use Rattle.bw_lang.specs.View.{before, forest}
+use Rattle.bw_lang.specs.Document.Forest.{none}
+use Rattle.bw_lang.specs.Document.View.{before, forest}
 use Rattle.bw_types.specs.TemplateFaults.{items_faults}
 use Rattle.bw_types.proofs.First.{exits, passed, at_element}
 use Rattle.bw_types.proofs.Walks.{items_step}

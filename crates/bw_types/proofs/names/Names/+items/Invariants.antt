@@ -1,5 +1,5 @@
 use Rattle.std.proofs.Common.{◌≡◌, drop}
-use Rattle.bw_lang.specs.View.{forest}
+use Rattle.bw_lang.specs.Document.View.{forest}
 use Rattle.bw_types.specs.TemplateFaults.{items_faults}
 use Rattle.bw_types.proofs.names.Names.+items.Given as goal
 

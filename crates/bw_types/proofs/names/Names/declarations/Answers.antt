@@ -1,5 +1,5 @@
 use Rattle.std.proofs.Common.{◌+◌, ap, drop, map, sym, ◌∙◌}
-use Rattle.bw_lang.specs.Order.{seen}
+use Rattle.bw_lang.specs.Service.Order.{seen}
 use Rattle.bw_types.specs.Faults.{own_faults, faults_behind}
 use Rattle.bw_types.proofs.First.{exits, passed}
 use Rattle.bw_types.proofs.Walks.{repeated, declared_here}

@@ -1,5 +1,5 @@
 use Rattle.std.proofs.Common.{◌≡◌, [], drop, map}
-use Rattle.bw_lang.specs.Order.{seen}
+use Rattle.bw_lang.specs.Service.Order.{seen}
 use Rattle.bw_types.specs.Faults.{faults_behind}
 use Rattle.bw_types.proofs.names.Names.declarations.Given as goal
 

@@ -1,5 +1,5 @@
 use Rattle.std.proofs.Common.{sym, ◌∙◌, flat_map}
-use Rattle.bw_lang.specs.Controls.{field_of}
+use Rattle.bw_lang.specs.Template.Controls.{field_of}
 use Rattle.bw_types.specs.TemplateFaults.{field_fault}
 use Rattle.bw_types.proofs.First.{exits}
 use Rattle.bw_types.proofs.Walks.{element-passes}

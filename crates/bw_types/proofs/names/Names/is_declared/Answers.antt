@@ -1,6 +1,6 @@
 use Rattle.std.proofs.Common.{◌≡◌, Bool, true, false, ◌∙◌, sym, ap}
 use Rattle.std.specs.Prelude.{is_some, ◌||◌}
-use Rattle.bw_lang.specs.Names.{beside}
+use Rattle.bw_lang.specs.Table.Names.{beside}
 use Rattle.bw_lang.proofs.Small.{readable_is_woven}
 use Rattle.bw_types.specs.Scopes.{is_among}
 use Rattle.bw_types.proofs.Known.{declared_by}

@@ -1,5 +1,5 @@
 use Rattle.std.proofs.Common.{ap, ◌∙◌}
-use Rattle.bw_lang.specs.Names.{beside}
+use Rattle.bw_lang.specs.Table.Names.{beside}
 use Rattle.bw_types.proofs.TableLaws.{beside-lookup}
 use Rattle.bw_types.proofs.tables.Kinds.get.Goals as goal
 

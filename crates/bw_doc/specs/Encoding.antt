@@ -1,0 +1,2 @@
+pub mod MadeEncoding
+pub mod MadeFalls

@@ -1,0 +1,13 @@
+pub mod Code
+pub mod CodeNames
+pub mod CodeView
+pub mod Drafts
+pub mod Limits
+pub mod Numbers
+pub mod Order
+pub mod Readable
+pub mod Reads
+pub mod Sorted
+pub mod Submissions
+pub mod Term
+pub mod TermView

@@ -1,0 +1,10 @@
+pub mod Controls
+pub mod Markup
+pub mod MarkupBytes
+pub mod MarkupNames
+pub mod NumberedGaps
+pub mod PieceGaps
+pub mod PieceItems
+pub mod Pieces
+pub mod RepeatedAttributes
+pub mod Templates

@@ -1,0 +1,9 @@
+pub mod Brackets
+pub mod Bytes
+pub mod Cuts
+pub mod Keywords
+pub mod Levels
+pub mod Lexemes
+pub mod Spelling
+pub mod TokenForms
+pub mod Words

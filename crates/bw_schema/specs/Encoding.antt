@@ -1,0 +1,2 @@
+pub mod NeedsEncoding
+pub mod NeedsFalls
