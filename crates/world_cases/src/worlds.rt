@@ -1,0 +1,174 @@
+//! Cases of worlds.
+ghost use Rattle.std.specs.Prelude.{◌≡◌, ◌<◌};
+
+use crate::links::{Taking, answer_link, say};
+use bw_out::{MemKeys, Steps};
+use bw_syntax::read_service;
+use bw_types::{Typed, resolve};
+use bw_world::{Checked, World};
+use case_files::{Case, Fault, Texts, Verdict};
+use std::alloc::{AllocError, Global};
+use std::marker::Brand;
+use std::sync::ledger::{Blank, Ledger};
+
+/// The last key.
+const KEYS: u64 = 2_048;
+
+/// Tries a case.
+pub fn try_case(alloc: Global, texts: &Texts<'_>, case: &Case<'_>) -> Result<Verdict, Fault> {
+    let got = got(alloc, texts, case)?;
+    Ok(Verdict::of(wanted(alloc, texts, case)?, got))
+}
+
+/// What a case wants: its lines of answers, parted by `;`.
+fn wanted(alloc: Global, texts: &Texts<'_>, case: &Case<'_>) -> Result<String, Fault> {
+    let mut wanted = String::new(alloc);
+    for line in &case.lines {
+        match line.key {
+            "service" | "next" | "first" | "write_piece" | "failing_writes" | "link" => {}
+            "output" => {
+                say(&mut wanted, "output ")?;
+                wanted.push_str(&texts.join_escaped(alloc, line.value)?)?;
+            }
+            _ => say(&mut wanted, line.text)?,
+        }
+    }
+    Ok(wanted)
+}
+
+/// What comes of a case.
+fn got(alloc: Global, texts: &Texts<'_>, case: &Case<'_>) -> Result<String, Fault> {
+    let mut said = String::new(alloc);
+    say_world(alloc, texts, case, &mut said)?;
+    Ok(said)
+}
+
+fn say_world(
+    alloc: Global,
+    texts: &Texts<'_>,
+    case: &Case<'_>,
+    said: &mut String,
+) -> Result<(), Fault> {
+    let mut world = world_of(alloc, texts, case)?;
+    say_links(alloc, texts, case, &mut world, said)
+}
+
+/// The world as it begins.
+fn world_of(alloc: Global, texts: &Texts<'_>, case: &Case<'_>) -> Result<World, Fault> {
+    let next = number_of(case, "next")?;
+    let first = number_of(case, "first")?;
+    let checked = checked_service(alloc, typed_of(alloc, texts, case)?)?;
+    new_world(alloc, checked, next, first)
+}
+
+/// The number of the line with that word; 1 where there is none.
+fn number_of(case: &Case<'_>, key: &str) -> Result<u64, Fault> {
+    for line in &case.lines {
+        if line.key == key {
+            return Ok(line.value.parse()?);
+        }
+    }
+    Ok(1)
+}
+
+/// The service of a case, which has to be well typed.
+fn typed_of(alloc: Global, texts: &Texts<'_>, case: &Case<'_>) -> Result<Typed, Fault> {
+    let line = case.lines.first().ok_or(Fault::Malformed)?;
+    let text = texts.join(alloc, line.value)?;
+    typed_service(alloc, &text)
+}
+
+fn typed_service(alloc: Global, text: &[u8]) -> Result<Typed, Fault> {
+    let Ok(service) = read_service(alloc, text) else {
+        return Err(Fault::Malformed);
+    };
+    resolve(alloc, service).map_err(|_| Fault::Malformed)
+}
+
+fn checked_service(alloc: Global, typed: Typed) -> Result<Checked, Fault> {
+    match Checked::admit(alloc, typed) {
+        Ok(checked) => Ok(checked),
+        Err(_) => Err(Fault::Malformed),
+    }
+}
+
+fn new_world(alloc: Global, checked: Checked, next: u64, first: u64) -> Result<World, Fault> {
+    let first = u32::try_from(first).unwrap_or(0);
+    if next == 0 || next > 4_294_967_296 || first == 0 {
+        return Err(Fault::Malformed);
+    }
+    Ok(World::new_at(alloc, checked, next, first)?)
+}
+
+/// Answers the links of a case, and says what was written to them and how many sessions are live.
+fn say_links(
+    alloc: Global,
+    texts: &Texts<'_>,
+    case: &Case<'_>,
+    world: &mut World,
+    said: &mut String,
+) -> Result<(), Fault> {
+    let keys = keys_from_one(alloc)?;
+    counted::<Brand>(
+        alloc,
+        texts,
+        case,
+        world,
+        &mut MemKeys::new(&keys),
+        said,
+        Blank::new(1),
+    )?;
+    say(said, "live ")?;
+    write!(said, "{}", world.live())?;
+    Ok(())
+}
+
+fn keys_from_one(alloc: Global) -> Result<Vec<u64>, AllocError> {
+    let mut keys = Vec::new(alloc);
+    for key in 0..KEYS {
+        keys.push(key + 1)?;
+    }
+    Ok(keys)
+}
+
+/// Answers the links with a count of steps that nobody reads.
+fn counted<L: Ledger>(
+    alloc: Global,
+    texts: &Texts<'_>,
+    case: &Case<'_>,
+    world: &mut World,
+    keys: &mut MemKeys<'_>,
+    said: &mut String,
+    blank: Blank,
+) -> Result<(), Fault>
+    requires name { blank.name ≡ L.name }
+    requires parts { blank.parts ≡ L.parts }
+    requires some { 0 < blank.parts }
+{
+    let mut steps: Steps<L> = Steps::new(blank);
+    answer_links(alloc, texts, case, world, keys, &mut steps, said)
+}
+
+fn answer_links<L: Ledger>(
+    alloc: Global,
+    texts: &Texts<'_>,
+    case: &Case<'_>,
+    world: &mut World,
+    keys: &mut MemKeys<'_>,
+    steps: &mut Steps<L>,
+    said: &mut String,
+) -> Result<(), Fault> {
+    let mut taking = Taking::all(alloc);
+    for line in &case.lines {
+        match line.key {
+            "write_piece" | "failing_writes" => taking.change(alloc, *line)?,
+            "link" => {
+                let bytes = texts.join(alloc, line.value)?;
+                answer_link(alloc, &bytes, &taking, world, keys, steps, said)?;
+                taking = Taking::all(alloc);
+            }
+            _ => {}
+        }
+    }
+    Ok(())
+}
