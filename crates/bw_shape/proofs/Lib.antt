@@ -1,0 +1,11 @@
+pub mod Walks
+pub mod Links
+pub mod ExactFields
+pub mod KnownTags
+pub mod Outlines
+pub mod ExactTops
+pub mod Reaching
+pub mod Stays
+pub mod PairsNamed
+pub mod Shapes
+pub mod Placing

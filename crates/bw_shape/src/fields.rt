@@ -1,0 +1,266 @@
+//! Which fields a template may lack, have, and have twice.
+ghost use Rattle.std.specs.Prelude.{◌≡◌, ℕ, ◌<◌, ◌==◌, ◌||◌, ◌&&◌, false, IfOk, OnOk, MatchOption, length};
+ghost use Rattle.bw_rows.specs.Rows.{flag, at};
+ghost use Rattle.bw_lang.specs.Document.Forest.{none};
+ghost use Rattle.bw_lang.specs.Document.View.{before};
+ghost use Rattle.bw_nodes.specs.Nodes as nodes;
+ghost use Rattle.bw_rows.specs.Changes.{Sets, Clears, Rises};
+ghost use Rattle.bw_shape.specs.Tests as test;
+ghost use Rattle.bw_lang.specs.Document.Documents.{one_if};
+
+use bw_lang::{Element, FieldNames, GapId, Item, Items, Memory};
+use bw_nodes::{Node, TemplateItems};
+use bw_rows::{Row, Rule, Table, Tally};
+use std::alloc::Global;
+
+/// The number of the field that the element is a control of.
+fn field_of(names: &FieldNames, element: &Element) -> Option<u32>
+    ensures { MatchOption result ((f : ℕ) → test.is_field names.now f element.now.tag element.now.attrs ≡ false) (λ n. (f : ℕ) → test.is_field names.now f element.now.tag element.now.attrs ≡ (n == f)) }
+{
+    element.field_kind()?;
+    let name = element.control_name()?;
+    Some(names.number(name.as_str()).number())
+}
+
+/// Clears the fields that the gap, as it may be filled, has in any case.
+fn gap_lacks(
+    alloc: Global,
+    node: &Node,
+    known: &Table,
+    gap: GapId,
+    row: &mut Row,
+) -> Result<(), Memory>
+    ensures { OnOk result (Clears row.old row.new (λ f. nodes.is_free node.now gap || nodes.led node.now (λ m. at known.now m f) gap)) }
+{
+    if node.is_free(gap) {
+        return Ok(());
+    }
+    let led = node.led(alloc, gap, known, row.len())?;
+    row.meet(&led);
+    Ok(())
+}
+
+/// Clears the fields that the items have in any case.
+#[tactic(auto, using(crate::proofs::Walks::walk_steps))]
+#[cycle(lack)]
+fn items_lack(
+    alloc: Global,
+    names: &FieldNames,
+    node: &Node,
+    known: &Table,
+    items: &Items,
+    row: &mut Row,
+) -> Result<(), Memory>
+    ensures { OnOk result (Clears row.old row.new (λ f. test.lacks names.now node.now (λ m. at known.now m f) f items.now)) }
+{
+    for item in items.as_slice() {
+        item_lacks(alloc, names, node, known, item, row)?;
+    }
+    Ok(())
+}
+
+#[tactic(auto, using(crate::proofs::Walks::walk_steps))]
+#[cycle(lack)]
+fn item_lacks(
+    alloc: Global,
+    names: &FieldNames,
+    node: &Node,
+    known: &Table,
+    item: &Item,
+    row: &mut Row,
+) -> Result<(), Memory>
+    ensures { OnOk result (Clears row.old row.new (λ f. test.lacks names.now node.now (λ m. at known.now m f) f (before item.now none))) }
+{
+    match item {
+        Item::Text(_) => Ok(()),
+        Item::Gap(gap) => gap_lacks(alloc, node, known, *gap, row),
+        Item::Element(element) => {
+            if let Some(field) = field_of(names, element) {
+                row.put(field as usize, false);
+            }
+            items_lack(alloc, names, node, known, &element.items, row)
+        }
+    }
+}
+
+/// Sets the fields of the controls that stand in the items.
+#[tactic(auto, using(crate::proofs::Walks::walk_steps))]
+#[cycle(stand)]
+fn items_stand(names: &FieldNames, items: &Items, row: &mut Row)
+    ensures { Sets row.old row.new (λ f. test.stands names.now f items.now) }
+{
+    for item in items.as_slice() {
+        item_stands(names, item, row);
+    }
+}
+
+#[tactic(auto, using(crate::proofs::Walks::walk_steps))]
+#[cycle(stand)]
+fn item_stands(names: &FieldNames, item: &Item, row: &mut Row)
+    ensures { Sets row.old row.new (λ f. test.stands names.now f (before item.now none)) }
+{
+    match item {
+        Item::Text(_) | Item::Gap(_) => {}
+        Item::Element(element) => {
+            if let Some(field) = field_of(names, element) {
+                row.put(field as usize, true);
+            }
+            items_stand(names, &element.items, row);
+        }
+    }
+}
+
+/// Counts the fields that the gap may be filled with.
+fn gap_counts(
+    alloc: Global,
+    node: &Node,
+    have: &Table,
+    gap: GapId,
+    tally: &mut Tally,
+) -> Result<(), Memory>
+    ensures { OnOk result (Rises tally.old tally.new (λ f. one_if (nodes.led node.now (λ m. at have.now m f) gap))) }
+{
+    let led = node.led(alloc, gap, have, tally.len())?;
+    tally.add_row(&led);
+    Ok(())
+}
+
+/// Counts the fields of the controls that stand in the items, and those that its gaps may be filled with.
+#[tactic(auto, using(crate::proofs::Walks::walk_steps))]
+#[cycle(count)]
+fn items_count(
+    alloc: Global,
+    names: &FieldNames,
+    node: &Node,
+    have: &Table,
+    items: &Items,
+    tally: &mut Tally,
+) -> Result<(), Memory>
+    ensures { OnOk result (Rises tally.old tally.new (λ f. test.places names.now node.now (λ m. at have.now m f) f items.now)) }
+{
+    for item in items.as_slice() {
+        item_counts(alloc, names, node, have, item, tally)?;
+    }
+    Ok(())
+}
+
+#[tactic(auto, using(crate::proofs::Walks::walk_steps))]
+#[cycle(count)]
+fn item_counts(
+    alloc: Global,
+    names: &FieldNames,
+    node: &Node,
+    have: &Table,
+    item: &Item,
+    tally: &mut Tally,
+) -> Result<(), Memory>
+    ensures { OnOk result (Rises tally.old tally.new (λ f. test.places names.now node.now (λ m. at have.now m f) f (before item.now none))) }
+{
+    match item {
+        Item::Text(_) => Ok(()),
+        Item::Gap(gap) => gap_counts(alloc, node, have, *gap, tally),
+        Item::Element(element) => {
+            if let Some(field) = field_of(names, element) {
+                tally.add(field as usize);
+            }
+            items_count(alloc, names, node, have, &element.items, tally)
+        }
+    }
+}
+
+/// That a template may have a control of a field.
+#[derive(Clone, Copy)]
+pub struct MayHave<'a> {
+    pub templates: &'a TemplateItems<'a>,
+    pub nodes: &'a [Node],
+    pub names: &'a FieldNames,
+    ghost both: { length nodes.now ≡ length templates.now },
+}
+
+impl<'a> Rule for MayHave<'a> {
+    ghost use Rattle.std.specs.Prelude.{length};
+    ghost use Rattle.bw_shape.specs.Follows.{have_follows};
+
+    ghost width = { λ r. length r.names.now };
+
+    ghost rows = { λ r. length r.templates.now };
+
+    ghost follows = { λ r. have_follows r.templates.now r.nodes.now r.names.now };
+
+    fn row(&self, alloc: Global, n: usize, known: &Table) -> Result<Row, Memory> {
+        let mut row = Row::of(alloc, self.names.len(), false)?;
+        items_stand(self.names, self.templates.at(n), &mut row);
+        self.nodes[n].join_linked(known, &mut row);
+        Ok(row)
+    }
+}
+
+/// That a template may have no control of a field.
+#[derive(Clone, Copy)]
+pub struct MayLack<'a> {
+    pub templates: &'a TemplateItems<'a>,
+    pub nodes: &'a [Node],
+    pub names: &'a FieldNames,
+    ghost both: { length nodes.now ≡ length templates.now },
+}
+
+impl<'a> Rule for MayLack<'a> {
+    ghost use Rattle.std.specs.Prelude.{length};
+    ghost use Rattle.bw_shape.specs.Follows.{lack_follows};
+
+    ghost width = { λ r. length r.names.now };
+
+    ghost rows = { λ r. length r.templates.now };
+
+    ghost follows = { λ r. lack_follows r.templates.now r.nodes.now r.names.now };
+
+    fn row(&self, alloc: Global, n: usize, known: &Table) -> Result<Row, Memory> {
+        let mut row = Row::of(alloc, self.names.len(), true)?;
+        items_lack(
+            alloc,
+            self.names,
+            &self.nodes[n],
+            known,
+            self.templates.at(n),
+            &mut row,
+        )?;
+        Ok(row)
+    }
+}
+
+/// That a template may have two controls of a field, where it is known which templates may have one.
+#[derive(Clone, Copy)]
+pub struct Twice<'a, 'b> {
+    pub templates: &'a TemplateItems<'a>,
+    pub nodes: &'a [Node],
+    pub names: &'a FieldNames,
+    pub have: &'b Table,
+    ghost both: { length nodes.now ≡ length templates.now },
+}
+
+impl<'a, 'b> Rule for Twice<'a, 'b> {
+    ghost use Rattle.std.specs.Prelude.{length};
+    ghost use Rattle.bw_shape.specs.Follows.{twice_follows};
+
+    ghost width = { λ r. length r.names.now };
+
+    ghost rows = { λ r. length r.templates.now };
+
+    ghost follows = { λ r. twice_follows r.templates.now r.nodes.now r.names.now (at r.have.now) };
+
+    fn row(&self, alloc: Global, n: usize, known: &Table) -> Result<Row, Memory> {
+        let node = &self.nodes[n];
+        let mut tally = Tally::of(alloc, self.names.len())?;
+        items_count(
+            alloc,
+            self.names,
+            node,
+            self.have,
+            self.templates.at(n),
+            &mut tally,
+        )?;
+        let mut row = tally.twos(alloc)?;
+        node.join_linked(known, &mut row);
+        Ok(row)
+    }
+}

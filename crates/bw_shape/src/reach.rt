@@ -1,0 +1,52 @@
+//! Which templates are reached from a root.
+ghost use Rattle.std.specs.Prelude.{◌≡◌, ℕ, ◌<◌, true, IfOk, OnOk, length};
+ghost use Rattle.std.specs.List.{All};
+ghost use Rattle.bw_nodes.specs.Nodes.{node_at};
+ghost use Rattle.bw_shape.specs.Reach.{Takes, Visit, Reaches};
+
+use bw_lang::{GapId, Memory, TemplateId};
+use bw_nodes::Node;
+use bw_rows::Row;
+use std::alloc::Global;
+
+/// Takes a template in, unless it was seen.
+pub fn take_in(to: u32, seen: &mut Row, order: &mut Vec<u32>) -> Result<(), Memory>
+    requires { to < length seen.old }
+    ensures { OnOk result (Takes to seen.old order.old.items seen.new order.new.items) }
+{
+    if seen.has(to as usize) {
+        return Ok(());
+    }
+    seen.put(to as usize, true);
+    order.push(to)?;
+    Ok(())
+}
+
+/// Takes the templates in that some links lead to.
+fn visit(links: &[(GapId, TemplateId)], seen: &mut Row, order: &mut Vec<u32>) -> Result<(), Memory>
+    requires { All (λ l. l.1 < length seen.old) links.now }
+    ensures { OnOk result (Visit links.now (length links.now) seen.old order.old.items seen.new order.new.items) }
+{
+    for link in links {
+        take_in(link.1.number(), seen, order)?;
+    }
+    Ok(())
+}
+
+/// The templates that are reached from the root, it being the first of them.
+pub fn reached(alloc: Global, nodes: &[Node], root: u32) -> Result<Vec<u32>, Memory>
+    requires root { root < length nodes.now }
+    requires links { (n : ℕ) → All (λ l. l.1 < length nodes.now) (node_at nodes.now n).links }
+    ensures { IfOk result (λ v. Reaches nodes.now root v.items) }
+{
+    let mut seen = Row::of(alloc, nodes.len(), false)?;
+    let mut order = Vec::new(alloc);
+    take_in(root, &mut seen, &mut order)?;
+    let mut next = 0;
+    while next < order.len() {
+        let template = order[next] as usize;
+        visit(nodes[template].links(), &mut seen, &mut order)?;
+        next += 1;
+    }
+    Ok(order)
+}

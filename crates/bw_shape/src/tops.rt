@@ -1,0 +1,175 @@
+//! What may stand at the top of a template.
+ghost use Rattle.std.specs.Prelude.{◌≡◌, ℕ, ◌+◌, ◌<◌, ◌==◌, ◌||◌, ◌&&◌, false, IfOk, OnOk, length, slice_index_or};
+ghost use Rattle.std.specs.List.{All};
+ghost use Rattle.bw_rows.specs.Rows.{flag, at};
+ghost use Rattle.bw_lang.specs.Document.Forest.{none};
+ghost use Rattle.bw_lang.specs.Document.View.{before};
+ghost use Rattle.bw_nodes.specs.Nodes as nodes;
+ghost use Rattle.bw_schema.specs.Words as words;
+ghost use Rattle.bw_rows.specs.Changes.{Sets, Clears};
+ghost use Rattle.bw_shape.specs.Tests as test;
+
+use crate::tags::Tags;
+use bw_lang::{GapId, Item, Items, Memory, is_blank};
+use bw_nodes::{Node, TemplateItems};
+use bw_rows::{Row, Rule, Table};
+use std::alloc::Global;
+
+/// Whether a text counts as none: it has spaces, tabs, CR and LF alone.
+fn is_blank_text(text: &str) -> bool
+    ensures { result ≡ words.is_blank text.now }
+{
+    text.as_bytes().iter().all(|byte| is_blank(*byte))
+}
+
+/// Sets what an item may give.
+pub(crate) fn item_gives(tags: &Tags, node: &Node, known: &Table, item: &Item, row: &mut Row)
+    ensures { Sets row.old row.new (λ c. test.gives tags.now node.now (λ m. at known.now m c) c (before item.now none)) }
+{
+    match item {
+        Item::Text(text) => {
+            if !is_blank_text(text.as_str()) {
+                row.put(0, true);
+            }
+        }
+        Item::Gap(gap) => {
+            if node.is_wordy(*gap) {
+                row.put(0, true);
+            }
+            node.join_led(*gap, known, row);
+        }
+        Item::Element(element) => row.put(tags.number(&element.tag) + 1, true),
+    }
+}
+
+/// Sets what the items may give.
+#[tactic(auto, using(crate::proofs::Walks::walk_steps))]
+pub fn items_give(tags: &Tags, node: &Node, known: &Table, items: &Items, row: &mut Row)
+    ensures { Sets row.old row.new (λ c. test.gives tags.now node.now (λ m. at known.now m c) c items.now) }
+{
+    for item in items.as_slice() {
+        item_gives(tags, node, known, item, row);
+    }
+}
+
+/// Clears the tags that the gap, as it may be filled, gives in any case.
+fn gap_misses(
+    alloc: Global,
+    node: &Node,
+    known: &Table,
+    gap: GapId,
+    row: &mut Row,
+) -> Result<(), Memory>
+    ensures { OnOk result (Clears row.old row.new (λ c. nodes.is_free node.now gap || nodes.led node.now (λ m. at known.now m c) gap)) }
+{
+    if node.is_free(gap) {
+        return Ok(());
+    }
+    let led = node.led(alloc, gap, known, row.len())?;
+    row.meet(&led);
+    Ok(())
+}
+
+fn item_misses(
+    alloc: Global,
+    tags: &Tags,
+    node: &Node,
+    known: &Table,
+    item: &Item,
+    row: &mut Row,
+) -> Result<(), Memory>
+    ensures { OnOk result (Clears row.old row.new (λ c. test.misses tags.now node.now (λ m. at known.now m c) c (before item.now none))) }
+{
+    match item {
+        Item::Text(_) => Ok(()),
+        Item::Gap(gap) => gap_misses(alloc, node, known, *gap, row),
+        Item::Element(element) => {
+            row.put(tags.number(&element.tag), false);
+            Ok(())
+        }
+    }
+}
+
+/// Clears the tags that the items give in any case.
+#[tactic(auto, using(crate::proofs::Walks::walk_steps))]
+pub fn items_miss(
+    alloc: Global,
+    tags: &Tags,
+    node: &Node,
+    known: &Table,
+    items: &Items,
+    row: &mut Row,
+) -> Result<(), Memory>
+    ensures { OnOk result (Clears row.old row.new (λ c. test.misses tags.now node.now (λ m. at known.now m c) c items.now)) }
+{
+    for item in items.as_slice() {
+        item_misses(alloc, tags, node, known, item, row)?;
+    }
+    Ok(())
+}
+
+/// What may stand at the top of a template: column 0 is a text that isn't blank, and behind it the tags.
+#[derive(Clone, Copy)]
+pub struct Tops<'a, 'b> {
+    pub templates: &'a TemplateItems<'a>,
+    pub nodes: &'a [Node],
+    pub tags: &'b Tags,
+    ghost both: { length nodes.now ≡ length templates.now },
+}
+
+impl<'a, 'b> Rule for Tops<'a, 'b> {
+    ghost use Rattle.std.specs.Prelude.{◌+◌, length};
+    ghost use Rattle.bw_shape.specs.Follows.{top_follows};
+
+    ghost width = { λ r. length r.tags.now + 1 };
+
+    ghost rows = { λ r. length r.templates.now };
+
+    ghost follows = { λ r. top_follows r.templates.now r.nodes.now r.tags.now };
+
+    fn row(&self, alloc: Global, n: usize, known: &Table) -> Result<Row, Memory> {
+        let mut row = Row::of(alloc, self.tags.len() + 1, false)?;
+        items_give(
+            self.tags,
+            &self.nodes[n],
+            known,
+            self.templates.at(n),
+            &mut row,
+        );
+        Ok(row)
+    }
+}
+
+/// Which of the first tags of a table a template may have none of at its top.
+#[derive(Clone, Copy)]
+pub struct MayMiss<'a, 'b> {
+    pub templates: &'a TemplateItems<'a>,
+    pub nodes: &'a [Node],
+    pub tags: &'b Tags,
+    pub first: usize,
+    ghost both: { length nodes.now ≡ length templates.now },
+}
+
+impl<'a, 'b> Rule for MayMiss<'a, 'b> {
+    ghost use Rattle.std.specs.Prelude.{length};
+    ghost use Rattle.bw_shape.specs.Follows.{miss_follows};
+
+    ghost width = { λ r. r.first };
+
+    ghost rows = { λ r. length r.templates.now };
+
+    ghost follows = { λ r. miss_follows r.templates.now r.nodes.now r.tags.now };
+
+    fn row(&self, alloc: Global, n: usize, known: &Table) -> Result<Row, Memory> {
+        let mut row = Row::of(alloc, self.first, true)?;
+        items_miss(
+            alloc,
+            self.tags,
+            &self.nodes[n],
+            known,
+            self.templates.at(n),
+            &mut row,
+        )?;
+        Ok(row)
+    }
+}
