@@ -1,0 +1,5 @@
+pub mod Walks
+pub mod Points
+pub mod RoundLaws
+pub mod PageLaws
+pub mod GapLaws
