@@ -1,0 +1,11 @@
+pub mod Adding
+pub mod Exact
+pub mod Formulas
+pub mod Walks
+pub mod Lists
+pub mod NeedsSound
+pub mod Sound
+pub mod Strings
+pub mod ExactSure
+pub mod ExactPage
+pub mod Whole

@@ -1,0 +1,7 @@
+use Rattle.bw_rows.specs.Rows.{flag}
+use Rattle.bw_faults.specs.Lists.{Adds}
+use Rattle.bw_judge.specs.Content.{OfContent}
+use Rattle.bw_judge.proofs.content.judge_columns.Given as goal
+
+abbrev pub invariant-loop-number : goal.invariant-loop-number
+invariant-loop-number l = Adds (OfContent l.spot l.has l.text l.tags (flag l.given) l.number) l.fn.faults l.faults

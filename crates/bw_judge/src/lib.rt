@@ -1,0 +1,11 @@
+//! The faults of a page graph by a schema. Where there is none, every page is valid.
+#![tactic(auto)]
+
+mod content;
+mod judging;
+pub mod laws;
+mod misses;
+mod scene;
+mod sureness;
+
+pub use judging::judge;
