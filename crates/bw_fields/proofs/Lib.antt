@@ -1,0 +1,5 @@
+pub mod Sound
+pub mod Twice
+pub mod Closed
+pub mod Services
+pub mod Whole

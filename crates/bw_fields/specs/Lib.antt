@@ -1,0 +1,4 @@
+pub mod Found
+pub mod Laws
+pub mod Plain
+pub mod Received
