@@ -1,4 +1,5 @@
 -- Where a page may not lack a field, each unfolding has it.
+use Rattle.std.proofs.Math.Bool.{or_assoc}
 use Rattle.std.proofs.Common.{◌≡◌, inl, inr, ℕ, Bool, true, false, ◌||◌, ◌&&◌, not, List, Option, Some, None, refl, ap, sym, ◌∙◌}
 use Rattle.std.specs.Prelude.{codes, if◌then◌else◌}
 use Rattle.std.proofs.lemmas.Bool.{false≢true, cases_Bool}
@@ -65,17 +66,13 @@ same_field {a = a} {b = b} tag q h = elim (cases_Bool (is_control tag)) [
       ∙ sym (ap (λ c. by_values c tag (fixed (codes "name") a) (fixed (codes "type") a) (fixed (codes "multiple") a)) isnt)
 ]
 
-or_assoc : (a b c : Bool) → (a || (b || c)) ≡ ((a || b) || c)
-or_assoc true b c = refl
-or_assoc false b c = refl
-
 pub stands_append : (names : List (List ℕ)) (f : ℕ) (a b : Forest) → stands names f (append a b) ≡ (stands names f a || stands names f b)
 stands_append names f none b = refl
 stands_append names f (text s r) b = stands_append names f r b
 stands_append names f (gap g r) b = stands_append names f r b
 stands_append names f (element tag a i r) b =
-    ap (λ x. is_field names f tag a || (stands names f i || x)) (stands_append names f r b) ∙ ap (λ x. is_field names f tag a || x) (or_assoc (stands names f i) (stands names f r) (stands names f b))
-    ∙ or_assoc (is_field names f tag a) (stands names f i || stands names f r) (stands names f b)
+    ap (λ x. is_field names f tag a || (stands names f i || x)) (stands_append names f r b) ∙ ap (λ x. is_field names f tag a || x) (sym (or_assoc (stands names f i) (stands names f r) (stands names f b)))
+    ∙ sym (or_assoc (is_field names f tag a) (stands names f i || stands names f r) (stands names f b))
 
 module _ (templates : ℕ → Forest) (G : Graph) (names : List (List ℕ)) (f : ℕ) (plain : (n : ℕ) → ArePlain (templates n)) where
   -- where an unfolding has no control of the field, its template may lack it
