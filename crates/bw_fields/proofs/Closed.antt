@@ -1,8 +1,9 @@
 -- The fields of the pages that a graph unfolds to.
-use Rattle.std.proofs.Common.{◌≡◌, inl, inr, ℕ, ◌<◌, ◌≤◌, ◌==◌, Bool, true, false, ◌||◌, ◌&&◌, not, List, [], ◌∷◌, ◌++◌, length, Option, Some, None, refl, ap, sym, ◌∙◌, subst, arith, cond, count_by, append_assoc}
+use Rattle.std.proofs.Common.{◌≡◌, inl, inr, ℕ, ◌<◌, ◌≤◌, ◌==◌, Bool, true, false, ◌||◌, ◌&&◌, not, List, [], ◌∷◌, ◌++◌, length, Option, Some, None, refl, ap}
+use Rattle.std.proofs.Common.{sym, ◌∙◌, subst, arith, cond, count_by, append_assoc}
 use Rattle.std.specs.Prelude.{codes, if◌then◌else◌}
 use Rattle.std.specs.List.{list_all, list_any}
-use Rattle.std.proofs.lemmas.Bool.{false≢true, cases_Bool}
+use Rattle.std.proofs.lemmas.Bool.{false≢true, cases_Bool, or_left, or_right}
 use Rattle.std.proofs.lemmas.List.Folds.{list_any-append, list_all-append}
 use Rattle.std.proofs.lemmas.List.Sums.{sum_by-append, sum_by-cons}
 use Rattle.std.proofs.lemmas.Slice.Eq.{bytes_eq-Decides}
@@ -24,17 +25,19 @@ use Rattle.bw_fields.specs.Plain.{is_fixed, is_given, is_plain, ArePlain, contro
 use Rattle.bw_types.specs.Fields.{kind_of_field}
 use Rattle.bw_fields.specs.Found.{is_misfit, fault_of}
 use Rattle.bw_fields.specs.Received as received
-use Rattle.bw_fields.specs.Received.{names_of, IsReceived, IsFaultOf, HasField, is_of_kind}
+use Rattle.bw_fields.specs.Received.{names_of, is_of_kind}
 use Rattle.bw_fields.specs.Laws.{FieldIsThere}
-use Rattle.bw_fields.proofs.Sound.{two_parts, implied, by_values, same_field, no_lack_there}
+use Rattle.bw_nodes.proofs.Bools.{and_parts, and_both}
+use Rattle.bw_fields.proofs.Sound.{implied, by_values, same_field, no_lack_there}
 use Rattle.bw_fields.proofs.Twice.{not_twice}
 
 -- closing drops no fixed attribute of a name that no gap has
 closed_value : (x : List ℕ) (a : List Attr) → is_given x a ≡ true → fixed x (closed_attrs a) ≡ fixed x a
 closed_value x [] h = refl
-closed_value x (a ∷ rest) h = let k = two_parts _ _ h in keep a.value refl k.0 (closed_value x rest k.1)
+closed_value x (a ∷ rest) h = let k = and_parts _ _ h in keep a.value refl k.0 (closed_value x rest k.1)
   where
-    keep : (v : AttrValue) → a.value ≡ v → (not (same a.name x) || is_fixed a.value) ≡ true → fixed x (closed_attrs rest) ≡ fixed x rest → fixed x (keep_fixed a v (closed_attrs rest)) ≡ fixed x (a ∷ rest)
+    keep : (v : AttrValue) → a.value ≡ v → (not (same a.name x) || is_fixed a.value) ≡ true → fixed x (closed_attrs rest) ≡ fixed x rest
+        → fixed x (keep_fixed a v (closed_attrs rest)) ≡ fixed x (a ∷ rest)
     keep (Fixed s) e g r = ap (λ o. if same a.name x then fixed_value a.value else o) r
     keep (Hole g) e f r = elim (cases_Bool (same a.name x)) [
       | inl it ↦ absurd (false≢true (sym (ap (λ v. is_fixed v) e) ∙ implied (same a.name x) (is_fixed a.value) f it))
@@ -44,9 +47,10 @@ closed_value x (a ∷ rest) h = let k = two_parts _ _ h in keep a.value refl k.0
 closed_field : (tag : List ℕ) (a : List Attr) → is_plain tag a ≡ true → field_of tag (closed_attrs a) ≡ field_of tag a
 closed_field tag a h = elim (cases_Bool (is_control tag)) [
   | inl it ↦
-      let k = two_parts _ _ (implied (is_control tag) _ h it) in
-      let l = two_parts _ _ k.1 in
-      ap (λ n. by_values (is_control tag) tag n (fixed (codes "type") (closed_attrs a)) (fixed (codes "multiple") (closed_attrs a))) (closed_value (codes "name") a k.0)
+      let k = and_parts _ _ (implied (is_control tag) _ h it) in
+      let l = and_parts _ _ k.1 in
+      ap (λ n. by_values (is_control tag) tag n (fixed (codes "type") (closed_attrs a)) (fixed (codes "multiple") (closed_attrs a)))
+      (closed_value (codes "name") a k.0)
       ∙ ap (λ t. by_values (is_control tag) tag (fixed (codes "name") a) t (fixed (codes "multiple") (closed_attrs a))) (closed_value (codes "type") a l.0)
       ∙ ap (λ m. by_values (is_control tag) tag (fixed (codes "name") a) (fixed (codes "type") a) m) (closed_value (codes "multiple") a l.1)
   | inr isnt ↦
@@ -59,17 +63,15 @@ closed_fields none p = refl
 closed_fields (text s r) p = closed_fields r p
 closed_fields (gap g r) p = closed_fields r p
 closed_fields (element tag a i r) p =
-    ap (λ o. o ++ (fields (close i) ++ fields (close r))) (closed_field tag a p.0) ∙ ap (λ o. field_of tag a ++ (o ++ fields (close r))) (closed_fields i p.1.0) ∙ ap (λ o. field_of tag a ++ (fields i ++ o)) (closed_fields r p.1.1)
+    ap (λ o. o ++ (fields (close i) ++ fields (close r))) (closed_field tag a p.0)
+    ∙ ap (λ o. field_of tag a ++ (o ++ fields (close r))) (closed_fields i p.1.0) ∙ ap (λ o. field_of tag a ++ (fields i ++ o)) (closed_fields r p.1.1)
 
 -- what plain templates unfold to is plain
 given_stays : {G : Graph} {n : ℕ} {a b : List Attr} (x : List ℕ) → FillsAttrs G n a b → is_given x a ≡ true → is_given x b ≡ true
 given_stays x no_more h = refl
-given_stays x (more {x = y} {u = u} {v = v} {a = a} {b = b} q r) h = let k = two_parts _ _ h in both (not (same y x) || is_fixed v) (is_given x b) (fixed_stays (same y x) q k.0) (given_stays x r k.1)
+given_stays x (more {x = y} {u = u} {v = v} {a = a} {b = b} q r) h = let k = and_parts _ _ h in
+    and_both (not (same y x) || is_fixed v) (is_given x b) (fixed_stays (same y x) q k.0) (given_stays x r k.1)
   where
-    both : (p q : Bool) → p ≡ true → q ≡ true → (p && q) ≡ true
-    both true q h k = k
-    both false q h k = absurd (false≢true h)
-
     fixed_stays : {G : Graph} {n : ℕ} {u v : AttrValue} (b : Bool) → FillsValue G n u v → (not b || is_fixed u) ≡ true → (not b || is_fixed v) ≡ true
     fixed_stays b kept h = h
     fixed_stays b (left_open k) h = h
@@ -79,23 +81,13 @@ given_stays x (more {x = y} {u = u} {v = v} {a = a} {b = b} q r) h = let k = two
 plain_stays : {G : Graph} {n : ℕ} {a b : List Attr} (tag : List ℕ) → FillsAttrs G n a b → is_plain tag a ≡ true → is_plain tag b ≡ true
 plain_stays {a = a} {b = b} tag q h = elim (cases_Bool (is_control tag)) [
   | inl it ↦
-      let k = two_parts _ _ (implied (is_control tag) _ h it) in
-      let l = two_parts _ _ k.1 in
-      second (not (is_control tag)) _ (both (is_given (codes "name") b) _ (given_stays (codes "name") q k.0) (both (is_given (codes "type") b) _ (given_stays (codes "type") q l.0) (given_stays (codes "multiple") q l.1)))
-  | inr isnt ↦ first (not (is_control tag)) _ (ap not isnt)
+      let k = and_parts _ _ (implied (is_control tag) _ h it) in
+      let l = and_parts _ _ k.1 in
+      or_right (not (is_control tag)) _
+      (and_both (is_given (codes "name") b) _ (given_stays (codes "name") q k.0)
+      (and_both (is_given (codes "type") b) _ (given_stays (codes "type") q l.0) (given_stays (codes "multiple") q l.1)))
+  | inr isnt ↦ or_left (not (is_control tag)) _ (ap not isnt)
 ]
-  where
-    both : (p q : Bool) → p ≡ true → q ≡ true → (p && q) ≡ true
-    both true q h k = k
-    both false q h k = absurd (false≢true h)
-
-    first : (p q : Bool) → p ≡ true → (p || q) ≡ true
-    first true q h = refl
-    first false q h = absurd (false≢true h)
-
-    second : (p q : Bool) → q ≡ true → (p || q) ≡ true
-    second true q h = refl
-    second false q h = h
 
 plain_append : (d e : Forest) → ArePlain d → ArePlain e → ArePlain (append d e)
 plain_append none e p q = q
@@ -103,7 +95,8 @@ plain_append (text s r) e p q = plain_append r e p q
 plain_append (gap g r) e p q = plain_append r e p q
 plain_append (element tag a i r) e p q = (p.0, (p.1.0, plain_append r e p.1.1 q))
 
-pub plain_by : {templates : ℕ → Forest} {G : Graph} → ((n : ℕ) → ArePlain (templates n)) → {n : ℕ} {t d : Forest} → ArePlain t → Fills templates G n t d → ArePlain d
+pub plain_by : {templates : ℕ → Forest} {G : Graph} → ((n : ℕ) → ArePlain (templates n)) → {n : ℕ} {t d : Forest}
+    → ArePlain t → Fills templates G n t d → ArePlain d
 plain_by all p end = tt
 plain_by all p (words r) = plain_by all p r
 plain_by all p (inside {tag = tag} q i r) = (plain_stays tag q p.0, (plain_by all p.1.0 i, plain_by all p.1.1 r))
@@ -116,26 +109,26 @@ fields_append none e = refl
 fields_append (text s r) e = fields_append r e
 fields_append (gap g r) e = fields_append r e
 fields_append (element tag a i r) e =
-    ap (λ o. field_of tag a ++ (fields i ++ o)) (fields_append r e) ∙ ap (λ o. field_of tag a ++ o) (sym (append_assoc (fields i) (fields r) (fields e))) ∙ sym (append_assoc (field_of tag a) (fields i ++ fields r) (fields e))
+    ap (λ o. field_of tag a ++ (fields i ++ o)) (fields_append r e) ∙ ap (λ o. field_of tag a ++ o) (sym (append_assoc (fields i) (fields r) (fields e)))
+    ∙ sym (append_assoc (field_of tag a) (fields i ++ fields r) (fields e))
 
 -- a test of each field of the templates holds of each field of what they unfold to
-pub all_by : {templates : ℕ → Forest} {G : Graph} (p : List ℕ × FieldKind → Bool) → ((n : ℕ) → ArePlain (templates n)) → ((n : ℕ) → list_all p (fields (templates n)) ≡ true)
+pub all_by : {templates : ℕ → Forest} {G : Graph} (p : List ℕ × FieldKind → Bool) → ((n : ℕ) → ArePlain (templates n))
+    → ((n : ℕ) → list_all p (fields (templates n)) ≡ true)
     → {n : ℕ} {t d : Forest} → ArePlain t → list_all p (fields t) ≡ true → Fills templates G n t d → list_all p (fields d) ≡ true
 all_by p all h k e end = refl
 all_by p all h k e (words r) = all_by p all h k e r
 all_by p all h k e (inside {tag = tag} {a = a} {b = b} {i = i} {j = j} {t = t} {d = d} q f r) =
-    let u = two_parts _ _ (sym (list_all-append p (field_of tag a) (fields i ++ fields t)) ∙ e) in
-    let v = two_parts _ _ (sym (list_all-append p (fields i) (fields t)) ∙ u.1) in
+    let u = and_parts _ _ (sym (list_all-append p (field_of tag a) (fields i ++ fields t)) ∙ e) in
+    let v = and_parts _ _ (sym (list_all-append p (fields i) (fields t)) ∙ u.1) in
     list_all-append p (field_of tag b) (fields j ++ fields d)
-    ∙ both _ _ (ap (list_all p) (same_field tag q k.0) ∙ u.0) (list_all-append p (fields j) (fields d) ∙ both _ _ (all_by p all h k.1.0 v.0 f) (all_by p all h k.1.1 v.1 r))
-  where
-    both : (p q : Bool) → p ≡ true → q ≡ true → (p && q) ≡ true
-    both true q h k = k
-    both false q h k = absurd (false≢true h)
+    ∙ and_both _ _ (ap (list_all p) (same_field tag q k.0) ∙ u.0)
+    (list_all-append p (fields j) (fields d) ∙ and_both _ _ (all_by p all h k.1.0 v.0 f) (all_by p all h k.1.1 v.1 r))
 all_by p all h k e (left l r) = all_by p all h k e r
 all_by p all h k e (said l r) = all_by p all h k e r
 all_by p all h k e (led {m = m} {d = d} {e = x} l i r) =
-    ap (list_all p) (fields_append x d) ∙ list_all-append p (fields x) (fields d) ∙ ap (λ b. b && list_all p (fields d)) (all_by p all h (all m) (h m) i) ∙ all_by p all h k e r
+    ap (list_all p) (fields_append x d) ∙ list_all-append p (fields x) (fields d)
+    ∙ ap (λ b. b && list_all p (fields d)) (all_by p all h (all m) (h m) i) ∙ all_by p all h k e r
 
 -- the tests of the shape are tests of the list of fields
 stands_is : (names : List (List ℕ)) (f : ℕ) (d : Forest) → stands names f d ≡ list_any (λ x. name_number names x.0 == f) (fields d)
@@ -144,7 +137,8 @@ stands_is names f (text s r) = stands_is names f r
 stands_is names f (gap g r) = stands_is names f r
 stands_is names f (element tag a i r) =
     let p : List ℕ × FieldKind → Bool = λ x. name_number names x.0 == f in
-    ap (λ b. is_field names f tag a || (b || stands names f r)) (stands_is names f i) ∙ ap (λ b. is_field names f tag a || (list_any p (fields i) || b)) (stands_is names f r)
+    ap (λ b. is_field names f tag a || (b || stands names f r)) (stands_is names f i)
+    ∙ ap (λ b. is_field names f tag a || (list_any p (fields i) || b)) (stands_is names f r)
     ∙ ap (λ b. is_field names f tag a || b) (sym (list_any-append p (fields i) (fields r))) ∙ sym (list_any-append p (field_of tag a) (fields i ++ fields r))
 
 one_counted : (p : List ℕ × FieldKind → Bool) (n : Option (List ℕ)) (k : Option FieldKind) → count_by p (named_kind n k) ≡ one_if (list_any p (named_kind n k))
@@ -163,14 +157,22 @@ controls_is names f (gap g r) = controls_is names f r
 controls_is names f (element tag a i r) =
     let p : List ℕ × FieldKind → Bool = λ x. name_number names x.0 == f in
     let w : List ℕ × FieldKind → ℕ = λ y. cond (p y) 1 0 in
-    omega (arith, sum_by-append w (field_of tag a) (fields i ++ fields r), sum_by-append w (fields i) (fields r), one_counted p (control_name tag a) (field_kind tag a), controls_is names f i, controls_is names f r)
+    omega (
+      arith,
+      sum_by-append w (field_of tag a) (fields i ++ fields r),
+      sum_by-append w (fields i) (fields r),
+      one_counted p (control_name tag a) (field_kind tag a),
+      controls_is names f i,
+      controls_is names f r,
+    )
 
 -- a name has the number of the field where it is the field's name
 same_test : (names : List (List ℕ)) (name x : List ℕ) → name_number names name < length names → (name_number names x == name_number names name) ≡ same x name
 same_test names name x l = elim (cases_Bool (same x name)) [
   | inl it ↦ eq-eqb (name_number names x) (name_number names name) (ap (name_number names) ((bytes_eq-Decides x name).0 it)) ∙ sym it
   | inr isnt ↦ elim (cases_Bool (name_number names x == name_number names name)) [
-    | inl yes_it ↦ absurd (false≢true (sym isnt ∙ (bytes_eq-Decides x name).1 (same_number names x name l (eqb-true (name_number names x) (name_number names name) yes_it))))
+    | inl yes_it ↦ absurd
+        (false≢true (sym isnt ∙ (bytes_eq-Decides x name).1 (same_number names x name l (eqb-true (name_number names x) (name_number names name) yes_it))))
     | inr no_it ↦ no_it ∙ sym isnt
   ]
 ]

@@ -1,5 +1,6 @@
 -- What the templates of a service that is typed, and the wrappers of its pages, are.
-use Rattle.std.proofs.Common.{◌≡◌, ℕ, zero, suc, Bool, true, false, ◌||◌, ◌&&◌, not, cond, List, [], ◌∷◌, ◌++◌, length, map, get_or, Some, inl, inr, refl, ap, sym, ◌∙◌, subst, arith}
+use Rattle.std.proofs.Common.{◌≡◌, ℕ, zero, suc, Bool, true, false, ◌||◌, ◌&&◌, not, cond, List, [], ◌∷◌, ◌++◌, length, map, get_or, Some, inl, inr, refl, ap}
+use Rattle.std.proofs.Common.{sym, ◌∙◌, subst, arith}
 use Rattle.std.specs.Prelude.{codes, flat_map, find}
 use Rattle.std.specs.List.{All, AllPairs, Contains, list_all, list_any}
 use Rattle.std.specs.Option.{option_map}
@@ -58,7 +59,8 @@ plain_element tag attrs h = elim (cases_Bool (is_control tag)) [
       (sym (ap (λ c. c && (list_any is_bad_attr attrs || has_other_type tag attrs)) it) ∙ h)).0 in
       or_right (not (is_control tag)) _
       (and_both (is_given (codes "name") attrs) _ (given (codes "name") refl attrs b)
-      (and_both (is_given (codes "type") attrs) (is_given (codes "multiple") attrs) (given (codes "type") refl attrs b) (given (codes "multiple") refl attrs b)))
+      (and_both (is_given (codes "type") attrs) (is_given (codes "multiple") attrs) (given (codes "type") refl attrs b)
+      (given (codes "multiple") refl attrs b)))
   | inr isnt ↦ or_left (not (is_control tag)) _ (ap not isnt)
 ]
 

@@ -13,7 +13,9 @@ use Rattle.bw_shape.specs.Shape.{Has, Places, Doubles}
 use Rattle.bw_sum.specs.Unfolding.{FillsAttrs, Fills, end, words, inside, left, said, led}
 use Rattle.bw_fields.specs.Plain.{is_plain, ArePlain, controls}
 use Rattle.bw_fields.specs.Laws.{NotTwice}
-use Rattle.bw_fields.proofs.Sound.{no_parts, same_field, stands_append}
+use Rattle.bw_nodes.proofs.Bools.{or_parts}
+use Rattle.bw_shape.proofs.Walks.{stands-append}
+use Rattle.bw_fields.proofs.Sound.{same_field}
 
 split : (k : ℕ) → (2 ≤ k) ⊎ (k ≤ 1)
 split zero = inr (omega arith)
@@ -32,8 +34,8 @@ module _ (templates : ℕ → Forest) (G : Graph) (names : List (List ℕ)) (f :
   none_counted (text s r) h = none_counted r h
   none_counted (gap g r) h = none_counted r h
   none_counted (element tag a i r) h =
-      let k = no_parts (is_field names f tag a) (stands names f i || stands names f r) h in
-      let l = no_parts (stands names f i) (stands names f r) k.1 in
+      let k = or_parts (is_field names f tag a) (stands names f i || stands names f r) h in
+      let l = or_parts (stands names f i) (stands names f r) k.1 in
       omega (arith, ap one_if k.0, none_counted i l.0, none_counted r l.1)
 
   same_control : {n : ℕ} {a b : List Attr} (tag : List ℕ) → FillsAttrs G n a b → is_plain tag a ≡ true → is_field names f tag b ≡ is_field names f tag a
@@ -54,16 +56,23 @@ module _ (templates : ℕ → Forest) (G : Graph) (names : List (List ℕ)) (f :
   have_by : {n : ℕ} {t d : Forest} → ArePlain t → Fills templates G n t d → stands names f d ≡ true → (stands names f t ≡ true) ⊎ LeadsToHave n
   have_by p end h = absurd (false≢true h)
   have_by p (words r) h = have_by p r h
-  have_by p (inside {tag = tag} {a = a} {b = b} {i = i} {j = j} {t = t} {d = d} q x r) h = elim (or_cases (is_field names f tag b) (stands names f j || stands names f d) h) [
-    | inl it ↦ inl (or_left (is_field names f tag a) (stands names f i || stands names f t) (sym (same_control tag q p.0) ∙ it))
-    | inr it ↦ elim (or_cases (stands names f j) (stands names f d) it) [
-      | inl below ↦ elim (have_by p.1.0 x below) [ inl y ↦ inl (or_right (is_field names f tag a) (stands names f i || stands names f t) (or_left (stands names f i) (stands names f t) y)) | inr y ↦ inr y ]
-      | inr after ↦ elim (have_by p.1.1 r after) [ inl y ↦ inl (or_right (is_field names f tag a) (stands names f i || stands names f t) (or_right (stands names f i) (stands names f t) y)) | inr y ↦ inr y ]
-    ]
-  ]
+  have_by p (inside {tag = tag} {a = a} {b = b} {i = i} {j = j} {t = t} {d = d} q x r) h =
+      elim (or_cases (is_field names f tag b) (stands names f j || stands names f d) h) [
+        | inl it ↦ inl (or_left (is_field names f tag a) (stands names f i || stands names f t) (sym (same_control tag q p.0) ∙ it))
+        | inr it ↦ elim (or_cases (stands names f j) (stands names f d) it) [
+          | inl below ↦ elim (have_by p.1.0 x below) [
+            | inl y ↦ inl (or_right (is_field names f tag a) (stands names f i || stands names f t) (or_left (stands names f i) (stands names f t) y))
+            | inr y ↦ inr y
+          ]
+          | inr after ↦ elim (have_by p.1.1 r after) [
+            | inl y ↦ inl (or_right (is_field names f tag a) (stands names f i || stands names f t) (or_right (stands names f i) (stands names f t) y))
+            | inr y ↦ inr y
+          ]
+        ]
+      ]
   have_by p (left l r) h = have_by p r h
   have_by p (said l r) h = have_by p r h
-  have_by p (led {g = g} {m = m} {d = d} {e = e} l i r) h = elim (or_cases (stands names f e) (stands names f d) (sym (stands_append names f e d) ∙ h)) [
+  have_by p (led {g = g} {m = m} {d = d} {e = e} l i r) h = elim (or_cases (stands names f e) (stands names f d) (sym (stands-append names f e d) ∙ h)) [
     | inl it ↦ inr (g, m, l, may_have m (have_by (plain m) i it))
     | inr it ↦ have_by p r it
   ]

@@ -142,8 +142,12 @@ pub fn judge_fields(
     point: u32,
 ) -> Result<Faults, Memory>
     requires { All (spec.IsReceived typed.now.service) received.now }
-    ensures exact { IfOk result (λ l. (page : Summary) (schema : Schema) → spec.IsShown typed.now.service page schema outline.now → Lists (spec.IsFieldFault (template_items typed.now.service) (graph (literals_of typed.now.service) page) (length typed.now.service.templates) typed.now.service point received.now) l) }
-    ensures sound { IfOk result (λ l. l ≡ [] → (page : Summary) (schema : Schema) → spec.IsShown typed.now.service page schema outline.now → (d : Forest) → Unfolds (template_items typed.now.service) (graph (literals_of typed.now.service) page) (length typed.now.service.templates) d → All (spec.HasField typed.now.service (close d)) received.now) }
+    ensures exact { IfOk result (λ l. (page : Summary) (schema : Schema) → spec.IsShown typed.now.service page schema outline.now
+        → Lists (spec.IsFieldFault (template_items typed.now.service) (graph (literals_of typed.now.service) page) (length typed.now.service.templates)
+        typed.now.service point received.now) l) }
+    ensures sound { IfOk result (λ l. l ≡ [] → (page : Summary) (schema : Schema) → spec.IsShown typed.now.service page schema outline.now → (d : Forest)
+        → Unfolds (template_items typed.now.service) (graph (literals_of typed.now.service) page) (length typed.now.service.templates) d
+        → All (spec.HasField typed.now.service (close d)) received.now) }
 {
     readable_is_small();
     let count = typed.service().templates.as_slice().len();

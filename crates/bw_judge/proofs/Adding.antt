@@ -1,9 +1,10 @@
 -- Adding the faults of what may stand in an element.
-use Rattle.std.proofs.Common.{◌≡◌, ◌⊎◌, inl, inr, ℕ, ◌+◌, ◌<◌, Bool, ◌&&◌, not, List, length, sym, ap, ◌∙◌, subst, arith}
+use Rattle.std.proofs.Common.{◌≡◌, inl, inr, ℕ, ◌+◌, ◌<◌, Bool, ◌&&◌, not, List, length, sym, ap, ◌∙◌, subst, arith}
 use Rattle.std.specs.Prelude.{codes}
 use Rattle.bw_faults.specs.declared.fault.Fault.{Fault}
 use Rattle.bw_faults.specs.Lists.{Adds, When}
 use Rattle.bw_faults.proofs.Adding.{adds_none, adds_then}
+use Rattle.bw_shape.proofs.Reaching.{last}
 use Rattle.bw_judge.specs.declared.content.Spot.{Spot}
 use Rattle.bw_judge.specs.Content.{fault_at, is_bad_tag, tag_fault, OfContent}
 
@@ -14,12 +15,10 @@ adds_text s has text tags given old new p =
     adds_then (OfContent s has text tags given 0) p (adds_none (λ _. ⊥) new (λ x h. h))
     (λ x h. elim h [ inl k ↦ inl k | inr k ↦ absurd k ]) (λ x h. elim h [ inl k ↦ inl k | inr k ↦ absurd (omega (arith, k.1)) ])
 
-last : (k c : ℕ) → c < k + 1 → (c < k) ⊎ (c ≡ k)
-last k c h = grind arith
-
 -- one tag more
 pub adds_tag : (s : Spot) (has : List (List ℕ)) (text : Bool) (tags : List (List ℕ)) (given : ℕ → Bool) (k : ℕ) (a b c : List Fault)
-    → Adds (OfContent s has text tags given k) a b → Adds (When (given (k + 1) && is_bad_tag has tags k) (tag_fault s tags k)) b c → Adds (OfContent s has text tags given (k + 1)) a c
+    → Adds (OfContent s has text tags given k) a b → Adds (When (given (k + 1) && is_bad_tag has tags k) (tag_fault s tags k)) b c
+    → Adds (OfContent s has text tags given (k + 1)) a c
 adds_tag s has text tags given k a b c p q =
     adds_then (OfContent s has text tags given (k + 1)) p q
     (λ x h. elim h [ inl old ↦ elim old [ inl t ↦ inl t | inr t ↦ inr (t.0, omega (arith, t.1), t.2) ] | inr new ↦ inr (k, omega arith, new) ])
@@ -32,7 +31,8 @@ adds_tag s has text tags given k a b c p q =
     ])
 
 -- with the same columns
-pub adds_same : (s : Spot) (has : List (List ℕ)) (text : Bool) (tags : List (List ℕ)) (given other : ℕ → Bool) (a b : List Fault) → ((c : ℕ) → c < length tags + 1 → given c ≡ other c)
+pub adds_same : (s : Spot) (has : List (List ℕ)) (text : Bool) (tags : List (List ℕ)) (given other : ℕ → Bool) (a b : List Fault)
+    → ((c : ℕ) → c < length tags + 1 → given c ≡ other c)
     → Adds (OfContent s has text tags given (length tags)) a b → Adds (OfContent s has text tags other (length tags)) a b
 adds_same s has text tags given other a b e p =
     adds_then (OfContent s has text tags other (length tags)) p (adds_none (λ _. ⊥) b (λ x h. h))

@@ -8,18 +8,13 @@ use Rattle.bw_lang.specs.Encoding.Falls.{most_le-forest_size}
 use Rattle.bw_lang.specs.Document.Forest.{Forest, none, text, gap, element, forest_size}
 use Rattle.bw_lang.specs.Document.View.{forest, before}
 use Rattle.bw_lang.specs.Document.Documents.{append, elements}
+use Rattle.bw_lang.proofs.Counts.{elements-append}
 use Rattle.bw_lang.proofs.Forests.{forest-take, forest-split}
 use Rattle.bw_faults.specs.declared.fault.Fault.{Fault}
 use Rattle.bw_judge.specs.declared.content.Spot.{Spot}
 use Rattle.bw_faults.specs.Lists.{Adds}
 use Rattle.bw_judge.specs.Found.{OfForest, moved}
 use Rattle.bw_faults.proofs.Adding.{adds_then}
-
-pub elements-append : (a b : Forest) → elements (append a b) ≡ elements a + elements b
-elements-append none b = omega arith
-elements-append (text s r) b = elements-append r b
-elements-append (gap g r) b = elements-append r b
-elements-append (element t a i r) b = omega (arith, elements-append r b)
 
 -- an item is smaller than the list
 pub item_le-size : (xs : List Item) (i : ℕ) (x : Item) → x ≡ get_or xs i x → i < length xs → deep-Item x ≤ forest_size (forest xs)
@@ -50,11 +45,13 @@ forest_back P (element t a i r) b s f (inl h) = inl (inl h)
 forest_back P (element t a i r) b s f (inr (inl h)) = inl (inr (inl h))
 forest_back P (element t a i r) b s f (inr (inr h)) = elim (forest_back P r b (moved s (s.place + 1 + elements i)) f h) [
   | inl k ↦ inl (inr (inr k))
-  | inr k ↦ let e : s.place + 1 + elements i + elements r ≡ s.place + suc (elements i + elements r) = omega arith in inr (subst (λ n. OfForest P (moved s n) b f) e k)
+  | inr k ↦ let e : s.place + 1 + elements i + elements r ≡ s.place + suc (elements i + elements r) = omega arith in
+      inr (subst (λ n. OfForest P (moved s n) b f) e k)
 ]
 
 -- one item more
-pub adds_item : (P : Of) (s : Spot) (xs : List Item) (i : ℕ) (x : Item) (n : ℕ) (a b c : List Fault) → x ≡ get_or xs i x → i < length xs → n ≡ s.place + elements (forest (take i xs))
+pub adds_item : (P : Of) (s : Spot) (xs : List Item) (i : ℕ) (x : Item) (n : ℕ) (a b c : List Fault) → x ≡ get_or xs i x → i < length xs
+    → n ≡ s.place + elements (forest (take i xs))
     → Adds (OfForest P s (forest (take i xs))) a b → Adds (OfForest P (moved s n) (before x none)) b c → Adds (OfForest P s (forest (take (i + 1) xs))) a c
 adds_item P s xs i x n a b c e h is p q =
     subst (λ t. Adds (OfForest P s t) a c) (sym (forest-take xs i x e h))
@@ -68,9 +65,17 @@ adds_element P s tag at i a b c p q = adds_then (OfForest P s (element tag at i 
     (λ f k. elim k [ inl l ↦ inl l | inr l ↦ elim l [ inl m ↦ inr m | inr m ↦ absurd m ] ])
 
 -- the elements up to an item and in it are among all
-pub elements_upto : (xs : List Item) (i : ℕ) (x : Item) → x ≡ get_or xs i x → i < length xs → elements (forest (take i xs)) + elements (before x none) ≤ elements (forest xs)
+pub elements_upto : (xs : List Item) (i : ℕ) (x : Item) → x ≡ get_or xs i x → i < length xs
+    → elements (forest (take i xs)) + elements (before x none) ≤ elements (forest xs)
 elements_upto xs i x e h =
-    omega (arith, elements-append (forest (take i xs)) (before x none), ap elements (forest-take xs i x e h), elements-append (forest (take (i + 1) xs)) (forest (drop (i + 1) xs)), ap elements (forest-split xs (i + 1)))
+    omega (
+      arith,
+      elements-append (forest (take i xs)) (before x none),
+      ap elements (forest-take xs i x e h),
+      elements-append (forest (take (i + 1) xs)) (forest (drop (i + 1) xs)),
+      ap elements (forest-split xs (i + 1)),
+    )
 
-pub elements_next : (xs : List Item) (i : ℕ) (x : Item) → x ≡ get_or xs i x → i < length xs → elements (forest (take (i + 1) xs)) ≡ elements (forest (take i xs)) + elements (before x none)
+pub elements_next : (xs : List Item) (i : ℕ) (x : Item) → x ≡ get_or xs i x → i < length xs
+    → elements (forest (take (i + 1) xs)) ≡ elements (forest (take i xs)) + elements (before x none)
 elements_next xs i x e h = ap elements (forest-take xs i x e h) ∙ elements-append (forest (take i xs)) (before x none)

@@ -17,11 +17,13 @@ use Rattle.bw_sum.specs.Graph.{Graph}
 use Rattle.bw_sum.specs.Unfolding.{FillsValue, kept, left_open, said_in, FillsAttrs, no_more, more, Fills, end, words, inside, left, said, led}
 use Rattle.bw_shape.specs.Shape as shape
 use Rattle.bw_shape.specs.Shape.{Reached, root_is, along, Gives, tagged, wordy}
+use Rattle.bw_nodes.proofs.Bools.{and_parts, and_both}
+use Rattle.bw_shape.proofs.Outcomes.{sure}
 use Rattle.bw_judge.specs.Scene.{has_attr}
 use Rattle.bw_judge.specs.Faults as fault
-use Rattle.bw_judge.specs.Faults.{At, MayBe, Sure, Breaks, IsFault, fault_in}
+use Rattle.bw_judge.specs.Faults.{At, MayBe, Breaks, fault_in}
 use Rattle.bw_judge.specs.Soundness.{NoFaultIsValid}
-use Rattle.bw_judge.proofs.NeedsSound.{sure, both_true, child_append, sure_holds}
+use Rattle.bw_judge.proofs.NeedsSound.{child_append, sure_holds}
 
 pub first_in : {X : Type 0} (x : X) (xs : List X) → Contains (x ∷ xs) x
 first_in x xs = (0, omega arith, refl)
@@ -35,7 +37,8 @@ all_sure p [] h = refl
 all_sure p (x ∷ xs) h = ap (λ b. b && list_all p xs) (h x (first_in x xs)) ∙ all_sure p xs (λ y c. h y (later_in x y xs c))
 
 -- what holds at each place holds of every element
-pub every_at : (P : List ℕ → List Attr → Forest → Type 0) (t : Forest) → ((k : ℕ) (tag : List ℕ) (a : List Attr) (i : Forest) → At t k tag a i → P tag a i) → EveryElement P t
+pub every_at : (P : List ℕ → List Attr → Forest → Type 0) (t : Forest)
+    → ((k : ℕ) (tag : List ℕ) (a : List Attr) (i : Forest) → At t k tag a i → P tag a i) → EveryElement P t
 every_at P none h = tt
 every_at P (text s r) h = every_at P r (λ k tag a i m. h k tag a i (fault.after_text m))
 every_at P (gap g r) h = every_at P r (λ k tag a i m. h k tag a i (fault.after_gap m))
@@ -48,17 +51,14 @@ every_append P (text s r) e h k = every_append P r e h k
 every_append P (gap g r) e h k = every_append P r e h k
 every_append P (element tag a i r) e h k = (h.0, (h.1.0, every_append P r e h.1.1 k))
 
-parts_true : (a b : Bool) → (a && b) ≡ true → (a ≡ true) × (b ≡ true)
-parts_true true b h = (refl, h)
-parts_true false b h = absurd (false≢true h)
-
 pub text_append : (p : List ℕ → Bool) (d e : Forest) → each_text p d ≡ true → each_text p e ≡ true → each_text p (append d e) ≡ true
 text_append p none e h k = k
-text_append p (text s r) e h k = let q = parts_true _ _ h in both_true _ _ q.0 (text_append p r e q.1 k)
+text_append p (text s r) e h k = let q = and_parts _ _ h in and_both _ _ q.0 (text_append p r e q.1 k)
 text_append p (gap g r) e h k = text_append p r e h k
 text_append p (element tag a i r) e h k = text_append p r e h k
 
-value_by : {G : Graph} (p : List ℕ → List ℕ → Bool) (x : List ℕ) {n : ℕ} {u v : AttrValue} → FillsValue G n u v → ((s : List ℕ) → MayBe G n u s → p x s ≡ true) → on_fixed p x v ≡ true
+value_by : {G : Graph} (p : List ℕ → List ℕ → Bool) (x : List ℕ) {n : ℕ} {u v : AttrValue} → FillsValue G n u v
+    → ((s : List ℕ) → MayBe G n u s → p x s ≡ true) → on_fixed p x v ≡ true
 value_by p x (kept {s = s}) h = h s fault.fixed
 value_by p x (left_open k) h = refl
 value_by p x (said_in {s = s} k) h = h s (fault.said k)
@@ -67,7 +67,7 @@ pub fixed_by : {G : Graph} (p : List ℕ → List ℕ → Bool) {n : ℕ} {a b :
     → ((c : Attr) → Contains a c → (s : List ℕ) → MayBe G n c.value s → p c.name s ≡ true) → each_fixed p b ≡ true
 fixed_by p no_more h = refl
 fixed_by p (more {x = x} {u = u} {v = v} {a = a} q r) h =
-    both_true _ _ (value_by p x q (h (record { name = x; value = u }) (first_in _ a))) (fixed_by p r (λ c k. h c (later_in _ c a k)))
+    and_both _ _ (value_by p x q (h (record { name = x; value = u }) (first_in _ a))) (fixed_by p r (λ c k. h c (later_in _ c a k)))
 
 value_has : {G : Graph} {n : ℕ} {u v : AttrValue} → FillsValue G n u v → ((g : ℕ) → u ≡ Hole g → G.track g n ≡ true → ⊥) → is_fixed v ≡ true
 value_has kept h = refl
@@ -78,7 +78,7 @@ pub has_by : {G : Graph} (x : List ℕ) {n : ℕ} {a b : List Attr} → FillsAtt
     → ((c : Attr) → Contains a c → same c.name x ≡ true → (g : ℕ) → c.value ≡ Hole g → G.track g n ≡ true → ⊥) → has_fixed b x ≡ true
 has_by x no_more o h = absurd (false≢true o)
 has_by x (more {x = y} {u = u} {v = v} {a = a} {b = b} q r) o h = elim (cases_Bool (same y x)) [
-  | inl it ↦ or_left (same y x && is_fixed v) (has_fixed b x) (both_true _ _ it (value_has q (h (record { name = y; value = u }) (first_in _ a) it)))
+  | inl it ↦ or_left (same y x && is_fixed v) (has_fixed b x) (and_both _ _ it (value_has q (h (record { name = y; value = u }) (first_in _ a) it)))
   | inr other ↦ or_right (same y x && is_fixed v) (has_fixed b x) (has_by x r (sym (ap (λ t. t || has_attr a x) other) ∙ o) (λ c k. h c (later_in _ c a k)))
 ]
 
@@ -86,22 +86,24 @@ pub child_by : {templates : ℕ → Forest} {G : Graph} (p : List ℕ → Bool) 
     → ((x : List ℕ) → Gives templates G n t (tagged x) → p x ≡ true) → each_child p d ≡ true
 child_by p end h = refl
 child_by p (words r) h = child_by p r (λ x k. h x (shape.after_text k))
-child_by p (inside {tag = tag} q i r) h = both_true _ _ (h tag shape.element_here) (child_by p r (λ x k. h x (shape.after_element k)))
+child_by p (inside {tag = tag} q i r) h = and_both _ _ (h tag shape.element_here) (child_by p r (λ x k. h x (shape.after_element k)))
 child_by p (left l r) h = child_by p r (λ x k. h x (shape.after_gap k))
 child_by p (said l r) h = child_by p r (λ x k. h x (shape.after_gap k))
 child_by p (led {d = d} {e = e} l i r) h = child_append p e d (child_by p i (λ x k. h x (shape.led l k))) (child_by p r (λ x k. h x (shape.after_gap k)))
 
-pub text_by : {templates : ℕ → Forest} {G : Graph} {n : ℕ} {t d : Forest} → Fills templates G n t d → (Gives templates G n t wordy → ⊥) → each_text is_blank d ≡ true
+pub text_by : {templates : ℕ → Forest} {G : Graph} {n : ℕ} {t d : Forest} → Fills templates G n t d
+    → (Gives templates G n t wordy → ⊥) → each_text is_blank d ≡ true
 text_by end h = refl
-text_by (words {s = s} r) h = both_true _ _ (sure (is_blank s) (λ e. h (shape.text_here e))) (text_by r (λ k. h (shape.after_text k)))
+text_by (words {s = s} r) h = and_both _ _ (sure (is_blank s) (λ e. h (shape.text_here e))) (text_by r (λ k. h (shape.after_text k)))
 text_by (inside q i r) h = text_by r (λ k. h (shape.after_element k))
 text_by (left l r) h = text_by r (λ k. h (shape.after_gap k))
-text_by (said {s = s} l r) h = both_true _ _ (sure (is_blank s) (λ e. h (shape.said l e))) (text_by r (λ k. h (shape.after_gap k)))
+text_by (said {s = s} l r) h = and_both _ _ (sure (is_blank s) (λ e. h (shape.said l e))) (text_by r (λ k. h (shape.after_gap k)))
 text_by (led {d = d} {e = e} l i r) h = text_append is_blank e d (text_by i (λ k. h (shape.led l k))) (text_by r (λ k. h (shape.after_gap k)))
 
 -- nothing that an element of template n may break
 abbrev Unbroken : (ℕ → Forest) → Graph → List Rule → ℕ → List ℕ → List Attr → Forest → Type 0
-Unbroken templates G rules n tag a i = (r : Rule) → rule_of rules tag ≡ Some r → (number : ℕ) (detail : List ℕ) → Breaks templates G n r tag a i number detail → ⊥
+Unbroken templates G rules n tag a i = (r : Rule) → rule_of rules tag ≡ Some r → (number : ℕ) (detail : List ℕ)
+    → Breaks templates G n r tag a i number detail → ⊥
 
 obeys : (templates : ℕ → Forest) (G : Graph) (r : Rule) (tag : List ℕ) {n : ℕ} {a b : List Attr} {i j : Forest} → FillsAttrs G n a b → Fills templates G n i j
     → ((number : ℕ) (detail : List ℕ) → Breaks templates G n r tag a i number detail → ⊥) → Obeys r b j
@@ -117,20 +119,23 @@ obeys templates G r tag {n = n} {a = a} {b = b} {i = i} {j = j} q f h = record {
   needs = sure (holds true r.needs b j) (λ e. h 7 tag (fault.need (λ k. false≢true (sym e ∙ sure_holds templates G n a b i j q f true r.needs k))));
 }
 
-follows : (templates : ℕ → Forest) (G : Graph) (rules : List Rule) (tag : List ℕ) (o : Option Rule) {n : ℕ} {a b : List Attr} {i j : Forest} → rule_of rules tag ≡ o
+follows : (templates : ℕ → Forest) (G : Graph) (rules : List Rule) (tag : List ℕ) (o : Option Rule) {n : ℕ} {a b : List Attr} {i j : Forest}
+    → rule_of rules tag ≡ o
     → FillsAttrs G n a b → Fills templates G n i j → Unbroken templates G rules n tag a i → IfSome o (λ r. Obeys r b j)
 follows templates G rules tag None e q f h = tt
 follows templates G rules tag (Some r) e q f h = obeys templates G r tag q f (h r e)
 
 module _ (templates : ℕ → Forest) (G : Graph) (root : ℕ) (rules : List Rule)
     (none_broken : (n : ℕ) → Reached G root n → EveryElement (Unbroken templates G rules n) (templates n)) where
-  pub fills_valid : {n : ℕ} {t d : Forest} → Reached G root n → EveryElement (Unbroken templates G rules n) t → Fills templates G n t d → EveryElement (Follows rules) d
+  pub fills_valid : {n : ℕ} {t d : Forest} → Reached G root n → EveryElement (Unbroken templates G rules n) t
+      → Fills templates G n t d → EveryElement (Follows rules) d
   fills_valid w h end = tt
   fills_valid w h (words r) = fills_valid w h r
   fills_valid w h (inside {tag = tag} q i r) = (follows templates G rules tag (rule_of rules tag) refl q i h.0, (fills_valid w h.1.0 i, fills_valid w h.1.1 r))
   fills_valid w h (left l r) = fills_valid w h r
   fills_valid w h (said l r) = fills_valid w h r
-  fills_valid w h (led {m = m} {d = d} {e = e} l i r) = every_append (Follows rules) e d (fills_valid (along w l) (none_broken m (along w l)) i) (fills_valid w h r)
+  fills_valid w h (led {m = m} {d = d} {e = e} l i r) =
+      every_append (Follows rules) e d (fills_valid (along w l) (none_broken m (along w l)) i) (fills_valid w h r)
 
 is_none : Forest → Bool
 is_none none = true
@@ -153,25 +158,27 @@ bare_by (left l r) h = absurd (false≢true h)
 bare_by (said l r) h = absurd (false≢true h)
 bare_by (led l i r) h = absurd (false≢true h)
 
-rooted_by : {templates : ℕ → Forest} {G : Graph} (root : List ℕ) {n : ℕ} {t d : Forest} → Fills templates G n t d → is_one root t ≡ true → is_rooted root d ≡ true
+rooted_by : {templates : ℕ → Forest} {G : Graph} (root : List ℕ) {n : ℕ} {t d : Forest} → Fills templates G n t d
+    → is_one root t ≡ true → is_rooted root d ≡ true
 unfolding is_one
 rooted_by root end h = absurd (false≢true h)
 rooted_by root (words r) h = absurd (false≢true h)
-rooted_by root (inside q i r) h = let k = parts_true _ _ h in both_true _ _ k.0 (bare_by r k.1)
+rooted_by root (inside q i r) h = let k = and_parts _ _ h in and_both _ _ k.0 (bare_by r k.1)
 rooted_by root (left l r) h = absurd (false≢true h)
 rooted_by root (said l r) h = absurd (false≢true h)
 rooted_by root (led l i r) h = absurd (false≢true h)
 
 is_one_of : (root tag : List ℕ) (a : List Attr) (i : Forest) → same tag root ≡ true → is_one root (element tag a i none) ≡ true
 unfolding is_one is_none
-is_one_of root tag a i h = both_true _ _ h refl
+is_one_of root tag a i h = and_both _ _ h refl
 
 pub no_fault_valid : NoFaultIsValid
 no_fault_valid templates G root s point wrapper h d u =
     let e = wrapper.3 in
     let same_root = sure (same wrapper.0 s.root) (λ k. h (fault_in point 6 root 1 wrapper.0) (fault.wrong_root e k)) in
     let each : (n : ℕ) → Reached G root n → EveryElement (Unbroken templates G s.elements n) (templates n) =
-    λ n w. every_at (Unbroken templates G s.elements n) (templates n) (λ k tag a i m r is number detail b. h (fault_in point number n k detail) (fault.breaks w m is b)) in
+    λ n w. every_at (Unbroken templates G s.elements n) (templates n)
+    (λ k tag a i m r is number detail b. h (fault_in point number n k detail) (fault.breaks w m is b)) in
     valid_closed s d (record {
       root = rooted_by s.root u (subst (λ t. is_one s.root t ≡ true) (sym e) (is_one_of s.root wrapper.0 wrapper.1 wrapper.2 same_root));
       each = fills_valid templates G root s.elements each root_is (each root root_is) u;

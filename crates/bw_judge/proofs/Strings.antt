@@ -1,5 +1,6 @@
 -- The strings that may stand at a gap, and the attributes that they give.
-use Rattle.std.proofs.Common.{◌≡◌, ◌⊎◌, inl, inr, ℕ, zero, suc, ◌<◌, ◌==◌, max, Bool, true, false, ◌||◌, ◌&&◌, not, List, [], ◌∷◌, length, refl, ap, sym, ◌∙◌, arith}
+use Rattle.std.proofs.Common.{◌≡◌, ◌⊎◌, inl, inr, ℕ, zero, suc, ◌<◌, ◌==◌, max, Bool, true, false, ◌||◌, ◌&&◌, not, List, [], ◌∷◌, length, refl, ap, sym, ◌∙◌}
+use Rattle.std.proofs.Common.{arith}
 use Rattle.std.specs.List.{list_any, Contains}
 use Rattle.std.proofs.lemmas.Bool.{false≢true, cases_Bool, or_cases, or_left, or_right}
 use Rattle.std.proofs.lemmas.Slice.Eq.{bytes_eq-Decides}
@@ -44,13 +45,16 @@ not_there (w ∷ ws) s h = elim (cases_Bool (same w s)) [
 ]
 
 -- a set that isn't within a list has a string that isn't in the list
-outside : (literals words : List (List ℕ)) (S : StrSet) → is_within literals words S ≡ false → (s : List ℕ) × (has_string literals S s ≡ true) × (is_among words s ≡ false)
-outside literals words Any h = (zeros (suc (longest words)), refl, not_there words (zeros (suc (longest words))) (let e = zeros_length (suc (longest words)) in omega (arith, e)))
+outside : (literals words : List (List ℕ)) (S : StrSet) → is_within literals words S ≡ false
+    → (s : List ℕ) × (has_string literals S s ≡ true) × (is_among words s ≡ false)
+outside literals words Any h =
+    (zeros (suc (longest words)), refl, not_there words (zeros (suc (longest words))) (let e = zeros_length (suc (longest words)) in omega (arith, e)))
 outside literals words (Of ns) h =
     let r = fails_at (λ n. is_among words (text_of literals n)) ns h in
     (text_of literals r.0, any_at (λ n. same (text_of literals n) (text_of literals r.0)) ns r.0 r.1 (same_itself (text_of literals r.0)), r.2)
 
-inside : (literals words : List (List ℕ)) (S : StrSet) → is_within literals words S ≡ true → (s : List ℕ) → has_string literals S s ≡ true → is_among words s ≡ true
+inside : (literals words : List (List ℕ)) (S : StrSet) → is_within literals words S ≡ true → (s : List ℕ)
+    → has_string literals S s ≡ true → is_among words s ≡ true
 inside literals words Any h s k = absurd (false≢true h)
 inside literals words (Of ns) h s k =
     let r = passes_at (λ n. same (text_of literals n) s) ns k in
@@ -78,8 +82,12 @@ module _ (G : Graph) (n : ℕ) (s : Scene) (sees : IsScene G n s) where
   kept_from words (Hole g) h =
       let r = fails_at (λ l. not (l.0 == g) || is_within s.literals words l.1) s.said h in
       let p = or_parts (not (r.0.0 == g)) (is_within s.literals words r.0.1) r.2 in
-      let o = outside s.literals words r.0.1 p.1 in
-      (o.0, fault.said (sees.strings g o.0 ∙ any_at (λ l. (l.0 == g) && has_string s.literals l.1 o.0) s.said r.0 r.1 (and_both _ _ (not_false _ p.0) o.1)), o.2)
+      let o = outside s.literals words r.0.1 p.1 in (
+        o.0,
+        fault.said (sees.strings g o.0
+            ∙ any_at (λ l. (l.0 == g) && has_string s.literals l.1 o.0) s.said r.0 r.1 (and_both _ _ (not_false _ p.0) o.1)),
+        o.2,
+      )
 
   pub permitted_to : (lists : List ValueList) (a : Attr) {w : List ℕ} → MayBe G n a.value w → is_permitted s lists a ≡ true → permits lists a.name w ≡ true
   permitted_to [] a m h = refl
@@ -102,7 +110,8 @@ module _ (G : Graph) (n : ℕ) (s : Scene) (sees : IsScene G n s) where
   both_false true b h k = absurd (false≢true (sym h))
   both_false false b h k = k
 
-  pub permitted_from : (lists : List ValueList) (a : Attr) → is_permitted s lists a ≡ false → (w : List ℕ) × MayBe G n a.value w × (permits lists a.name w ≡ false)
+  pub permitted_from : (lists : List ValueList) (a : Attr) → is_permitted s lists a ≡ false
+      → (w : List ℕ) × MayBe G n a.value w × (permits lists a.name w ≡ false)
   permitted_from [] a h = absurd (false≢true (sym h))
   permitted_from (l ∷ lists) a h = elim (cases_Bool (not (same l.name a.name) || is_kept s l.words a.value)) [
     | inl it ↦
@@ -143,9 +152,11 @@ module _ (G : Graph) (n : ℕ) (s : Scene) (sees : IsScene G n s) where
   pub absent_from : (attrs : List Attr) (x : List ℕ) → has_attr attrs x ≡ false → may_be_absent s attrs x ≡ true
   absent_from attrs x h = or_left (not (has_attr attrs x)) (list_any (λ a. same a.name x && is_loose s a.value) attrs) (ap not h)
 
-  pub unsure_from : (attrs : List Attr) (x : List ℕ) (a : Attr) (g : ℕ) → Contains attrs a → same a.name x ≡ true → a.value ≡ Hole g → G.track g n ≡ true → may_be_absent s attrs x ≡ true
+  pub unsure_from : (attrs : List Attr) (x : List ℕ) (a : Attr) (g : ℕ) → Contains attrs a → same a.name x ≡ true → a.value ≡ Hole g
+      → G.track g n ≡ true → may_be_absent s attrs x ≡ true
   unsure_from attrs x a g c e is l =
-      or_right (not (has_attr attrs x)) (list_any (λ a. same a.name x && is_loose s a.value) attrs) (any_at (λ a. same a.name x && is_loose s a.value) attrs a c (and_both _ _ e (hole_loose a.value g is l)))
+      or_right (not (has_attr attrs x)) (list_any (λ a. same a.name x && is_loose s a.value) attrs)
+      (any_at (λ a. same a.name x && is_loose s a.value) attrs a c (and_both _ _ e (hole_loose a.value g is l)))
 
   pub there_to : (attrs : List Attr) (x : List ℕ) → is_there s attrs x ≡ true → SureAttr G n attrs x
   there_to attrs x h =

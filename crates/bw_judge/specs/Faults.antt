@@ -20,8 +20,10 @@ use Rattle.bw_judge.specs.Scene.{has_attr}
 -- the element at a place in pre-order, from 1
 pub data At : Forest → ℕ → List ℕ → List Attr → Forest → Type 0 where
   here : {tag : List ℕ} {a : List Attr} {i r : Forest} → At (element tag a i r) 1 tag a i
-  inside : {t : List ℕ} {b : List Attr} {i r : Forest} {k : ℕ} {tag : List ℕ} {a : List Attr} {j : Forest} → At i k tag a j → At (element t b i r) (1 + k) tag a j
-  after_element : {t : List ℕ} {b : List Attr} {i r : Forest} {k : ℕ} {tag : List ℕ} {a : List Attr} {j : Forest} → At r k tag a j → At (element t b i r) (1 + elements i + k) tag a j
+  inside : {t : List ℕ} {b : List Attr} {i r : Forest} {k : ℕ} {tag : List ℕ} {a : List Attr} {j : Forest}
+      → At i k tag a j → At (element t b i r) (1 + k) tag a j
+  after_element : {t : List ℕ} {b : List Attr} {i r : Forest} {k : ℕ} {tag : List ℕ} {a : List Attr} {j : Forest} → At r k tag a j
+      → At (element t b i r) (1 + elements i + k) tag a j
   after_text : {s : List ℕ} {r : Forest} {k : ℕ} {tag : List ℕ} {a : List Attr} {j : Forest} → At r k tag a j → At (text s r) k tag a j
   after_gap : {g : ℕ} {r : Forest} {k : ℕ} {tag : List ℕ} {a : List Attr} {j : Forest} → At r k tag a j → At (gap g r) k tag a j
 
@@ -39,7 +41,8 @@ abbrev pub SureAttr : Graph → ℕ → List Attr → List ℕ → Type 0
 SureAttr G n attrs x = (a : Attr) × Contains attrs a × (same a.name x ≡ true) × IsSureValue G n a.value
 
 abbrev pub SureOne : Graph → ℕ → List Attr → List ℕ → List (List ℕ) → Type 0
-SureOne G n attrs x vs = (a : Attr) × Contains attrs a × (same a.name x ≡ true) × IsSureValue G n a.value × ((v : List ℕ) → MayBe G n a.value v → is_among vs v ≡ true)
+SureOne G n attrs x vs = (a : Attr) × Contains attrs a × (same a.name x ≡ true) × IsSureValue G n a.value
+    × ((v : List ℕ) → MayBe G n a.value v → is_among vs v ≡ true)
 
 -- with true both, with false one of them
 abbrev pub Both : Bool → Type 0 → Type 0 → Type 0
@@ -64,7 +67,8 @@ Sure templates G n attrs inner b (order x y rest) = Both b (Crossing templates G
 pub data Breaks (templates : ℕ → Forest) (G : Graph) (n : ℕ) (r : Rule) (tag : List ℕ) (attrs : List Attr) (inner : Forest) : ℕ → List ℕ → Type 0 where
   attribute : {a : Attr} {v : List ℕ} → Contains attrs a → MayBe G n a.value v → allows r a.name ≡ false → Breaks templates G n r tag attrs inner 1 a.name
   absent : {x : List ℕ} → Contains r.must x → has_attr attrs x ≡ false → Breaks templates G n r tag attrs inner 2 x
-  unsure : {x : List ℕ} {a : Attr} {g : ℕ} → Contains r.must x → Contains attrs a → same a.name x ≡ true → a.value ≡ Hole g → G.track g n ≡ true → Breaks templates G n r tag attrs inner 2 x
+  unsure : {x : List ℕ} {a : Attr} {g : ℕ} → Contains r.must x → Contains attrs a → same a.name x ≡ true → a.value ≡ Hole g → G.track g n ≡ true
+      → Breaks templates G n r tag attrs inner 2 x
   value : {a : Attr} {v : List ℕ} → Contains attrs a → MayBe G n a.value v → permits r.values a.name v ≡ false → Breaks templates G n r tag attrs inner 3 a.name
   child : {x : List ℕ} → Gives templates G n inner (tagged x) → is_among r.has x ≡ false → Breaks templates G n r tag attrs inner 4 x
   words : Gives templates G n inner wordy → r.text ≡ false → Breaks templates G n r tag attrs inner 5 (codes "text")
@@ -76,6 +80,8 @@ fault_in point number n place detail = record { number = number; point = point; 
 
 -- the faults of the page graph of a point
 pub data IsFault (templates : ℕ → Forest) (G : Graph) (root : ℕ) (s : Schema) (point : ℕ) : Fault → Type 0 where
-  wrong_root : {tag : List ℕ} {a : List Attr} {i : Forest} → templates root ≡ element tag a i none → same tag s.root ≡ false → IsFault templates G root s point (fault_in point 6 root 1 tag)
-  breaks : {n place number : ℕ} {detail tag : List ℕ} {a : List Attr} {i : Forest} {r : Rule} → Reached G root n → At (templates n) place tag a i → rule_of s.elements tag ≡ Some r
+  wrong_root : {tag : List ℕ} {a : List Attr} {i : Forest} → templates root ≡ element tag a i none → same tag s.root ≡ false
+      → IsFault templates G root s point (fault_in point 6 root 1 tag)
+  breaks : {n place number : ℕ} {detail tag : List ℕ} {a : List Attr} {i : Forest} {r : Rule} → Reached G root n
+      → At (templates n) place tag a i → rule_of s.elements tag ≡ Some r
       → Breaks templates G n r tag a i number detail → IsFault templates G root s point (fault_in point number n place detail)

@@ -28,7 +28,8 @@ OfMust s at attrs x f = When (may_be_absent s attrs x) (fault_at at 2 x) f
 abbrev pub OfParts : Scene → Rule → Spot → List ℕ → List Attr → Forest → Fault → Type 0
 OfParts s r spot tag attrs inner f =
     OfSome (OfAttr s r spot) attrs f ⊎ (OfSome (OfMust s spot attrs) r.must f
-    ⊎ (OfContent spot r.has r.text s.tags (λ c. gives s.tags s.node (λ m. at s.tops m c) c inner) (length s.tags) f ⊎ When (not (sure s true r.needs attrs inner)) (fault_at spot 7 tag) f))
+    ⊎ (OfContent spot r.has r.text s.tags (λ c. gives s.tags s.node (λ m. at s.tops m c) c inner) (length s.tags) f
+    ⊎ When (not (sure s true r.needs attrs inner)) (fault_at spot 7 tag) f))
 
 -- where its tag has a rule
 abbrev pub OfRule : Scene → Option Rule → Spot → List ℕ → List Attr → Forest → Fault → Type 0
@@ -46,7 +47,8 @@ abbrev pub OfForest : (Spot → List ℕ → List Attr → Forest → Fault → 
 OfForest P s none f = ⊥
 OfForest P s (text t r) f = OfForest P s r f
 OfForest P s (gap g r) f = OfForest P s r f
-OfForest P s (element tag a i r) f = P (moved s (s.place + 1)) tag a i f ⊎ (OfForest P (moved s (s.place + 1)) i f ⊎ OfForest P (moved s (s.place + 1 + elements i)) r f)
+OfForest P s (element tag a i r) f = P (moved s (s.place + 1)) tag a i f
+    ⊎ (OfForest P (moved s (s.place + 1)) i f ⊎ OfForest P (moved s (s.place + 1 + elements i)) r f)
 
 -- the root element's tag isn't the schema's
 abbrev pub OfRoot : ℕ → List ℕ → ℕ → Forest → Fault → Type 0

@@ -29,6 +29,8 @@ pub record AreTops (templates : List Forest) (nodes : List Node) (G : Graph) (ro
   pub known : (n : ℕ) → Reached G root n → AreKnown tags (template_at templates n)
 
 abbrev pub ContentExact : Type 0
-ContentExact = (templates : List Forest) (nodes : List Node) (G : Graph) (root : ℕ) (tags : List (List ℕ)) (tops : List (List Bool)) → AreTops templates nodes G root tags tops
+ContentExact = (templates : List Forest) (nodes : List Node) (G : Graph) (root : ℕ) (tags : List (List ℕ)) (tops : List (List Bool))
+    → AreTops templates nodes G root tags tops
     → (s : Spot) (has : List (List ℕ)) (text : Bool) (n : ℕ) (inner : Forest) → Reached G root n → AreKnown tags inner
-    → (f : Fault) → OfContent s has text tags (λ c. gives tags (node_at nodes n) (λ m. at tops m c) c inner) (length tags) f ↔ ContentFault (template_at templates) G s has text n inner f
+    → (f : Fault) → OfContent s has text tags (λ c. gives tags (node_at nodes n) (λ m. at tops m c) c inner) (length tags) f
+    ↔ ContentFault (template_at templates) G s has text n inner f

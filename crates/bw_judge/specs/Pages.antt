@@ -64,7 +64,8 @@ abbrev pub IsWrapper : Forest → Type 0
 IsWrapper t = (tag : List ℕ) × (a : List Attr) × (i : Forest) × (t ≡ element tag a i none)
 
 -- the tables are those of the page graph, made for the formulas of the schema
-pub record IsPage (templates : List Forest) (nodes : List Node) (said : List (List (ℕ × StrSet))) (literals : List (List ℕ)) (o : Tables) (first : ℕ) (pairs : List (ℕ × ℕ)) (s : Schema) (root : ℕ) (G : Graph) : Type 0 where
+pub record IsPage (templates : List Forest) (nodes : List Node) (said : List (List (ℕ × StrSet))) (literals : List (List ℕ)) (o : Tables) (first : ℕ)
+    (pairs : List (ℕ × ℕ)) (s : Schema) (root : ℕ) (G : Graph) : Type 0 where
   pub wrapper : IsWrapper (template_at templates root)
   pub reached : (n : ℕ) → Contains o.order.items n ↔ Reached G root n
   pub tables : AreTables templates nodes G root first pairs o.tags o.tops o.miss o.cross

@@ -28,7 +28,8 @@ may_miss s x inner = misses s.tags s.node (λ m. at s.miss m (name_number s.tags
 -- it may have a child y before a child x
 abbrev pub may_cross : Scene → List ℕ → List ℕ → Forest → Bool
 may_cross s x y inner =
-    crosses s.tags s.node (at s.tops) (λ m. at s.cross m (pair_number s.pairs (tag_column s.tags y, tag_column s.tags x))) (tag_column s.tags y, tag_column s.tags x) inner
+    crosses s.tags s.node (at s.tops) (λ m. at s.cross m (pair_number s.pairs (tag_column s.tags y, tag_column s.tags x)))
+    (tag_column s.tags y, tag_column s.tags x) inner
 
 -- with true all of the needs are sure at an element, with false some of them
 abbrev pub sure : Scene → Bool → Needs → List Attr → Forest → Bool

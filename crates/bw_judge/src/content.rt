@@ -66,7 +66,8 @@ fn judge_tag(
     faults: &mut Faults,
 ) -> Result<(), Memory>
     requires { number < length tags.now }
-    ensures { OnOk result (Adds (When (is_given && content.is_bad_tag has.now tags.now number) (content.tag_fault spot tags.now number)) faults.old faults.new) }
+    ensures { OnOk result
+        (Adds (When (is_given && content.is_bad_tag has.now tags.now number) (content.tag_fault spot tags.now number)) faults.old faults.new) }
 {
     match tags.name(number) {
         Some(tag) => add_if(alloc, is_given && !is_among(has, tag), 4, spot, tag, faults),
@@ -128,7 +129,9 @@ pub fn judge_content(
     spot: Spot,
     faults: &mut Faults,
 ) -> Result<(), Memory>
-    ensures { OnOk result (Adds (content.OfContent spot has.now text tags.now (λ c. gives tags.now node.now (λ m. at tops.now m c) c items.now) (length tags.now)) faults.old faults.new) }
+    ensures { OnOk result
+        (Adds (content.OfContent spot has.now text tags.now (λ c. gives tags.now node.now (λ m. at tops.now m c) c items.now) (length tags.now))
+        faults.old faults.new) }
 {
     let given = given(alloc, tags, node, tops, items)?;
     judge_columns(alloc, tags, has, text, &given, spot, faults)

@@ -119,7 +119,9 @@ impl<'a> Scene<'a> {
         items: &Items,
         faults: &mut Faults,
     ) -> Result<(), Memory>
-        ensures { OnOk result (Adds (content.OfContent spot rule.now.has rule.now.text self.now.tags (λ c. gives self.now.tags self.now.node (λ m. at self.now.tops m c) c items.now) (length self.now.tags)) faults.old faults.new) }
+        ensures { OnOk result
+            (Adds (content.OfContent spot rule.now.has rule.now.text self.now.tags
+            (λ c. gives self.now.tags self.now.node (λ m. at self.now.tops m c) c items.now) (length self.now.tags)) faults.old faults.new) }
     {
         judge_content(
             alloc, self.tags, self.node, self.tops, &rule.has, rule.text, items, spot, faults,
@@ -378,8 +380,10 @@ pub fn judge(
     requires page { IsPageGraph typed.now.service page.now }
     requires literals { literals.now ≡ literals_of typed.now.service }
     requires shape { IsShape typed.now.service page.now schema.now outline.now }
-    ensures exact { IfOk result (λ l. Lists (IsFault (template_items typed.now.service) (graph (literals_of typed.now.service) page.now) (root_of page.now) schema.now point) l) }
-    ensures sound { IfOk result (λ l. l ≡ [] → (d : Forest) → Unfolds (template_items typed.now.service) (graph (literals_of typed.now.service) page.now) (root_of page.now) d → Valid schema.now (close d)) }
+    ensures exact { IfOk result
+        (λ l. Lists (IsFault (template_items typed.now.service) (graph (literals_of typed.now.service) page.now) (root_of page.now) schema.now point) l) }
+    ensures sound { IfOk result (λ l. l ≡ [] → (d : Forest)
+        → Unfolds (template_items typed.now.service) (graph (literals_of typed.now.service) page.now) (root_of page.now) d → Valid schema.now (close d)) }
 {
     readable_is_small();
     let service = typed.service();

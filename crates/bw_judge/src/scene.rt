@@ -33,7 +33,16 @@ impl<'a> Model for Scene<'a> {
 
     ghost Value = { spec.Scene };
 
-    ghost view = { λ s. record { tags = s.tags.now; literals = s.literals.now; tops = s.tops.now; miss = s.miss.now; cross = s.cross.now; pairs = s.pairs.now; node = s.node.now; said = s.said.now } };
+    ghost view = { λ s. record {
+      tags = s.tags.now;
+      literals = s.literals.now;
+      tops = s.tops.now;
+      miss = s.miss.now;
+      cross = s.cross.now;
+      pairs = s.pairs.now;
+      node = s.node.now;
+      said = s.said.now;
+    } };
 }
 
 /// Whether the literal of that number is a word of the list.

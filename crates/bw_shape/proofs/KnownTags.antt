@@ -15,7 +15,11 @@ pub known_stay : (old new : List (List ℕ)) (t : Forest) → Extends old new �
 known_stay old new none e h = tt
 known_stay old new (text s r) e h = known_stay old new r e h
 known_stay old new (gap g r) e h = known_stay old new r e h
-known_stay old new (element tag a i r) e h = (let k = numbers_stay old new tag e h.0 in let l = longer old new e in let m = h.0 in omega (arith, k, l, m), (known_stay old new i e h.1.0, known_stay old new r e h.1.1))
+known_stay old new (element tag a i r) e h = (
+  let k = numbers_stay old new tag e h.0 in let l = longer old new e in let m = h.0 in
+      omega (arith, k, l, m),
+  (known_stay old new i e h.1.0, known_stay old new r e h.1.1),
+)
 
 pub known_append : (tags : List (List ℕ)) (a b : Forest) → AreKnown tags a → AreKnown tags b → AreKnown tags (append a b)
 known_append tags none b h k = k

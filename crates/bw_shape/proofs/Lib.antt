@@ -1,3 +1,4 @@
+pub mod Outcomes
 pub mod Walks
 pub mod Links
 pub mod ExactFields

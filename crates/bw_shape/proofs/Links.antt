@@ -12,14 +12,16 @@ use Rattle.bw_nodes.specs.Fits.{Fits}
 use Rattle.bw_sum.specs.Graph.{Graph}
 
 -- a link that passes a test leads to a template that passes another
-any_led : (p : ℕ × ℕ → Bool) (links : List (ℕ × ℕ)) → list_any p links ≡ true → (l : ℕ × ℕ) × (p l ≡ true) × (list_any (λ k. (k.0 == l.0) && (k.1 == l.1)) links ≡ true)
+any_led : (p : ℕ × ℕ → Bool) (links : List (ℕ × ℕ)) → list_any p links ≡ true
+    → (l : ℕ × ℕ) × (p l ≡ true) × (list_any (λ k. (k.0 == l.0) && (k.1 == l.1)) links ≡ true)
 any_led p [] h = absurd (false≢true h)
 any_led p (l ∷ links) h = elim (or_cases (p l) (list_any p links) h) [
   | inl it ↦ (l, it, or_left ((l.0 == l.0) && (l.1 == l.1)) _ (and_both (l.0 == l.0) (l.1 == l.1) (eq-eqb l.0 l.0 refl) (eq-eqb l.1 l.1 refl)))
   | inr it ↦ let r = any_led p links it in (r.0, r.1, or_right ((l.0 == r.0.0) && (l.1 == r.0.1)) _ r.2)
 ]
 
-led_any : (p : ℕ × ℕ → Bool) (links : List (ℕ × ℕ)) (g m : ℕ) → list_any (λ k. (k.0 == g) && (k.1 == m)) links ≡ true → p (g, m) ≡ true → list_any p links ≡ true
+led_any : (p : ℕ × ℕ → Bool) (links : List (ℕ × ℕ)) (g m : ℕ)
+    → list_any (λ k. (k.0 == g) && (k.1 == m)) links ≡ true → p (g, m) ≡ true → list_any p links ≡ true
 led_any p [] g m h k = absurd (false≢true h)
 led_any p (l ∷ links) g m h k = elim (or_cases ((l.0 == g) && (l.1 == m)) (list_any (λ k. (k.0 == g) && (k.1 == m)) links) h) [
   | inl it ↦ let e = and_parts (l.0 == g) (l.1 == m) it in
@@ -31,11 +33,16 @@ module _ {nodes : List Node} {G : Graph} (fits : Fits nodes G) where
   pub led_sound : (n g : ℕ) (known : ℕ → Bool) → led (node_at nodes n) known g ≡ true → (m : ℕ) × (G.edge n g m ≡ true) × (known m ≡ true)
   led_sound n g known h =
       let r = any_led _ (node_at nodes n).links h in
-      let k = and_parts (r.0.0 == g) (known r.0.1) r.1 in
-      (r.0.1, sym (fits.edges n g r.0.1) ∙ subst (λ j. list_any (λ l. (l.0 == j) && (l.1 == r.0.1)) (node_at nodes n).links ≡ true) (eqb-true r.0.0 g k.0) r.2, k.1)
+      let k = and_parts (r.0.0 == g) (known r.0.1) r.1 in (
+        r.0.1,
+        sym (fits.edges n g r.0.1)
+            ∙ subst (λ j. list_any (λ l. (l.0 == j) && (l.1 == r.0.1)) (node_at nodes n).links ≡ true) (eqb-true r.0.0 g k.0) r.2,
+        k.1,
+      )
 
   pub led_whole : (n g m : ℕ) (known : ℕ → Bool) → G.edge n g m ≡ true → known m ≡ true → led (node_at nodes n) known g ≡ true
-  led_whole n g m known e k = led_any (λ l. (l.0 == g) && known l.1) (node_at nodes n).links g m (fits.edges n g m ∙ e) (and_both (g == g) (known m) (eq-eqb g g refl) k)
+  led_whole n g m known e k =
+      led_any (λ l. (l.0 == g) && known l.1) (node_at nodes n).links g m (fits.edges n g m ∙ e) (and_both (g == g) (known m) (eq-eqb g g refl) k)
 
   pub linked_sound : (n : ℕ) (known : ℕ → Bool) → linked (node_at nodes n) known ≡ true → (g : ℕ) × (m : ℕ) × (G.edge n g m ≡ true) × (known m ≡ true)
   linked_sound n known h =

@@ -22,7 +22,8 @@ use Rattle.bw_shape.proofs.ExactFields.{have_sound, have_whole, lack_sound, lack
 use Rattle.bw_shape.proofs.ExactTops.{tops_sound, tops_whole, miss_sound, miss_whole, cross_sound, cross_whole}
 
 -- the tables are the least ones for the reached templates, in whatever order they were looked at
-pub record Made (templates : List Forest) (nodes : List Node) (root : ℕ) (names : List (List ℕ)) (first : ℕ) (pairs : List (ℕ × ℕ)) (o : Tables) (back : List ℕ) : Type 0 where
+pub record Made (templates : List Forest) (nodes : List Node) (root : ℕ) (names : List (List ℕ)) (first : ℕ)
+    (pairs : List (ℕ × ℕ)) (o : Tables) (back : List ℕ) : Type 0 where
   pub reaches : Reaches nodes root o.order.items
   pub covers : (n : ℕ) → Contains o.order.items n → Contains back n
   pub known : All (λ n. AreKnown o.tags (template_at templates n)) o.order.items
@@ -44,13 +45,15 @@ module _ {nodes : List Node} {G : Graph} (fits : Fits nodes G) (root : ℕ) wher
   unwalked (reach.along {n = n} {m = m} g w e) = shape.along {g = g} (unwalked w) (sym (fits.edges n g m) ∙ e)
 
   -- the tables are closed at each reached template
-  closed_at : {width : ℕ} {follows : (ℕ → ℕ → Bool) → ℕ → ℕ → Bool} (order back : List ℕ) (table : List (List Bool)) → Reaches nodes root order → ((n : ℕ) → Contains order n → Contains back n)
+  closed_at : {width : ℕ} {follows : (ℕ → ℕ → Bool) → ℕ → ℕ → Bool} (order back : List ℕ) (table : List (List Bool)) → Reaches nodes root order
+      → ((n : ℕ) → Contains order n → Contains back n)
       → IsLeast width follows back table → (n : ℕ) → Reached G root n → IsClosedAt width follows table n
   closed_at {width = width} {follows = follows} order back table r e l n w =
       let c = e n (r.whole n (walked w)) in
       subst (IsClosedAt width follows table) (get_or_default back c.0 0 n c.1 ∙ c.2) (l.closed c.0 c.1)
 
-pub hold_facts : (templates : List Forest) (nodes : List Node) (root : ℕ) (names : List (List ℕ)) (first : ℕ) (pairs : List (ℕ × ℕ)) (o : Tables) (back : List ℕ)
+pub hold_facts : (templates : List Forest) (nodes : List Node) (root : ℕ) (names : List (List ℕ)) (first : ℕ)
+    (pairs : List (ℕ × ℕ)) (o : Tables) (back : List ℕ)
     → Made templates nodes root names first pairs o back → (G : Graph) → Fits nodes G → HoldFacts templates G root names first pairs o
 hold_facts templates nodes root names first pairs o back m G fits =
     let known : (n : ℕ) → Reached G root n → AreKnown o.tags (template_at templates n) =
@@ -58,9 +61,18 @@ hold_facts templates nodes root names first pairs o back m G fits =
     let tops_closed = closed_at fits root o.order.items back o.tops m.reaches m.covers m.tops in
     let have_closed = closed_at fits root o.order.items back o.have m.reaches m.covers m.have in
     record {
-      reached = λ n. (λ c. unwalked fits root (All-contains (λ n. Walked nodes root n) o.order.items n m.reaches.sound c), λ w. m.reaches.whole n (walked fits root w));
-      has_tops = λ n x w. (tops_sound templates fits root o.tags o.tops m.tops.derived n x, λ h. tops_whole templates fits root o.tags known o.tops tops_closed n x w h);
-      may_have = λ n f w l. (have_sound templates fits root names o.have m.have.derived n f, λ h. have_whole templates fits root names o.have have_closed l w h);
+      reached = λ n. (
+        λ c. unwalked fits root (All-contains (λ n. Walked nodes root n) o.order.items n m.reaches.sound c),
+        λ w. m.reaches.whole n (walked fits root w),
+      );
+      has_tops = λ n x w. (
+        tops_sound templates fits root o.tags o.tops m.tops.derived n x,
+        λ h. tops_whole templates fits root o.tags known o.tops tops_closed n x w h,
+      );
+      may_have = λ n f w l. (
+        have_sound templates fits root names o.have m.have.derived n f,
+        λ h. have_whole templates fits root names o.have have_closed l w h,
+      );
       may_lack = λ n f w l. (
         lack_sound templates fits root names o.lack m.lack.derived n f,
         λ h. lack_whole templates fits root names o.lack (closed_at fits root o.order.items back o.lack m.reaches m.covers m.lack) n f l w h,
@@ -75,12 +87,15 @@ hold_facts templates nodes root names first pairs o back m G fits =
       );
       may_cross = λ n k x y w l e a b. (
         cross_sound templates fits root o.tags o.tops m.tops.derived pairs o.cross m.cross.derived n k x y a b e,
-        λ h. cross_whole templates fits root o.tags o.tops m.tops.derived known tops_closed pairs o.cross (closed_at fits root o.order.items back o.cross m.reaches m.covers m.cross) n k x y l e w h,
+        λ h. cross_whole templates fits root o.tags o.tops m.tops.derived known tops_closed pairs o.cross
+            (closed_at fits root o.order.items back o.cross m.reaches m.covers m.cross) n k x y l e w h,
       );
     }
 
-pub are_tables : (templates : List Forest) (nodes : List Node) (root : ℕ) (names : List (List ℕ)) (first : ℕ) (pairs : List (ℕ × ℕ)) (o : Tables) (back : List ℕ)
-    → Made templates nodes root names first pairs o back → (G : Graph) → Fits nodes G → AreTables templates nodes G root first pairs o.tags o.tops o.miss o.cross
+pub are_tables : (templates : List Forest) (nodes : List Node) (root : ℕ) (names : List (List ℕ)) (first : ℕ)
+    (pairs : List (ℕ × ℕ)) (o : Tables) (back : List ℕ)
+    → Made templates nodes root names first pairs o back → (G : Graph) → Fits nodes G
+    → AreTables templates nodes G root first pairs o.tags o.tops o.miss o.cross
 are_tables templates nodes root names first pairs o back m G fits = record {
   fits = fits;
   few = m.few;

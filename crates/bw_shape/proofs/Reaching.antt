@@ -1,8 +1,10 @@
 -- The templates that are reached.
-use Rattle.std.proofs.Common.{◌≡◌, ◌≢◌, ◌⊎◌, inl, inr, ℕ, zero, suc, ◌+◌, ◌<◌, ◌≤◌, ◌==◌, ◌&&◌, ◌++◌, Bool, true, false, List, [], ◌∷◌, length, set, get_or, replicate, refl, ap, sym, ◌∙◌, subst, arith}
+use Rattle.std.proofs.Common.{◌≡◌, ◌≢◌, ◌⊎◌, inl, inr, ℕ, zero, suc, ◌+◌, ◌<◌, ◌≤◌, ◌==◌, ◌&&◌, ◌++◌, Bool, true, false, List, [], ◌∷◌, length, set, get_or}
+use Rattle.std.proofs.Common.{replicate, refl, ap, sym, ◌∙◌, subst, arith}
 use Rattle.std.specs.List.{list_any, Contains}
 use Rattle.std.proofs.lemmas.Bool.{false≢true, or_cases, or_left, or_right}
-use Rattle.std.proofs.lemmas.List.{get_or-set_same, get_or-set_other, length-set, length-append, get_or_append_left, get_or_default, get_or-replicate, length-replicate}
+use Rattle.std.proofs.lemmas.List.{get_or-set_same, get_or-set_other, length-set, length-append, get_or_append_left, get_or_default, get_or-replicate}
+use Rattle.std.proofs.lemmas.List.{length-replicate}
 use Rattle.std.proofs.lemmas.List.Elements.{All-push, Contains-append_left, Contains-push}
 use borrow.Author.Tests.{eqb-true, eq-eqb}
 use Rattle.bw_rows.specs.Rows.{flag, ones}
@@ -45,7 +47,8 @@ visit_start links seen order = record {
 
 -- one link more
 pub visit_more : (links : List (ℕ × ℕ)) (k : ℕ) (seen : List Bool) (order : List ℕ) (seen1 : List Bool) (order1 : List ℕ) (seen2 : List Bool) (order2 : List ℕ)
-    → (get_or links k (0, 0)).1 < length seen1 → Visit links k seen order seen1 order1 → Takes (get_or links k (0, 0)).1 seen1 order1 seen2 order2 → Visit links (k + 1) seen order seen2 order2
+    → (get_or links k (0, 0)).1 < length seen1 → Visit links k seen order seen1 order1 → Takes (get_or links k (0, 0)).1 seen1 order1 seen2 order2
+    → Visit links (k + 1) seen order seen2 order2
 visit_more links k seen order seen1 order1 seen2 order2 l v (inl t) =
     subst (λ s. Visit links (k + 1) seen order s order2) (sym t.1) (subst (λ o. Visit links (k + 1) seen order seen1 o) (sym t.2) (record {
       len = v.len;
@@ -83,7 +86,8 @@ visit_more links k seen order seen1 order1 seen2 order2 l v (inr t) =
     }))
 
 -- a link that is found has a place
-place_of : (links : List (ℕ × ℕ)) (g m : ℕ) → list_any (λ l. (l.0 == g) && (l.1 == m)) links ≡ true → (j : ℕ) × (j < length links) × ((get_or links j (0, 0)).1 ≡ m)
+place_of : (links : List (ℕ × ℕ)) (g m : ℕ) → list_any (λ l. (l.0 == g) && (l.1 == m)) links ≡ true
+    → (j : ℕ) × (j < length links) × ((get_or links j (0, 0)).1 ≡ m)
 place_of [] g m h = absurd (false≢true h)
 place_of (l ∷ links) g m h = elim (or_cases ((l.0 == g) && (l.1 == m)) (list_any (λ k. (k.0 == g) && (k.1 == m)) links) h) [
   | inl it ↦ (0, omega arith, eqb-true l.1 m (and_parts (l.0 == g) (l.1 == m) it).1)
@@ -91,7 +95,8 @@ place_of (l ∷ links) g m h = elim (or_cases ((l.0 == g) && (l.1 == m)) (list_a
 ]
 
 -- what stands at a place is linked
-at_place : (links : List (ℕ × ℕ)) (j : ℕ) → j < length links → list_any (λ l. (l.0 == (get_or links j (0, 0)).0) && (l.1 == (get_or links j (0, 0)).1)) links ≡ true
+at_place : (links : List (ℕ × ℕ)) (j : ℕ) → j < length links
+    → list_any (λ l. (l.0 == (get_or links j (0, 0)).0) && (l.1 == (get_or links j (0, 0)).1)) links ≡ true
 at_place [] j h = absurd (omega (arith, h))
 at_place (l ∷ links) zero h = or_left ((l.0 == l.0) && (l.1 == l.1)) _ (and_both (l.0 == l.0) (l.1 == l.1) (eq-eqb l.0 l.0 refl) (eq-eqb l.1 l.1 refl))
 at_place (l ∷ links) (suc j) h = or_right ((l.0 == (get_or links j (0, 0)).0) && (l.1 == (get_or links j (0, 0)).1)) _ (at_place links j (omega (arith, h)))
@@ -105,7 +110,8 @@ all_clear zero c = refl
 all_clear (suc n) zero = refl
 all_clear (suc n) (suc c) = all_clear n c
 
-pub reach_start : (nodes : List Node) (root : ℕ) (seen : List Bool) (order : List ℕ) → root < length nodes → Takes root (replicate (length nodes) false) [] seen order → Reaching nodes root seen order 0
+pub reach_start : (nodes : List Node) (root : ℕ) (seen : List Bool) (order : List ℕ) → root < length nodes
+    → Takes root (replicate (length nodes) false) [] seen order → Reaching nodes root seen order 0
 reach_start nodes root seen order l (inl t) = absurd (false≢true (sym (get_or-replicate (length nodes) root false false l) ∙ t.0))
 reach_start nodes root seen order l (inr t) =
     let clear : List Bool = replicate (length nodes) false in
@@ -120,7 +126,8 @@ reach_start nodes root seen order l (inr t) =
         | inl it ↦ absurd (false≢true (sym (all_clear (length nodes) n) ∙ it))
         | inr it ↦ (0, omega arith, sym it)
       ];
-      marked = λ i d m. let z : i ≡ 0 = omega (arith, m) in subst (λ k. flag (set clear root true) (get_or (root ∷ []) k d) ≡ true) (sym z) (get_or-set_same clear root true false in_it);
+      marked = λ i d m. let z : i ≡ 0 = omega (arith, m) in
+          subst (λ k. flag (set clear root true) (get_or (root ∷ []) k d) ≡ true) (sym z) (get_or-set_same clear root true false in_it);
       sound = λ n h. elim (set_news clear root n (equal_or n root) h) [
         | inl it ↦ absurd (false≢true (sym (all_clear (length nodes) n) ∙ it))
         | inr it ↦ subst (Walked nodes root) (sym it) root_is
@@ -129,8 +136,10 @@ reach_start nodes root seen order l (inr t) =
     }))
 
 -- one template more
-pub reach_more : (nodes : List Node) (root : ℕ) (seen : List Bool) (order : List ℕ) (k : ℕ) (seen2 : List Bool) (order2 : List ℕ) → k < length order → Reaching nodes root seen order k
-    → Visit (node_at nodes (get_or order k 0)).links (length (node_at nodes (get_or order k 0)).links) seen order seen2 order2 → Reaching nodes root seen2 order2 (k + 1)
+pub reach_more : (nodes : List Node) (root : ℕ) (seen : List Bool) (order : List ℕ) (k : ℕ) (seen2 : List Bool) (order2 : List ℕ)
+    → k < length order → Reaching nodes root seen order k
+    → Visit (node_at nodes (get_or order k 0)).links (length (node_at nodes (get_or order k 0)).links) seen order seen2 order2
+    → Reaching nodes root seen2 order2 (k + 1)
 reach_more nodes root seen order k seen2 order2 l r v = record {
   len = v.len ∙ r.len;
   count = omega (arith, v.count, r.count);
@@ -157,13 +166,15 @@ in_row (b ∷ row) zero h = omega arith
 in_row (b ∷ row) (suc c) h = let k = in_row row c h in omega (arith, k)
 
 -- all were looked at
-walked_seen : (nodes : List Node) (root : ℕ) (seen : List Bool) (order : List ℕ) → Reaching nodes root seen order (length order) → (n : ℕ) → Walked nodes root n → flag seen n ≡ true
+walked_seen : (nodes : List Node) (root : ℕ) (seen : List Bool) (order : List ℕ) → Reaching nodes root seen order (length order)
+    → (n : ℕ) → Walked nodes root n → flag seen n ≡ true
 walked_seen nodes root seen order r n root_is = r.rooted
 walked_seen nodes root seen order r n (along {n = m} g w e) =
     let c = r.listed m (walked_seen nodes root seen order r m w) in
     r.done c.0 c.1 g n (subst (λ i. links_to (node_at nodes i) g n ≡ true) (sym (get_or_default order c.0 0 m c.1 ∙ c.2)) e)
 
-pub reach_all : (nodes : List Node) (root : ℕ) (seen : List Bool) (order : List ℕ) (k : ℕ) → length order ≤ k → Reaching nodes root seen order k → Reaches nodes root order
+pub reach_all : (nodes : List Node) (root : ℕ) (seen : List Bool) (order : List ℕ) (k : ℕ) → length order ≤ k
+    → Reaching nodes root seen order k → Reaches nodes root order
 reach_all nodes root seen order k l r =
     let e : k ≡ length order = let low = r.low in omega (arith, l, low) in
     let q = subst (Reaching nodes root seen order) e r in
@@ -175,7 +186,8 @@ reach_all nodes root seen order k l r =
 
 -- the links of the template that is next
 pub next_links : (nodes : List Node) (root : ℕ) (seen : List Bool) (order : List ℕ) (k : ℕ) → k < length order → Reaching nodes root seen order k
-    → (x : ℕ) → x ≡ get_or order k x → (node : Node) → node ≡ get_or nodes x node → (links : List (ℕ × ℕ)) → links ≡ node.links → links ≡ (node_at nodes (get_or order k 0)).links
+    → (x : ℕ) → x ≡ get_or order k x → (node : Node) → node ≡ get_or nodes x node → (links : List (ℕ × ℕ)) → links ≡ node.links
+    → links ≡ (node_at nodes (get_or order k 0)).links
 next_links nodes root seen order k l r x e node f links h =
     let at : x ≡ get_or order k 0 = e ∙ get_or_default order k x 0 l in
     let m = in_row seen (get_or order k 0) (r.marked k 0 l) in

@@ -1,5 +1,6 @@
 -- The outline that was made is the shape of the page graph.
-use Rattle.std.proofs.Common.{◌≡◌, ◌⊎◌, ◌↔◌, inl, inr, ℕ, zero, suc, ◌<◌, ◌==◌, ◌&&◌, Bool, true, List, [], ◌∷◌, length, get_or, refl, ap, sym, ◌∙◌, subst, arith}
+use Rattle.std.proofs.Common.{◌≡◌, ◌⊎◌, ◌↔◌, inl, inr, ℕ, zero, suc, ◌<◌, ◌==◌, ◌&&◌, Bool, true, List, [], ◌∷◌, length, get_or, refl, ap, sym, ◌∙◌, subst}
+use Rattle.std.proofs.Common.{arith}
 use Rattle.std.specs.Prelude.{flat_map}
 use Rattle.std.specs.List.{Contains}
 use Rattle.std.proofs.lemmas.List.{append-nil}
@@ -154,7 +155,8 @@ module _ (templates : List Forest) (names : List (List ℕ)) (root : ℕ) (graph
         let p : ℕ × ℕ = (tag_column o.tables.tags y, tag_column o.tables.tags x) in
         let a = q.0 in
         let b = q.1.0 in
-        subst (λ (ps : List (ℕ × ℕ)). ((is_reached o n && at o.tables.cross n (pair_number ps p)) ≡ true) ↔ (Reached G root n × Crossing (template_at templates) G x y n (template_at templates n))) (sym made.pairs)
+        subst (λ (ps : List (ℕ × ℕ)). ((is_reached o n && at o.tables.cross n (pair_number ps p)) ≡ true)
+        ↔ (Reached G root n × Crossing (template_at templates) G x y n (template_at templates n))) (sym made.pairs)
         (at_reached n _ _ (λ w. holds.may_cross n (pair_number named.pairs.items p) x y w q.1.1 (pair_at named.pairs.items p q.1.1)
         (omega (arith, a, few)) (omega (arith, b, few))));
   }

@@ -24,4 +24,5 @@ miss_follows templates nodes tags known n c = misses tags (node_at nodes n) (λ 
 
 -- where the tops are known; the columns are pairs of columns of the tops
 abbrev pub cross_follows : List Forest → List Node → List (List ℕ) → (ℕ → ℕ → Bool) → List (ℕ × ℕ) → (ℕ → ℕ → Bool) → ℕ → ℕ → Bool
-cross_follows templates nodes tags tops pairs known n c = crosses tags (node_at nodes n) tops (λ m. known m c) (slice_index_or pairs c (0, 0)) (template_at templates n)
+cross_follows templates nodes tags tops pairs known n c =
+    crosses tags (node_at nodes n) tops (λ m. known m c) (slice_index_or pairs c (0, 0)) (template_at templates n)

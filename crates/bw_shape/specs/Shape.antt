@@ -36,22 +36,26 @@ pub data Has (templates : ℕ → Forest) (G : Graph) (names : List (List ℕ)) 
 pub data Lacks (templates : ℕ → Forest) (G : Graph) (names : List (List ℕ)) (f : ℕ) : ℕ → Forest → Type 0 where
   end : {n : ℕ} → Lacks templates G names f n none
   words : {n : ℕ} {s : List ℕ} {r : Forest} → Lacks templates G names f n r → Lacks templates G names f n (text s r)
-  inside : {n : ℕ} {tag : List ℕ} {a : List Attr} {i r : Forest} → is_field names f tag a ≡ false → Lacks templates G names f n i → Lacks templates G names f n r
+  inside : {n : ℕ} {tag : List ℕ} {a : List Attr} {i r : Forest} → is_field names f tag a ≡ false
+      → Lacks templates G names f n i → Lacks templates G names f n r
       → Lacks templates G names f n (element tag a i r)
   left : {n g : ℕ} {r : Forest} → G.track g n ≡ true → Lacks templates G names f n r → Lacks templates G names f n (gap g r)
   said : {n g : ℕ} {s : List ℕ} {r : Forest} → G.label n g s ≡ true → Lacks templates G names f n r → Lacks templates G names f n (gap g r)
-  led : {n g m : ℕ} {r : Forest} → G.edge n g m ≡ true → Lacks templates G names f m (templates m) → Lacks templates G names f n r → Lacks templates G names f n (gap g r)
+  led : {n g m : ℕ} {r : Forest} → G.edge n g m ≡ true → Lacks templates G names f m (templates m)
+      → Lacks templates G names f n r → Lacks templates G names f n (gap g r)
 
 -- k of the controls of the field, and of the gaps with an edge to a template that may have it, stand in the part
 pub data Places (templates : ℕ → Forest) (G : Graph) (names : List (List ℕ)) (f : ℕ) : ℕ → Forest → ℕ → Type 0 where
   end : {n : ℕ} → Places templates G names f n none 0
   words : {n k : ℕ} {s : List ℕ} {r : Forest} → Places templates G names f n r k → Places templates G names f n (text s r) k
-  control : {n j k : ℕ} {tag : List ℕ} {a : List Attr} {i r : Forest} → is_field names f tag a ≡ true → Places templates G names f n i j → Places templates G names f n r k
+  control : {n j k : ℕ} {tag : List ℕ} {a : List Attr} {i r : Forest} → is_field names f tag a ≡ true
+      → Places templates G names f n i j → Places templates G names f n r k
       → Places templates G names f n (element tag a i r) (1 + (j + k))
   other : {n j k : ℕ} {tag : List ℕ} {a : List Attr} {i r : Forest} → Places templates G names f n i j → Places templates G names f n r k
       → Places templates G names f n (element tag a i r) (j + k)
   passed : {n g k : ℕ} {r : Forest} → Places templates G names f n r k → Places templates G names f n (gap g r) k
-  led : {n g m k : ℕ} {r : Forest} → G.edge n g m ≡ true → Has templates G names f m → Places templates G names f n r k → Places templates G names f n (gap g r) (1 + k)
+  led : {n g m k : ℕ} {r : Forest} → G.edge n g m ≡ true → Has templates G names f m → Places templates G names f n r k
+      → Places templates G names f n (gap g r) (1 + k)
 
 -- the template may have two controls of the field
 pub data Doubles (templates : ℕ → Forest) (G : Graph) (names : List (List ℕ)) (f : ℕ) : ℕ → Type 0 where
@@ -70,7 +74,8 @@ pub data Misses (templates : ℕ → Forest) (G : Graph) (x : List ℕ) : ℕ �
 -- it may have a y before an x at its top
 pub data Crossing (templates : ℕ → Forest) (G : Graph) (x y : List ℕ) : ℕ → Forest → Type 0 where
   element_first : {n : ℕ} {a : List Attr} {i r : Forest} → Gives templates G n r (tagged x) → Crossing templates G x y n (element y a i r)
-  gap_first : {n g m : ℕ} {r : Forest} → G.edge n g m ≡ true → Gives templates G m (templates m) (tagged y) → Gives templates G n r (tagged x) → Crossing templates G x y n (gap g r)
+  gap_first : {n g m : ℕ} {r : Forest} → G.edge n g m ≡ true → Gives templates G m (templates m) (tagged y)
+      → Gives templates G n r (tagged x) → Crossing templates G x y n (gap g r)
   within : {n g m : ℕ} {r : Forest} → G.edge n g m ≡ true → Crossing templates G x y m (templates m) → Crossing templates G x y n (gap g r)
   after_text : {n : ℕ} {s : List ℕ} {r : Forest} → Crossing templates G x y n r → Crossing templates G x y n (text s r)
   after_gap : {n g : ℕ} {r : Forest} → Crossing templates G x y n r → Crossing templates G x y n (gap g r)

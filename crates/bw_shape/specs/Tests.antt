@@ -58,7 +58,8 @@ crosses tags node tops known p none = false
 crosses tags node tops known p (text s rest) =
     (gives tags node (λ m. tops m p.0) p.0 (text s none) && gives tags node (λ m. tops m p.1) p.1 rest) || crosses tags node tops known p rest
 crosses tags node tops known p (gap g rest) =
-    (led node known g || (gives tags node (λ m. tops m p.0) p.0 (gap g none) && gives tags node (λ m. tops m p.1) p.1 rest)) || crosses tags node tops known p rest
+    (led node known g || (gives tags node (λ m. tops m p.0) p.0 (gap g none) && gives tags node (λ m. tops m p.1) p.1 rest))
+    || crosses tags node tops known p rest
 crosses tags node tops known p (element tag attrs inner rest) =
     (gives tags node (λ m. tops m p.0) p.0 (element tag attrs inner none) && gives tags node (λ m. tops m p.1) p.1 rest) || crosses tags node tops known p rest
 

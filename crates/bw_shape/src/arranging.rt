@@ -95,7 +95,12 @@ fn place_all(order: &[u32], placed: &mut Row, back: &mut Vec<u32>) -> Result<(),
 
 /// The templates that the root leads to, which are those of `order`, in another order: each behind those that it leads to,
 /// where no cycle of links hinders it. Contracts promise no more than that none is left out.
-pub fn arranged(alloc: Global, nodes: &[Node], order: &[u32], root: u32) -> Result<Vec<u32>, Memory>
+pub(crate) fn arranged(
+    alloc: Global,
+    nodes: &[Node],
+    order: &[u32],
+    root: u32,
+) -> Result<Vec<u32>, Memory>
     requires { All (λ n. n < length nodes.now) order.now }
     ensures covers { IfOk result (λ v. (n : ℕ) → Contains order.now n → Contains v.items n) }
     ensures small { IfOk result (λ v. All (λ n. n < length nodes.now) v.items) }

@@ -52,7 +52,11 @@ fn item_crosses(
     requires some { 0 < length seen.old }
     requires row { length row.old ≡ length pairs.now }
     ensures seen { OnOk result (Sets seen.old seen.new (λ c. test.gives tags.now node.now (λ m. at tops.now m c) c (before item.now none))) }
-    ensures row { OnOk result (Sets row.old row.new (λ c. test.opens node.now (λ m. at known.now m c) (before item.now none) || (flag seen.old (slice_index_or pairs.now c (0, 0)).0 && test.gives tags.now node.now (λ m. at tops.now m (slice_index_or pairs.now c (0, 0)).1) (slice_index_or pairs.now c (0, 0)).1 (before item.now none)))) }
+    ensures row { OnOk result
+        (Sets row.old row.new
+        (λ c. test.opens node.now (λ m. at known.now m c) (before item.now none)
+        || (flag seen.old (slice_index_or pairs.now c (0, 0)).0 && test.gives tags.now node.now (λ m. at tops.now m (slice_index_or pairs.now c (0, 0)).1)
+        (slice_index_or pairs.now c (0, 0)).1 (before item.now none)))) }
 {
     let mut given = Row::of(alloc, seen.len(), false)?;
     item_gives(tags, node, tops, item, &mut given);
@@ -75,7 +79,8 @@ pub fn items_cross(
 ) -> Result<(), Memory>
     requires pairs { All (λ p. (p.0 < length tags.now + 1) × (p.1 < length tags.now + 1)) pairs.now }
     requires row { length row.old ≡ length pairs.now }
-    ensures { OnOk result (Sets row.old row.new (λ c. test.crosses tags.now node.now (at tops.now) (λ m. at known.now m c) (slice_index_or pairs.now c (0, 0)) items.now)) }
+    ensures { OnOk result
+        (Sets row.old row.new (λ c. test.crosses tags.now node.now (at tops.now) (λ m. at known.now m c) (slice_index_or pairs.now c (0, 0)) items.now)) }
 {
     let mut seen = Row::of(alloc, tags.len() + 1, false)?;
     for item in items.as_slice() {

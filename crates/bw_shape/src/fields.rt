@@ -8,6 +8,7 @@ ghost use Rattle.bw_rows.specs.Changes.{Sets, Clears, Rises};
 ghost use Rattle.bw_shape.specs.Tests as test;
 ghost use Rattle.bw_lang.specs.Document.Documents.{one_if};
 
+use crate::gaps::gap_lacks;
 use bw_lang::{Element, FieldNames, GapId, Item, Items, Memory};
 use bw_nodes::{Node, TemplateItems};
 use bw_rows::{Row, Rule, Table, Tally};
@@ -15,29 +16,12 @@ use std::alloc::Global;
 
 /// The number of the field that the element is a control of.
 fn field_of(names: &FieldNames, element: &Element) -> Option<u32>
-    ensures { MatchOption result ((f : ℕ) → test.is_field names.now f element.now.tag element.now.attrs ≡ false) (λ n. (f : ℕ) → test.is_field names.now f element.now.tag element.now.attrs ≡ (n == f)) }
+    ensures { MatchOption result ((f : ℕ) → test.is_field names.now f element.now.tag element.now.attrs ≡ false)
+        (λ n. (f : ℕ) → test.is_field names.now f element.now.tag element.now.attrs ≡ (n == f)) }
 {
     element.field_kind()?;
     let name = element.control_name()?;
     Some(names.number(name.as_str()).number())
-}
-
-/// Clears the fields that the gap, as it may be filled, has in any case.
-fn gap_lacks(
-    alloc: Global,
-    node: &Node,
-    known: &Table,
-    gap: GapId,
-    row: &mut Row,
-) -> Result<(), Memory>
-    ensures { OnOk result (Clears row.old row.new (λ f. nodes.is_free node.now gap || nodes.led node.now (λ m. at known.now m f) gap)) }
-{
-    if node.is_free(gap) {
-        return Ok(());
-    }
-    let led = node.led(alloc, gap, known, row.len())?;
-    row.meet(&led);
-    Ok(())
 }
 
 /// Clears the fields that the items have in any case.

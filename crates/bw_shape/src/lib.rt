@@ -4,6 +4,7 @@
 mod arranging;
 mod cross;
 mod fields;
+mod gaps;
 mod naming;
 pub mod outline;
 mod reach;

@@ -8,8 +8,11 @@ ghost use Rattle.bw_nodes.specs.Fits.{Fits};
 ghost use Rattle.bw_nodes.specs.Nodes.{node_at};
 ghost use Rattle.bw_nodes.specs.Templates.{template_at};
 ghost use Rattle.bw_sum.specs.Graph.{Graph};
+ghost use Rattle.bw_rows.specs.Least.{IsLeast};
+ghost use Rattle.bw_rows.specs.Rows.{at};
 ghost use Rattle.bw_shape.specs.Columns.{AreKnown};
 ghost use Rattle.bw_shape.specs.Exact.{HoldFacts, AreTables};
+ghost use Rattle.bw_shape.specs.Follows.{have_follows, lack_follows, twice_follows, top_follows, miss_follows, cross_follows};
 
 use crate::arranging::arranged;
 use crate::cross::Crosses;
@@ -82,6 +85,135 @@ fn take_tops(templates: &TemplateItems, order: &[u32], tags: &mut Tags) -> Resul
     Ok(())
 }
 
+/// What each template may have at its top.
+fn tops_of<'a>(
+    alloc: Global,
+    templates: &'a TemplateItems<'a>,
+    nodes: &'a [Node],
+    tags: &Tags,
+    back: &[u32],
+) -> Result<Table, Memory>
+    requires both { length nodes.now ≡ length templates.now }
+    requires order { All (λ n. n < length nodes.now) back.now }
+    ensures { IfOk result (λ t. IsLeast (length tags.now + 1) (top_follows templates.now nodes.now tags.now) back.now t) }
+{
+    let rule = Tops {
+        templates,
+        nodes,
+        tags,
+    };
+    least(alloc, &rule, nodes.len(), back)
+}
+
+/// The fields that each template may have.
+fn have_of<'a>(
+    alloc: Global,
+    templates: &'a TemplateItems<'a>,
+    nodes: &'a [Node],
+    names: &'a FieldNames,
+    back: &[u32],
+) -> Result<Table, Memory>
+    requires both { length nodes.now ≡ length templates.now }
+    requires order { All (λ n. n < length nodes.now) back.now }
+    ensures { IfOk result (λ t. IsLeast (length names.now) (have_follows templates.now nodes.now names.now) back.now t) }
+{
+    let rule = MayHave {
+        templates,
+        nodes,
+        names,
+    };
+    least(alloc, &rule, nodes.len(), back)
+}
+
+/// The fields that each template may lack.
+fn lack_of<'a>(
+    alloc: Global,
+    templates: &'a TemplateItems<'a>,
+    nodes: &'a [Node],
+    names: &'a FieldNames,
+    back: &[u32],
+) -> Result<Table, Memory>
+    requires both { length nodes.now ≡ length templates.now }
+    requires order { All (λ n. n < length nodes.now) back.now }
+    ensures { IfOk result (λ t. IsLeast (length names.now) (lack_follows templates.now nodes.now names.now) back.now t) }
+{
+    let rule = MayLack {
+        templates,
+        nodes,
+        names,
+    };
+    least(alloc, &rule, nodes.len(), back)
+}
+
+/// The fields that each template may have twice, where it is known which of them may have one.
+fn twice_of<'a>(
+    alloc: Global,
+    templates: &'a TemplateItems<'a>,
+    nodes: &'a [Node],
+    names: &'a FieldNames,
+    have: &Table,
+    back: &[u32],
+) -> Result<Table, Memory>
+    requires both { length nodes.now ≡ length templates.now }
+    requires order { All (λ n. n < length nodes.now) back.now }
+    ensures { IfOk result (λ t. IsLeast (length names.now) (twice_follows templates.now nodes.now names.now (at have.now)) back.now t) }
+{
+    let rule = Twice {
+        templates,
+        nodes,
+        names,
+        have,
+    };
+    least(alloc, &rule, nodes.len(), back)
+}
+
+/// The first tags of which each template may have none at its top.
+fn miss_of<'a>(
+    alloc: Global,
+    templates: &'a TemplateItems<'a>,
+    nodes: &'a [Node],
+    tags: &Tags,
+    first: usize,
+    back: &[u32],
+) -> Result<Table, Memory>
+    requires both { length nodes.now ≡ length templates.now }
+    requires order { All (λ n. n < length nodes.now) back.now }
+    ensures { IfOk result (λ t. IsLeast first (miss_follows templates.now nodes.now tags.now) back.now t) }
+{
+    let rule = MayMiss {
+        templates,
+        nodes,
+        tags,
+        first,
+    };
+    least(alloc, &rule, nodes.len(), back)
+}
+
+/// The pairs of tags of which each template may have the first before the second at its top, where the tops are known.
+fn cross_of<'a>(
+    alloc: Global,
+    templates: &'a TemplateItems<'a>,
+    nodes: &'a [Node],
+    tags: &Tags,
+    tops: &Table,
+    pairs: &'a [(usize, usize)],
+    back: &[u32],
+) -> Result<Table, Memory>
+    requires both { length nodes.now ≡ length templates.now }
+    requires pairs { All (λ p. (p.0 < length tags.now + 1) × (p.1 < length tags.now + 1)) pairs.now }
+    requires order { All (λ n. n < length nodes.now) back.now }
+    ensures { IfOk result (λ t. IsLeast (length pairs.now) (cross_follows templates.now nodes.now tags.now (at tops.now) pairs.now) back.now t) }
+{
+    let rule = Crosses {
+        templates,
+        nodes,
+        tags,
+        tops,
+        pairs,
+    };
+    least(alloc, &rule, nodes.len(), back)
+}
+
 /// The tables of the facts of a page graph, which is given by the nodes of its templates. `tags` has the tags of formulas,
 /// and `pairs` the columns of those that some formula orders.
 pub(crate) fn tables_of<'a>(
@@ -98,82 +230,24 @@ pub(crate) fn tables_of<'a>(
     requires links { (n : ℕ) → All (λ l. l.1 < length nodes.now) (node_at nodes.now n).links }
     requires pairs { All (λ p. (p.0 < length tags + 1) × (p.1 < length tags + 1)) pairs.now }
     ensures shape { IfOk result (λ o. (G : Graph) → Fits nodes.now G → HoldFacts templates.now G root names.now (length tags) pairs.now o) }
-    ensures tables { IfOk result (λ o. (G : Graph) → Fits nodes.now G → AreTables templates.now nodes.now G root (length tags) pairs.now o.tags o.tops o.miss o.cross) }
+    ensures tables { IfOk result (λ o. (G : Graph) → Fits nodes.now G
+        → AreTables templates.now nodes.now G root (length tags) pairs.now o.tags o.tops o.miss o.cross) }
     ensures front { IfOk result (λ o. Extends tags o.tags) }
     ensures small { IfOk result (λ o. All (λ n. n < length templates.now) o.order.items) }
 {
     let first = tags.len();
     let mut tags = tags;
-    let rows = nodes.len();
     let order = reached(alloc, nodes, root)?;
     let list = order.as_slice();
     take_tops(templates, list, &mut tags)?;
     let sorted = arranged(alloc, nodes, list, root)?;
     let back = sorted.as_slice();
-    let tops = least(
-        alloc,
-        &Tops {
-            templates,
-            nodes,
-            tags: &tags,
-        },
-        rows,
-        back,
-    )?;
-    let have = least(
-        alloc,
-        &MayHave {
-            templates,
-            nodes,
-            names,
-        },
-        rows,
-        back,
-    )?;
-    let lack = least(
-        alloc,
-        &MayLack {
-            templates,
-            nodes,
-            names,
-        },
-        rows,
-        back,
-    )?;
-    let twice = least(
-        alloc,
-        &Twice {
-            templates,
-            nodes,
-            names,
-            have: &have,
-        },
-        rows,
-        back,
-    )?;
-    let miss = least(
-        alloc,
-        &MayMiss {
-            templates,
-            nodes,
-            tags: &tags,
-            first,
-        },
-        rows,
-        back,
-    )?;
-    let cross = least(
-        alloc,
-        &Crosses {
-            templates,
-            nodes,
-            tags: &tags,
-            tops: &tops,
-            pairs,
-        },
-        rows,
-        back,
-    )?;
+    let tops = tops_of(alloc, templates, nodes, &tags, back)?;
+    let have = have_of(alloc, templates, nodes, names, back)?;
+    let lack = lack_of(alloc, templates, nodes, names, back)?;
+    let twice = twice_of(alloc, templates, nodes, names, &have, back)?;
+    let miss = miss_of(alloc, templates, nodes, &tags, first, back)?;
+    let cross = cross_of(alloc, templates, nodes, &tags, &tops, pairs, back)?;
     Ok(Tables {
         order,
         tags,

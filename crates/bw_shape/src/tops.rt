@@ -4,13 +4,13 @@ ghost use Rattle.std.specs.List.{All};
 ghost use Rattle.bw_rows.specs.Rows.{flag, at};
 ghost use Rattle.bw_lang.specs.Document.Forest.{none};
 ghost use Rattle.bw_lang.specs.Document.View.{before};
-ghost use Rattle.bw_nodes.specs.Nodes as nodes;
 ghost use Rattle.bw_schema.specs.Words as words;
 ghost use Rattle.bw_rows.specs.Changes.{Sets, Clears};
 ghost use Rattle.bw_shape.specs.Tests as test;
 
+use crate::gaps::gap_lacks;
 use crate::tags::Tags;
-use bw_lang::{GapId, Item, Items, Memory, is_blank};
+use bw_lang::{Item, Items, Memory, is_blank};
 use bw_nodes::{Node, TemplateItems};
 use bw_rows::{Row, Rule, Table};
 use std::alloc::Global;
@@ -52,24 +52,6 @@ pub fn items_give(tags: &Tags, node: &Node, known: &Table, items: &Items, row: &
     }
 }
 
-/// Clears the tags that the gap, as it may be filled, gives in any case.
-fn gap_misses(
-    alloc: Global,
-    node: &Node,
-    known: &Table,
-    gap: GapId,
-    row: &mut Row,
-) -> Result<(), Memory>
-    ensures { OnOk result (Clears row.old row.new (λ c. nodes.is_free node.now gap || nodes.led node.now (λ m. at known.now m c) gap)) }
-{
-    if node.is_free(gap) {
-        return Ok(());
-    }
-    let led = node.led(alloc, gap, known, row.len())?;
-    row.meet(&led);
-    Ok(())
-}
-
 fn item_misses(
     alloc: Global,
     tags: &Tags,
@@ -82,7 +64,7 @@ fn item_misses(
 {
     match item {
         Item::Text(_) => Ok(()),
-        Item::Gap(gap) => gap_misses(alloc, node, known, *gap, row),
+        Item::Gap(gap) => gap_lacks(alloc, node, known, *gap, row),
         Item::Element(element) => {
             row.put(tags.number(&element.tag), false);
             Ok(())

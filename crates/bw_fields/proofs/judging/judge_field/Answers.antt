@@ -1,5 +1,4 @@
-use Rattle.std.proofs.Common.{◌≡◌, ◌⊎◌, ◌&&◌, Option, Result, Ok, Err, ap, ◌∙◌, subst}
-use Rattle.std.specs.Prelude.{OnOk}
+use Rattle.std.proofs.Common.{◌≡◌, ◌⊎◌, ◌&&◌, Option, ap, ◌∙◌, subst}
 use Rattle.bw_faults.specs.declared.fault.Fault.{Fault}
 use Rattle.bw_faults.specs.Lists.{Adds, When}
 use Rattle.bw_faults.proofs.Adding.{adds_then}
@@ -7,11 +6,8 @@ use Rattle.bw_lang.specs.declared.controls.FieldKind.{FieldKind}
 use Rattle.bw_types.specs.Fields.{kind_of_field}
 use Rattle.bw_shape.specs.Outlines.{may_have_twice}
 use Rattle.bw_fields.specs.Found.{is_single, is_misfit, fault_of, OfField}
+use Rattle.bw_shape.proofs.Outcomes.{on_ok}
 use Rattle.bw_fields.proofs.judging.judge_field.Goals as goal
-
-on_ok : {T E : Type 0} {P Q : Type 0} (r : Result T E) → (P → Q) → OnOk r P → OnOk r Q
-on_ok (Ok x) f h = f h
-on_ok (Err e) f h = h
 
 pub returns : goal.returns
 returns c =
@@ -26,7 +22,8 @@ returns c =
     let kind : c.field_kind-kind.result ≡ k = c.field_kind-kind.ensures ∙ ap (kind_of_field s) c.as_str.ensures.text in
     let p1 = subst (λ b. Adds (When b (fault_of 8 point r.field)) c.args.faults.now c.add_if.new.faults) c.may_lack-is_lacking.ensures c.in_ok-add_if.ensures in
     let p2 : Adds T c.add_if.new.faults c.add_if-2.new.faults =
-    subst (λ (x : Option FieldKind). Adds (When (may_have_twice o root r.id && is_single x) (fault_of 9 point r.field)) c.add_if.new.faults c.add_if-2.new.faults) kind
+    subst (λ (x : Option FieldKind). Adds (When (may_have_twice o root r.id && is_single x) (fault_of 9 point r.field))
+    c.add_if.new.faults c.add_if-2.new.faults) kind
     (subst (λ b. Adds (When b (fault_of 9 point r.field)) c.add_if.new.faults c.add_if-2.new.faults) c.is_twice.ensures c.in_ok-add_if-2.ensures) in
     on_ok c.add_if-3.result (λ q.
     let w : Adds W c.add_if-2.new.faults c.add_if-3.new.faults =

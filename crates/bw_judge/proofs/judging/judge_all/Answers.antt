@@ -16,7 +16,8 @@ returns c =
     let p : Adds (R (template_at a.templates.now a.root)) [] c.judge_root.new.faults =
     subst (λ xs. Adds (R (template_at a.templates.now a.root)) xs c.judge_root.new.faults) c.new-faults.ensures
     (subst (λ t. Adds (R t) c.new-faults.result c.judge_root.new.faults) c.at-items.ensures
-    (subst (λ (w : List ℕ). Adds (OfRoot a.point w a.root c.at-items.result.now) c.new-faults.result c.judge_root.new.faults) c.root.ensures c.in_ok-judge_root.ensures)) in
+    (subst (λ (w : List ℕ). Adds (OfRoot a.point w a.root c.at-items.result.now) c.new-faults.result c.judge_root.new.faults)
+    c.root.ensures c.in_ok-judge_root.ensures)) in
     let q : Adds (OfSome T order) c.judge_root.new.faults c.judge_templates.new.faults =
     subst (λ o. Adds (OfSome T o) c.judge_root.new.faults c.judge_templates.new.faults) c.as_slice-order.ensures.value c.in_ok-judge_templates.ensures in
     all_added P c.judge_templates.new.faults c.as_slice-sorted.ensures.set (adds_then P p q (λ x h. h) (λ x h. h))

@@ -1,5 +1,4 @@
-use Rattle.std.proofs.Common.{◌⊎◌, ℕ, not, true, List, length, Result, Ok, Err, subst}
-use Rattle.std.specs.Prelude.{OnOk}
+use Rattle.std.proofs.Common.{◌⊎◌, ℕ, not, true, List, length, subst}
 use Rattle.bw_faults.specs.declared.fault.Fault.{Fault}
 use Rattle.bw_faults.specs.Lists.{Adds, When, OfSome}
 use Rattle.bw_faults.proofs.Adding.{adds_then}
@@ -8,11 +7,8 @@ use Rattle.bw_shape.specs.Tests.{gives}
 use Rattle.bw_judge.specs.Content.{fault_at, OfContent}
 use Rattle.bw_judge.specs.Found.{OfMust, OfParts}
 use Rattle.bw_judge.specs.Sure.{sure}
+use Rattle.bw_shape.proofs.Outcomes.{on_ok}
 use Rattle.bw_judge.proofs.judging.judge_rule.Goals as goal
-
-on_ok : {T E : Type 0} {P Q : Type 0} (r : Result T E) → (P → Q) → OnOk r P → OnOk r Q
-on_ok (Ok x) f h = f h
-on_ok (Err e) f h = h
 
 pub returns : goal.returns
 returns c =
@@ -26,7 +22,8 @@ returns c =
     on_ok c.add_if.result (λ q.
     let w : Adds W c.judge_content.new.faults c.add_if.new.faults =
     subst (λ b. Adds (When (not b) (fault_at spot 7 e.tag)) c.judge_content.new.faults c.add_if.new.faults) c.are_sure-is_sure.ensures
-    (subst (λ (n : List ℕ). Adds (When (not c.are_sure-is_sure.result) (fault_at spot 7 n)) c.judge_content.new.faults c.add_if.new.faults) c.as_str.ensures.text q) in
+    (subst (λ (n : List ℕ). Adds (When (not c.are_sure-is_sure.result) (fault_at spot 7 n)) c.judge_content.new.faults c.add_if.new.faults)
+    c.as_str.ensures.text q) in
     adds_then (OfParts s r spot e.tag e.attrs e.items) c.in_ok-judge_attrs.ensures
     (adds_then (λ f. M f ⊎ (C f ⊎ W f)) c.in_ok-judge_must.ensures
     (adds_then (λ f. C f ⊎ W f) c.in_ok-judge_content.ensures w (λ x h. h) (λ x h. h)) (λ x h. h) (λ x h. h)) (λ x h. h) (λ x h. h)) c.add_if.ensures

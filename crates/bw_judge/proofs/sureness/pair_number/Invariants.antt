@@ -3,4 +3,5 @@ use Rattle.bw_shape.specs.Formulas.{pair_number}
 use Rattle.bw_judge.proofs.sureness.pair_number.Given as goal
 
 abbrev pub invariant-loop-pair : goal.invariant-loop-pair
-invariant-loop-pair l = (l.column ≡ l.pair-index) × (pair_number l.pairs (suc l.first, suc l.second) ≡ l.column + pair_number (drop l.pair-index l.pairs) (suc l.first, suc l.second))
+invariant-loop-pair l = (l.column ≡ l.pair-index)
+    × (pair_number l.pairs (suc l.first, suc l.second) ≡ l.column + pair_number (drop l.pair-index l.pairs) (suc l.first, suc l.second))

@@ -17,9 +17,11 @@ loop-n-preserved c =
     let to = get_or order k 0 in
     let low = c.requires.small k 0 c.loop-n-test.true in
     let here : to < length c.loop-n.placed = omega (arith, low, c.loop-n.invariant.0.len) in
-    let t = subst (λ n. Takes n c.loop-n.placed c.loop-n.back.items c.take_in.new.seen c.take_in.new.order.items) (get_or_default order k _ 0 c.loop-n-test.true) c.in_ok-take_in.ensures in (
+    let t = subst (λ n. Takes n c.loop-n.placed c.loop-n.back.items c.take_in.new.seen c.take_in.new.order.items)
+    (get_or_default order k _ 0 c.loop-n-test.true) c.in_ok-take_in.ensures in (
       placed_more (length c.args.placed.now) to c.loop-n.placed c.loop-n.back.items c.take_in.new.seen c.take_in.new.order.items low c.loop-n.invariant.0 t,
-      marks_more order k c.loop-n.placed c.take_in.new.seen (λ n. takes_keeps to n c.loop-n.placed c.loop-n.back.items c.take_in.new.seen c.take_in.new.order.items here t)
+      marks_more order k c.loop-n.placed c.take_in.new.seen
+          (λ n. takes_keeps to n c.loop-n.placed c.loop-n.back.items c.take_in.new.seen c.take_in.new.order.items here t)
           (takes_here to c.loop-n.placed c.loop-n.back.items c.take_in.new.seen c.take_in.new.order.items here t) c.loop-n.invariant.1,
     )
 

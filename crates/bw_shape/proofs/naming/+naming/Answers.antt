@@ -15,5 +15,6 @@ pub name_formulas-loop-formula-preserved : goal.name_formulas-loop-formula-prese
 name_formulas-loop-formula-preserved t c =
     let xs = c.as_slice-formula-items.result.now in
     let i = c.loop-formula.formula-index in
-    subst (λ n. Names c.args.tags.now c.name_formula.new.tags c.args.pairs.now.items c.name_formula.new.pairs.items n) (sym (needs_take xs i c.formula-item.result c.formula-item.is c.loop-formula-test.true))
+    subst (λ n. Names c.args.tags.now c.name_formula.new.tags c.args.pairs.now.items c.name_formula.new.pairs.items n)
+    (sym (needs_take xs i c.formula-item.result c.formula-item.is c.loop-formula-test.true))
     (names_then (needs (take i xs)) (before_need c.formula-item.result nothing) c.loop-formula.invariant c.in_ok-name_formula.ensures)

@@ -1,5 +1,4 @@
-use Rattle.std.proofs.Common.{ℕ, [], List, length, get_or, Result, Ok, Err, ap, sym, ◌∙◌, subst, arith}
-use Rattle.std.specs.Prelude.{IfOk}
+use Rattle.std.proofs.Common.{ℕ, [], List, length, get_or, ap, sym, ◌∙◌, subst, arith}
 use Rattle.std.specs.List.{Contains}
 use Rattle.bw_lang.specs.Table.Names.{with_names}
 use Rattle.bw_nodes.specs.Fits.{Fits, AreStrings}
@@ -10,31 +9,34 @@ use Rattle.bw_sum.specs.Graph.{graph}
 use Rattle.bw_types.specs.Fields.{field_names}
 use Rattle.bw_shape.specs.Outlines.{IsOutlined, root_of}
 use Rattle.bw_shape.proofs.Shapes.{has_root, root_is_low, is_shape}
+use Rattle.bw_shape.proofs.Outcomes.{if_ok}
 use Rattle.bw_shape.proofs.outline.shape.Goals as goal
-
-if_ok : {T E : Type 0} {P Q : T → Type 0} (r : Result T E) → ((x : T) → P x → Q x) → IfOk r P → IfOk r Q
-if_ok (Ok x) f h = f x h
-if_ok (Err e) f h = h
 
 pub nodes_of-requires-clause-edges : goal.nodes_of-requires-clause-edges
 nodes_of-requires-clause-edges c = λ i d l.
     let s = c.args.typed.now.service in
     let b = (c.requires.page.edges i d l).0 in
-    let e = c.len.ensures ∙ ap length (all_are s c.service-service.result.now c.in_ok-show.show c.in_ok-exit.exit c.of-templates.result c.of-templates.ensures c.service-service.ensures c.in_ok-show.ensures c.in_ok-exit.ensures) ∙ rows_are s in
+    let e = c.len.ensures
+    ∙ ap length (all_are s c.service-service.result.now c.in_ok-show.show c.in_ok-exit.exit c.of-templates.result c.of-templates.ensures
+    c.service-service.ensures c.in_ok-show.ensures c.in_ok-exit.ensures) ∙ rows_are s in
     omega (arith, b, e)
 
 pub nodes_of-requires-clause-tracks : goal.nodes_of-requires-clause-tracks
 nodes_of-requires-clause-tracks c = λ i d l.
     let s = c.args.typed.now.service in
     let b = c.requires.page.tracks i d l in
-    let e = c.len.ensures ∙ ap length (all_are s c.service-service.result.now c.in_ok-show.show c.in_ok-exit.exit c.of-templates.result c.of-templates.ensures c.service-service.ensures c.in_ok-show.ensures c.in_ok-exit.ensures) ∙ rows_are s in
+    let e = c.len.ensures
+    ∙ ap length (all_are s c.service-service.result.now c.in_ok-show.show c.in_ok-exit.exit c.of-templates.result c.of-templates.ensures
+    c.service-service.ensures c.in_ok-show.ensures c.in_ok-exit.ensures) ∙ rows_are s in
     omega (arith, b, e)
 
 pub nodes_of-requires-clause-labels : goal.nodes_of-requires-clause-labels
 nodes_of-requires-clause-labels c = λ i d l.
     let s = c.args.typed.now.service in
     let b = (c.requires.page.texts i d l).0 in
-    let e = c.len.ensures ∙ ap length (all_are s c.service-service.result.now c.in_ok-show.show c.in_ok-exit.exit c.of-templates.result c.of-templates.ensures c.service-service.ensures c.in_ok-show.ensures c.in_ok-exit.ensures) ∙ rows_are s in
+    let e = c.len.ensures
+    ∙ ap length (all_are s c.service-service.result.now c.in_ok-show.show c.in_ok-exit.exit c.of-templates.result c.of-templates.ensures
+    c.service-service.ensures c.in_ok-show.ensures c.in_ok-exit.ensures) ∙ rows_are s in
     omega (arith, b, e)
 
 pub nodes_of-requires-clause-literals : goal.nodes_of-requires-clause-literals
@@ -48,7 +50,9 @@ pub outlined-requires-clause-root : goal.outlined-requires-clause-root
 outlined-requires-clause-root c =
     let s = c.args.typed.now.service in
     let low = root_is_low s c.args.page.now c.requires.page in
-    let e = c.len.ensures ∙ ap length (all_are s c.service-service.result.now c.in_ok-show.show c.in_ok-exit.exit c.of-templates.result c.of-templates.ensures c.service-service.ensures c.in_ok-show.ensures c.in_ok-exit.ensures) in
+    let e = c.len.ensures
+    ∙ ap length (all_are s c.service-service.result.now c.in_ok-show.show c.in_ok-exit.exit c.of-templates.result c.of-templates.ensures
+    c.service-service.ensures c.in_ok-show.ensures c.in_ok-exit.ensures) in
     omega (arith, low, e, c.in_ok-graphed.ensures.nodes, c.root_of.ensures)
 
 pub outlined-requires-clause-rows : goal.outlined-requires-clause-rows
@@ -57,7 +61,9 @@ outlined-requires-clause-rows c = c.in_ok-graphed.ensures.nodes ∙ c.len.ensure
 pub outlined-requires-clause-links : goal.outlined-requires-clause-links
 outlined-requires-clause-links c = λ n.
     let s = c.args.typed.now.service in
-    let e = c.len.ensures ∙ ap length (all_are s c.service-service.result.now c.in_ok-show.show c.in_ok-exit.exit c.of-templates.result c.of-templates.ensures c.service-service.ensures c.in_ok-show.ensures c.in_ok-exit.ensures) ∙ rows_are s in
+    let e = c.len.ensures
+    ∙ ap length (all_are s c.service-service.result.now c.in_ok-show.show c.in_ok-exit.exit c.of-templates.result c.of-templates.ensures
+    c.service-service.ensures c.in_ok-show.ensures c.in_ok-exit.ensures) ∙ rows_are s in
     let links = c.in_ok-graphed.ensures.links (λ i d l. let b = (c.requires.page.edges i d l).1 in omega (arith, b, e)) n in
     λ i d l. let b = links i d l in let k = c.in_ok-graphed.ensures.nodes in omega (arith, b, k)
 
@@ -68,7 +74,8 @@ returns c =
     let schema = c.args.schema.now in
     let graphed = c.in_ok-graphed.graphed in
     let named = c.in_ok-named.named in
-    let items = all_are s c.service-service.result.now c.in_ok-show.show c.in_ok-exit.exit c.of-templates.result c.of-templates.ensures c.service-service.ensures c.in_ok-show.ensures c.in_ok-exit.ensures in
+    let items = all_are s c.service-service.result.now c.in_ok-show.show c.in_ok-exit.exit c.of-templates.result c.of-templates.ensures
+    c.service-service.ensures c.in_ok-show.ensures c.in_ok-exit.ensures in
     let rows = c.len.ensures ∙ ap length items in
     if_ok c.outlined.result (λ o made. is_shape s page schema graphed named o
     (subst (λ ts. IsOutlined ts (with_names [] (field_names s)) (root_of page) graphed named o) items

@@ -16,7 +16,8 @@ take_tags-loop-item-preserved t c =
     let e = c.in_ok-take_tag.ensures.front in (
       extends_trans c.args.tags.now c.loop-item.tags c.take_tag.new.tags c.loop-item.invariant.0 e,
       subst (AreKnown c.take_tag.new.tags) (sym (forest-take xs i c.item-item.result c.item-item.is c.loop-item-test.true))
-          (known_append c.take_tag.new.tags (forest (take i xs)) (before c.item-item.result none) (known_stay c.loop-item.tags c.take_tag.new.tags (forest (take i xs)) e c.loop-item.invariant.1) c.in_ok-take_tag.ensures.known),
+          (known_append c.take_tag.new.tags (forest (take i xs)) (before c.item-item.result none)
+          (known_stay c.loop-item.tags c.take_tag.new.tags (forest (take i xs)) e c.loop-item.invariant.1) c.in_ok-take_tag.ensures.known),
     )
 
 pub take_tag-returns-in_ok-take_tags-clause-known : goal.take_tag-returns-in_ok-take_tags-clause-known
@@ -26,8 +27,10 @@ take_tag-returns-in_ok-take_tags-clause-known t c =
     let new = c.take_tags.new.tags in
     let is_in : name_number old tag < length old =
     subst (λ (t : List (List ℕ)). name_number t tag < length t) (sym c.in_ok-add.ensures.ok) (added_are_there c.args.tags.now (tag ∷ []) 0 tag (omega arith)) in
-    subst (λ i. AreKnown new (before i none)) (sym c.in-Element.is)
-    ((known_stay old new (element tag c.in-Element.element.attrs none none) c.in_ok-take_tags.ensures.front (is_in, (tt, tt))).0, (c.in_ok-take_tags.ensures.known, tt))
+    subst (λ i. AreKnown new (before i none)) (sym c.in-Element.is) (
+      (known_stay old new (element tag c.in-Element.element.attrs none none) c.in_ok-take_tags.ensures.front (is_in, (tt, tt))).0,
+      (c.in_ok-take_tags.ensures.known, tt),
+    )
 
 pub take_tag-returns-in_ok-take_tags-clause-front : goal.take_tag-returns-in_ok-take_tags-clause-front
 take_tag-returns-in_ok-take_tags-clause-front t c =

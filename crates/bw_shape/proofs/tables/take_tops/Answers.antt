@@ -17,9 +17,12 @@ loop-n-preserved c =
         | inl it ↦ known_stay c.loop-n.tags c.take_tags.new.tags (template_at c.args.templates.now (get_or c.args.order.now i 0)) e (c.loop-n.invariant.1 i it)
         | inr it ↦ subst (λ j. AreKnown c.take_tags.new.tags (template_at c.args.templates.now (get_or c.args.order.now j 0))) (sym it)
             (let b = c.requires c.loop-n.n-index 0 c.loop-n-test.true in
-            subst (AreKnown c.take_tags.new.tags) (c.at.ensures ∙ ap (λ j. template_at c.args.templates.now j) (get_or_default c.args.order.now c.loop-n.n-index _ 0 c.loop-n-test.true)) c.in_ok-take_tags.ensures.known)
+            subst (AreKnown c.take_tags.new.tags)
+            (c.at.ensures ∙ ap (λ j. template_at c.args.templates.now j) (get_or_default c.args.order.now c.loop-n.n-index _ 0 c.loop-n-test.true))
+            c.in_ok-take_tags.ensures.known)
       ],
     )
 
 pub returns-clause-known : goal.returns-clause-known
-returns-clause-known c = λ k d h. subst (λ n. AreKnown c.loop-n.tags (template_at c.args.templates.now n)) (get_or_default c.args.order.now k 0 d h) (c.loop-n.invariant.1 k (omega (arith, h, c.loop-n-test.false)))
+returns-clause-known c = λ k d h. subst (λ n. AreKnown c.loop-n.tags (template_at c.args.templates.now n)) (get_or_default c.args.order.now k 0 d h)
+    (c.loop-n.invariant.1 k (omega (arith, h, c.loop-n-test.false)))

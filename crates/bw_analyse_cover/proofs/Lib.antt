@@ -1,0 +1,9 @@
+pub mod Seen
+pub mod Literals
+pub mod Rounds
+pub mod Steps
+pub mod Shared
+pub mod Cells
+pub mod Told
+pub mod KindLaws
+pub mod Accepted

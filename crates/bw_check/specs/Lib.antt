@@ -1,0 +1,4 @@
+pub mod Accepts
+pub mod Faults
+pub mod Laws
+pub mod Pieces

@@ -1,0 +1,107 @@
+//! One piece of the check: the page of a show or an exit.
+ghost use Rattle.std.specs.Prelude.{◌≡◌, IfOk, slice_get, Some, length};
+ghost use Rattle.bw_analyse.specs.Facts.{AreFacts};
+ghost use Rattle.bw_analyse.specs.Least.{flow_of};
+ghost use Rattle.bw_analyse.specs.Pages.{HasPage, page_graph};
+ghost use Rattle.bw_faults.specs.Lists.{Lists};
+ghost use Rattle.bw_flow.specs.Layout.{plan_of};
+ghost use Rattle.bw_flow.specs.View.{seen};
+ghost use Rattle.bw_shape.specs.Outlines.{IsPageGraph, IsShape};
+ghost use Rattle.bw_strings.specs.Literals.{literals_of};
+ghost use Rattle.bw_check.specs.Faults.{IsPageFault, IsReceivedFault};
+
+use bw_analyse::{Facts, page_graph};
+use bw_faults::Faults;
+use bw_fields::judge_fields;
+use bw_flow::{Flow, Point, PointId, What};
+use bw_judge::judge;
+use bw_lang::Memory;
+use bw_out::Pulse;
+use bw_schema::Schema;
+use bw_shape::{Outline, shape};
+use bw_strings::Literals;
+use bw_types::Typed;
+use bw_within::laws::{pages_are_graphs, received_have_numbers};
+use std::alloc::Global;
+
+/// What every piece is judged by.
+#[derive(Clone, Copy)]
+pub struct Bench<'a> {
+    pub typed: &'a Typed,
+    pub flow: &'a Flow,
+    pub facts: &'a Facts,
+    pub literals: &'a Literals,
+    pub schema: &'a Schema,
+    ghost lowered: { flow.now ≡ plan_of typed.now.service },
+    ghost collected: { literals.now ≡ literals_of typed.now.service },
+}
+
+/// The faults of the fields that the point at this place receives, where the outline is the shape of its page.
+fn judge_received(
+    alloc: Global,
+    bench: Bench<'_>,
+    outline: &Outline,
+    place: PointId,
+    point: &Point,
+) -> Result<Faults, Memory>
+    requires point { slice_get (flow_of bench.typed.now.service) place ≡ Some (seen point.now) }
+    requires page { IsPageGraph bench.typed.now.service (page_graph bench.typed.now.service bench.facts.now place) }
+    requires shape { IsShape bench.typed.now.service (page_graph bench.typed.now.service bench.facts.now place) bench.schema.now outline.now }
+    ensures { IfOk result (Lists (IsReceivedFault bench.entry.typed.now.service bench.entry.facts.now place (seen point.now))) }
+{
+    received_have_numbers(bench.typed);
+    match &point.what {
+        What::Show { receives, .. } => {
+            judge_fields(alloc, outline, bench.typed, receives, point.number)
+        }
+        _ => Ok(Faults::new(alloc)),
+    }
+}
+
+/// The faults of the page at this place, where a show or an exit stands. Those of fields come first, as in the order of
+/// faults, so that the others are only put behind them.
+fn judge_page(
+    alloc: Global,
+    bench: Bench<'_>,
+    place: PointId,
+    point: &Point,
+) -> Result<Faults, Memory>
+    requires facts { AreFacts bench.typed.now.service bench.facts.now }
+    requires page { HasPage bench.typed.now.service place }
+    requires point { slice_get (flow_of bench.typed.now.service) place ≡ Some (seen point.now) }
+    ensures { IfOk result (Lists (IsPageFault bench.entry.typed.now.service bench.entry.schema.now bench.entry.facts.now place)) }
+{
+    pages_are_graphs(bench.typed);
+    let page = page_graph(alloc, bench.typed, bench.flow, bench.facts, place)?;
+    let outline = shape(alloc, &page, bench.typed, bench.literals, bench.schema)?;
+    let mut faults = judge_received(alloc, bench, &outline, place, point)?;
+    faults.join(judge(
+        alloc,
+        &outline,
+        &page,
+        bench.typed,
+        bench.literals,
+        bench.schema,
+        point.number,
+    )?)?;
+    Ok(faults)
+}
+
+/// Judges the piece of this number, which is the page at this place.
+pub fn judge_piece<P: Pulse>(
+    alloc: Global,
+    bench: Bench<'_>,
+    pulse: &P,
+    number: u32,
+    place: PointId,
+) -> Result<Faults, Memory>
+    requires facts { AreFacts bench.typed.now.service bench.facts.now }
+    requires page { HasPage bench.typed.now.service place }
+    ensures { IfOk result (Lists (IsPageFault bench.entry.typed.now.service bench.entry.schema.now bench.entry.facts.now place)) }
+{
+    pulse.at(number);
+    match bench.flow.point(place) {
+        Some(point) => judge_page(alloc, bench, place, point),
+        None => Err(Memory),
+    }
+}

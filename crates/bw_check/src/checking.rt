@@ -1,0 +1,122 @@
+//! The check.
+ghost use Rattle.std.specs.Prelude.{◌≡◌, ◌≤◌, IfOk, IfErr};
+ghost use Rattle.bw_analyse.specs.Facts.{AreFacts};
+ghost use Rattle.bw_analyse.specs.Least.{IsTooLarge};
+ghost use Rattle.bw_faults.specs.Lists.{Lists};
+ghost use Rattle.bw_flow.specs.Layout.{plan_of, points};
+ghost use Rattle.bw_check.specs.Accepts.{Accepts, IsAccepted, IsCheckFault};
+ghost use Rattle.bw_check.specs.Faults.{IsServiceFault};
+ghost use Rattle.bw_schema.specs.declared.schema.Schema.{Schema};
+
+use crate::bench::Bench;
+use crate::checked::Checked;
+use crate::fault::CheckFault;
+use crate::pieces::{judge_in_turn, pieces_of};
+use bw_analyse::{AnalyseFault, Facts, analyse, gap_faults};
+use bw_faults::Faults;
+use bw_flow::{Flow, FlowFault, lower};
+use bw_lang::Memory;
+use bw_out::Pulse;
+use bw_schema::Schema;
+use bw_strings::Literals;
+use bw_types::Typed;
+use std::alloc::Global;
+
+/// All faults of a service by a schema, in their order.
+fn faults_of<P: Pulse>(
+    alloc: Global,
+    typed: &Typed,
+    flow: &Flow,
+    facts: &Facts,
+    schema: &Schema,
+    pulse: &P,
+) -> Result<Faults, Memory>
+    requires lowered { flow.now ≡ plan_of typed.now.service }
+    requires facts { AreFacts typed.now.service facts.now }
+    ensures { IfOk result (Lists (IsServiceFault typed.now.service schema.now facts.now)) }
+{
+    let literals = Literals::of(alloc, typed.service())?;
+    let pieces = pieces_of(alloc, flow)?;
+    let bench = Bench {
+        typed,
+        flow,
+        facts,
+        literals: &literals,
+        schema,
+    };
+    let mut faults = judge_in_turn(alloc, bench, pulse, pieces.as_slice())?;
+    faults.join(gap_faults(alloc, typed, flow, facts)?)?;
+    Ok(faults)
+}
+
+/// The flow of a service, or that it has too many points.
+fn flow_of(alloc: Global, typed: &Typed) -> Result<Flow, CheckFault>
+    ensures flow { IfOk result (λ f. (f ≡ plan_of typed.now.service) × (points typed.now.service.sessions ≤ 4096)) }
+    ensures fault { IfErr result (λ e. (schema : Schema) → IsCheckFault typed.now.service schema e) }
+{
+    match lower(alloc, typed) {
+        Ok(flow) => Ok(flow),
+        Err(FlowFault::TooMany(points)) => Err(CheckFault::TooMany(points)),
+        Err(FlowFault::Memory) => Err(CheckFault::Memory),
+    }
+}
+
+/// The facts of a service, or that they are too large.
+fn facts_of(alloc: Global, typed: &Typed, flow: &Flow) -> Result<Facts, CheckFault>
+    requires lowered { flow.now ≡ plan_of typed.now.service }
+    requires few { points typed.now.service.sessions ≤ 4096 }
+    ensures facts { IfOk result (AreFacts typed.now.service) }
+    ensures within { IfOk result (λ f. ¬ (IsTooLarge typed.now.service 2000000)) }
+    ensures fault { IfErr result (λ e. (schema : Schema) → IsCheckFault typed.now.service schema e) }
+{
+    match analyse(alloc, typed, flow) {
+        Ok(facts) => Ok(facts),
+        Err(AnalyseFault::TooLarge(members)) => Err(CheckFault::TooLarge(members)),
+        Err(AnalyseFault::Memory) => Err(CheckFault::Memory),
+    }
+}
+
+/// The flow and the facts of a service that is accepted by a schema, or why it isn't.
+fn judged<P: Pulse>(
+    alloc: Global,
+    typed: &Typed,
+    schema: &Schema,
+    pulse: &P,
+) -> Result<(Flow, Facts), CheckFault>
+    ensures accepted { IfOk result (λ r. (r.0 ≡ plan_of typed.now.service) × IsAccepted typed.now.service schema.now r.1) }
+    ensures fault { IfErr result (IsCheckFault typed.now.service schema.now) }
+{
+    let flow = flow_of(alloc, typed)?;
+    let facts = facts_of(alloc, typed, &flow)?;
+    let faults = faults_of(alloc, typed, &flow, &facts, schema, pulse)?;
+    if faults.len() > 0 {
+        return Err(CheckFault::Refused(faults));
+    }
+    Ok((flow, facts))
+}
+
+/// Checks a service by a schema: it is accepted exactly where it has at most 4,096 points, its least solution has at most
+/// 2,000,000 members, and it has no fault. Then what is known of it is kept with it.
+///
+/// The pieces are the pages of its shows and exits in source order, from 0. They are judged one after another, and
+/// `pulse.at(k)` is called as piece `k` begins. Every refusal drops the service and the schema.
+pub fn check<P: Pulse>(
+    alloc: Global,
+    typed: Typed,
+    schema: Schema,
+    pulse: &P,
+) -> Result<Checked, CheckFault>
+    ensures kept { IfOk result (λ c. (c.typed ≡ typed) × (c.schema ≡ schema)) }
+    ensures accepted { IfOk result (λ c. Accepts typed.service schema) }
+    ensures fault { IfErr result (IsCheckFault typed.service schema) }
+{
+    match judged(alloc, &typed, &schema, pulse) {
+        Ok((flow, facts)) => Ok(Checked {
+            typed,
+            flow,
+            facts,
+            schema,
+        }),
+        Err(fault) => Err(fault),
+    }
+}

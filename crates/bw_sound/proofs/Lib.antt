@@ -1,0 +1,9 @@
+pub mod Wrapped
+pub mod Unfolded
+pub mod Summed
+pub mod Places
+pub mod Pages
+pub mod Covered
+pub mod Refused
+pub mod Steps
+pub mod Runs
