@@ -1,0 +1,149 @@
+//! The faults of the pages of shows and exits.
+ghost use Rattle.std.specs.Prelude.{◌≡◌};
+ghost use Rattle.std.specs.List.{All};
+ghost use Rattle.bw_fields.specs.Received.{IsReceived};
+ghost use Rattle.bw_shape.specs.Outlines.{IsPageGraph, IsShape};
+ghost use Rattle.bw_strings.specs.Literals.{literals_of};
+
+use crate::graphs::{exit_page, show_page};
+use crate::known::{are_received, is_page_graph};
+use bw_faults::Faults;
+use bw_fields::judge_fields;
+use bw_flow::{Flow, Receiveds, What, lower};
+use bw_judge::judge;
+use bw_lang::Memory;
+use bw_schema::Schema;
+use bw_shape::{Outline, shape};
+use bw_strings::Literals;
+use bw_sum::Summary;
+use bw_types::Typed;
+use case_files::Fault;
+use std::alloc::Global;
+
+/// The faults of the page around a document, at the show or the exit of this number.
+pub fn faults_of(
+    alloc: Global,
+    typed: &Typed,
+    literals: &Literals,
+    schema: &Schema,
+    document: &Summary,
+    number: u32,
+) -> Result<Faults, Fault>
+    requires { literals.now ≡ literals_of typed.now.service }
+{
+    let Ok(flow) = lower(alloc, typed) else {
+        return Err(Fault::Malformed);
+    };
+    match statement(&flow, number) {
+        Some(What::Show { receives, .. }) => {
+            faults_of_show(alloc, typed, literals, schema, document, receives, number)
+        }
+        Some(What::Exit { .. }) => {
+            faults_of_exit(alloc, typed, literals, schema, document, number)
+        }
+        _ => Err(Fault::Malformed),
+    }
+}
+
+/// What the statement of this number does.
+fn statement(flow: &Flow, number: u32) -> Option<&What> {
+    let point = flow.point(flow.find(number)?)?;
+    Some(&point.what)
+}
+
+/// The faults of the page of a show that receives these fields.
+fn faults_of_show(
+    alloc: Global,
+    typed: &Typed,
+    literals: &Literals,
+    schema: &Schema,
+    document: &Summary,
+    receives: &Receiveds,
+    number: u32,
+) -> Result<Faults, Fault>
+    requires { literals.now ≡ literals_of typed.now.service }
+{
+    if !are_received(typed, receives) {
+        return Err(Fault::Malformed);
+    }
+    let page = show_page(alloc, typed, literals, document)?;
+    if !is_page_graph(typed, literals, &page) {
+        return Err(Fault::Malformed);
+    }
+    Ok(judged_show(alloc, typed, literals, schema, &page, receives, number)?)
+}
+
+/// The faults of the page of an exit.
+fn faults_of_exit(
+    alloc: Global,
+    typed: &Typed,
+    literals: &Literals,
+    schema: &Schema,
+    document: &Summary,
+    number: u32,
+) -> Result<Faults, Fault>
+    requires { literals.now ≡ literals_of typed.now.service }
+{
+    let page = exit_page(alloc, typed, literals, document)?;
+    if !is_page_graph(typed, literals, &page) {
+        return Err(Fault::Malformed);
+    }
+    Ok(judged_exit(alloc, typed, literals, schema, &page, number)?)
+}
+
+/// The faults of the elements and of the received fields of a page.
+fn judged_show(
+    alloc: Global,
+    typed: &Typed,
+    literals: &Literals,
+    schema: &Schema,
+    page: &Summary,
+    receives: &Receiveds,
+    number: u32,
+) -> Result<Faults, Memory>
+    requires page { IsPageGraph typed.now.service page.now }
+    requires literals { literals.now ≡ literals_of typed.now.service }
+    requires received { All (IsReceived typed.now.service) receives.now }
+{
+    let outline = shape(alloc, page, typed, literals, schema)?;
+    judged(
+        alloc, typed, literals, schema, page, &outline, receives, number,
+    )
+}
+
+/// The same, where this is the page's outline.
+fn judged(
+    alloc: Global,
+    typed: &Typed,
+    literals: &Literals,
+    schema: &Schema,
+    page: &Summary,
+    outline: &Outline,
+    receives: &Receiveds,
+    number: u32,
+) -> Result<Faults, Memory>
+    requires page { IsPageGraph typed.now.service page.now }
+    requires literals { literals.now ≡ literals_of typed.now.service }
+    requires shape { IsShape typed.now.service page.now schema.now outline.now }
+    requires received { All (IsReceived typed.now.service) receives.now }
+{
+    let mut faults = judge(alloc, outline, page, typed, literals, schema, number)?;
+    faults.join(judge_fields(alloc, outline, typed, receives, number)?)?;
+    Ok(faults)
+}
+
+/// The faults of the elements of a page.
+fn judged_exit(
+    alloc: Global,
+    typed: &Typed,
+    literals: &Literals,
+    schema: &Schema,
+    page: &Summary,
+    number: u32,
+) -> Result<Faults, Memory>
+    requires page { IsPageGraph typed.now.service page.now }
+    requires literals { literals.now ≡ literals_of typed.now.service }
+{
+    let outline = shape(alloc, page, typed, literals, schema)?;
+    judge(alloc, &outline, page, typed, literals, schema, number)
+}
