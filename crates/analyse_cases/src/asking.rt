@@ -31,7 +31,10 @@ fn typed_service(alloc: Global, text: &[u8]) -> Result<Typed, Fault> {
     let Ok(service) = read_service(alloc, text) else {
         return Err(Fault::Malformed);
     };
-    resolve(alloc, service).map_err(|_| Fault::Malformed)
+    match resolve(alloc, service) {
+        Ok(typed) => Ok(typed),
+        Err(_) => Err(Fault::Malformed),
+    }
 }
 
 fn got_of(alloc: Global, case: &Case<'_>, typed: &Typed) -> Result<String, Fault> {
