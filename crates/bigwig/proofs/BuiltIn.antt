@@ -6,7 +6,8 @@ use Rattle.std.specs.Str.{IsAscii, IsUtf8}
 use Rattle.std.proofs.lemmas.Bool.{ltb-true, leb-true}
 use Rattle.std.proofs.lemmas.Str.{IsUtf8-from_ascii}
 use Rattle.std.proofs.lemmas.Str.Ascii.{IsAscii-nil, IsAscii-cons}
-use Rattle.bw_schema.proofs.Schemas.{short_step, read_is, one_schema, not_both}
+use Rattle.bw_schema.proofs.SchemaLaws.{one_schema, not_both}
+use Rattle.bw_schema.proofs.Schemas.{short_step, read_is}
 use Rattle.bw_schema.proofs.Spelled.{both}
 use Rattle.bw_schema.specs.BuiltIn.{built_in_root, built_in_rules}
 use Rattle.bw_schema.specs.Steps.Reading.{read_said, line_with, names_line, rare_line}

@@ -23,8 +23,10 @@ pub none_among : (k : ErrorKind) (kinds : Kinds) → IsAmong k kinds → kinds �
 none_among k kinds among e = subst (λ (t : Kinds). IsAmong k t) e among
 
 -- a line is known by its parts
-pub same_line : (l : Line) (rows : List Row) → text_of l.command ≡ first_of (codes "command") rows → text_of l.first ≡ first_of (codes "first") rows → text_of l.second ≡ first_of (codes "second") rows
-    → text_of l.schema ≡ first_of (codes "schema") rows → text_of l.workers ≡ first_of (codes "workers") rows → text_of l.limit ≡ first_of (codes "limit") rows → text_of l.port ≡ first_of (codes "port") rows
+pub same_line : (l : Line) (rows : List Row) → text_of l.command ≡ first_of (codes "command") rows → text_of l.first ≡ first_of (codes "first") rows
+    → text_of l.second ≡ first_of (codes "second") rows
+    → text_of l.schema ≡ first_of (codes "schema") rows → text_of l.workers ≡ first_of (codes "workers") rows
+    → text_of l.limit ≡ first_of (codes "limit") rows → text_of l.port ≡ first_of (codes "port") rows
     → line_of l ≡ written_in rows
 same_line l rows a b c d e f g = λ i. record { command = a i; first = b i; second = c i; schema = d i; workers = e i; limit = f i; port = g i }
 

@@ -1,11 +1,12 @@
 -- Some status is due, and one only.
 use Rattle.std.proofs.Common.{◌≡◌, ◌⊎◌, ℕ, List, Option, Some, codes, refl, sym, ◌∙◌, subst, inl, inr}
-use Rattle.bw_lang.specs.declared.service.Service.{Service}
+use Rattle.bw_check.specs.Accepts.{Accepts}
 use Rattle.bw_out.specs.Told.{Disk}
-use Rattle.bigwig.specs.Asked.{Work, asked, work}
+use Rattle.bigwig.specs.Asked.{Ruled, Work, asked, work}
 use Rattle.bigwig.specs.Asked.Work.{prints, replays, serves}
 use Rattle.bigwig.specs.Commands.{command_of}
-use Rattle.bigwig.specs.Laws.{IsValidFile, ValidIsDone, Due, SomeStatusIsDue, OneStatusIsDue, ComesWhereDue, DoesItsWork, DoorFaultsServe, IsFree}
+use Rattle.bigwig.specs.Laws.{IsAcceptedFile, CheckIsDone, IsValidFile, ValidIsDone, Due, IsFree}
+use Rattle.bigwig.specs.Laws.{SomeStatusIsDue, OneStatusIsDue, ComesWhereDue, DoesItsWork, DoorFaultsServe}
 use Rattle.bw_answer.specs.declared.ends.StreamEnd.{StreamEnd}
 use Rattle.bw_answer.specs.declared.ends.StreamEnd.TheVariants as ends
 use Rattle.bigwig.specs.Outcomes.{Outside, IsDone, IsSaid, IsServing, status_of}
@@ -13,14 +14,16 @@ use Rattle.bigwig.specs.Outcomes.Comes.{said, done, read_fault, no_memory}
 use Rattle.bigwig.specs.Outcomes.IsServing.{no_port, no_line, links_served}
 use Rattle.bigwig.specs.Questions.{Said, line}
 use Rattle.bigwig.specs.declared.command.Command.{Command}
-use Rattle.bigwig.specs.declared.command.Command.TheVariants.{Valid}
+use Rattle.bigwig.specs.declared.command.Command.TheVariants.{Check, Valid}
+use Rattle.bigwig.specs.declared.command.Judging.{Judging}
 use Rattle.bigwig.specs.declared.status.Status.{Status}
 use Rattle.bigwig.specs.declared.status.Status.TheVariants.{Done, ReadFault, WriteFault, DoorFault, Memory}
 use Rattle.bigwig.proofs.Decided.{asked_decided}
 use Rattle.bigwig.proofs.Refusals.{never_said}
+use Rattle.bigwig.proofs.SomeAnswer.{asked_some}
 
 pub some_status : SomeStatusIsDue
-some_status words disk = elim (asked_decided words disk).some as (λ _. (status : Status) × Due words disk status) [
+some_status words disk verdicts = elim (asked_some words disk verdicts) as (λ _. (status : Status) × Due words disk status) [
   | inl x ↦ (Done, inr (x.0, x.1, refl))
   | inr x ↦ (x.0.status, inl (x.0, x.1, refl))
 ]
@@ -40,26 +43,29 @@ ended_or_fault (ends.Ended n) = inl refl
 ended_or_fault ends.ReadFault = inr (inl refl)
 ended_or_fault ends.WriteFault = inr (inr (inl refl))
 
-serving_or_fault : (tree : Service) (port most : ℕ) (before after : Outside) (status : Status) → IsServing tree port most before after status → (status ≡ Done) ⊎ IsFree status
-serving_or_fault tree port most before after status (no_port e k) = inr (inr (inr (inl e)))
-serving_or_fault tree port most before after status (no_line e a p k) = inr (inr (inl e))
-serving_or_fault tree port most before after status (links_served (inl e) a p l) = inl e
-serving_or_fault tree port most before after status (links_served (inr e) a p l) = inr (inr (inr (inl e)))
+serving_or_fault : (ruled : Ruled) (port most : ℕ) (before after : Outside) (status : Status) → IsServing ruled port most before after status
+    → (status ≡ Done) ⊎ IsFree status
+serving_or_fault ruled port most before after status (no_port e k) = inr (inr (inr (inl e)))
+serving_or_fault ruled port most before after status (no_line e a p k) = inr (inr (inl e))
+serving_or_fault ruled port most before after status (links_served (inl e) a p l) = inl e
+serving_or_fault ruled port most before after status (links_served (inr e) a p l) = inr (inr (inr (inl e)))
 
 -- the work ends with Done, unless there was a fault
 done_or_fault : (work : Work) (before after : Outside) (status : Status) → IsDone work before after status → (status ≡ Done) ⊎ IsFree status
 done_or_fault (prints text) before after status d = said_or_fault _ before after status d
-done_or_fault (replays tree stream most) before after status d =
+done_or_fault (replays ruled stream most) before after status d =
     subst (λ s. (s ≡ Done) ⊎ IsFree s) (sym d.status_is) (ended_or_fault d.end)
-done_or_fault (serves tree port most) before after status d = serving_or_fault tree port most before after status d
+done_or_fault (serves ruled port most) before after status d = serving_or_fault ruled port most before after status d
 
 or_fault : (s t u : Status) → (u ≡ t) ⊎ IsFree u → t ≡ s → (u ≡ s) ⊎ IsFree u
 or_fault s t u (inl x) e = inl (x ∙ e)
 or_fault s t u (inr x) e = inr x
 
 pub comes_where_due : ComesWhereDue
-comes_where_due words disk before after s t d (said x p i) = or_fault s x.status t (said_or_fault x before after t i) (one_status words disk x.status s (inl (x, p, refl)) d)
-comes_where_due words disk before after s t d (done w p i) = or_fault s Done t (done_or_fault w before after t i) (one_status words disk Done s (inr (w, p, refl)) d)
+comes_where_due words disk before after s t d (said x p i) =
+    or_fault s x.status t (said_or_fault x before after t i) (one_status words disk x.status s (inl (x, p, refl)) d)
+comes_where_due words disk before after s t d (done w p i) =
+    or_fault s Done t (done_or_fault w before after t i) (one_status words disk Done s (inr (w, p, refl)) d)
 comes_where_due words disk before after s t d (read_fault e k) = inr (inl e)
 comes_where_due words disk before after s t d (no_memory e k) = inr (inr (inr (inr e)))
 
@@ -68,7 +74,8 @@ does_its_work words disk work before after status g (said x p i) = absurd ((aske
 does_its_work words disk work before after status g (done w p d) =
     let same : w ≡ work = (asked_decided words disk).once w work p g in
     let so : IsDone work before after status = subst (λ x. IsDone x before after status) same d in
-    elim (done_or_fault work before after status so) as (λ _. ((status ≡ Done) × IsDone work before after status) ⊎ IsFree status) [ inl e ↦ inl (e, so) | inr f ↦ inr f ]
+    elim (done_or_fault work before after status so) as (λ _. ((status ≡ Done) × IsDone work before after status) ⊎ IsFree status)
+    [ inl e ↦ inl (e, so) | inr f ↦ inr f ]
 does_its_work words disk work before after status g (read_fault e k) = inr (inl e)
 does_its_work words disk work before after status g (no_memory e k) = inr (inr (inr (inr e)))
 
@@ -86,12 +93,13 @@ stream_status ends.ReadFault = inr (inl refl)
 stream_status ends.WriteFault = inr (inr (inl refl))
 
 abbrev IsServed : Work → Type 0
-IsServed work = (tree : Service) × (port : ℕ) × (most : ℕ) × (work ≡ serves tree port most)
+IsServed work = (ruled : Ruled) × (port : ℕ) × (most : ℕ) × (work ≡ serves ruled port most)
 
 served_work : (work : Work) (before after : Outside) → IsDone work before after DoorFault → IsServed work
-served_work (prints text) before after d = absurd (elim d.prints [ inl x ↦ no_door_fault Done x.0 (inl refl) | inr x ↦ no_door_fault WriteFault x.0 (inr (inr (inl refl))) ])
-served_work (replays tree stream most) before after d = absurd (no_door_fault (status_of d.end) d.status_is (stream_status d.end))
-served_work (serves tree port most) before after d = (tree, port, most, refl)
+served_work (prints text) before after d = absurd (elim d.prints
+    [ inl x ↦ no_door_fault Done x.0 (inl refl) | inr x ↦ no_door_fault WriteFault x.0 (inr (inr (inl refl))) ])
+served_work (replays ruled stream most) before after d = absurd (no_door_fault (status_of d.end) d.status_is (stream_status d.end))
+served_work (serves ruled port most) before after d = (ruled, port, most, refl)
 
 pub door_faults_serve : DoorFaultsServe
 door_faults_serve words disk before after (said s p i) =
@@ -101,10 +109,45 @@ door_faults_serve words disk before after (done w p d) =
 door_faults_serve words disk before after (read_fault e k) = absurd (no_door_fault ReadFault e (inr (inl refl)))
 door_faults_serve words disk before after (no_memory e k) = absurd (no_door_fault Memory e (inr (inr (inr refl))))
 
--- ---- valid
+-- ---- check
 
 same_command : (a b : Command) → Some a ≡ Some b → a ≡ b
 same_command a b e = cc
+
+-- what is done is the work of the command that the words give
+done_of : (words : List (List ℕ)) (disk : Disk) (c : Command) → command_of words ≡ Some c → Due words disk Done → (w : Work) × (work disk c).gives w
+done_of words disk c is (inl (s, x, e)) = absurd (never_said words disk s Done refl x e)
+done_of words disk c is (inr (w, x, e)) =
+    let same : x.0 ≡ c = same_command x.0 c (sym x.1 ∙ is) in (w, subst (λ k. (work disk k).gives w) same x.2)
+
+check_given : (disk : Disk) (name : List ℕ) (judging : Judging) (w : Work) → (work disk (Check name judging)).gives w
+    → IsAcceptedFile disk name judging.schema
+check_given disk name judging w g = record {
+  content = g.1.1.1.0;
+  found = g.1.1.1.1;
+  tree = g.1.1.0;
+  reads = g.1.1.1.2;
+  typed = g.1.1.2.1;
+  by = g.1.2.0;
+  is_schema = g.1.2.1;
+  accepted = subst (λ t. Accepts t g.1.2.0) g.1.1.2.0 g.1.2.2.1;
+}
+
+check_gives : (disk : Disk) (name : List ℕ) (judging : Judging) → IsAcceptedFile disk name judging.schema
+    → (work disk (Check name judging)).gives (prints (line (codes "accepted")))
+check_gives disk name judging v = (
+  record { service = v.tree; schema = v.by },
+  (v.tree, (v.tree, (v.content, v.found, v.reads), (refl, v.typed)), (v.by, v.is_schema, (refl, v.accepted))),
+  refl,
+)
+
+pub check_is_done : CheckIsDone
+check_is_done words disk name judging c = (
+  λ d. let g = done_of words disk (Check name judging) c d in check_given disk name judging g.0 g.1,
+  λ v. inr (prints (line (codes "accepted")), (Check name judging, c, check_gives disk name judging v), refl),
+)
+
+-- ---- valid
 
 valid_given : (disk : Disk) (name : List ℕ) (named : Option (List ℕ)) (w : Work) → (work disk (Valid name named)).gives w → IsValidFile disk name named
 valid_given disk name named w g = record {
@@ -117,14 +160,8 @@ valid_given disk name named w g = record {
   valid = g.2.2.0;
 }
 
-valid_due : (words : List (List ℕ)) (disk : Disk) (name : List ℕ) (named : Option (List ℕ)) → command_of words ≡ Some (Valid name named) → Due words disk Done → IsValidFile disk name named
-valid_due words disk name named c (inl (s, x, e)) = absurd (never_said words disk s Done refl x e)
-valid_due words disk name named c (inr (w, x, e)) =
-    let same : x.0 ≡ Valid name named = same_command x.0 (Valid name named) (sym x.1 ∙ c) in
-    valid_given disk name named w (subst (λ k. (work disk k).gives w) same x.2)
-
 pub valid_is_done : ValidIsDone
 valid_is_done words disk name named c = (
-  valid_due words disk name named c,
+  λ d. let g = done_of words disk (Valid name named) c d in valid_given disk name named g.0 g.1,
   λ v. inr (prints (line (codes "valid")), (Valid name named, c, (v.tree, (v.content, v.found, v.page), (v.by, v.is_schema, (v.valid, refl)))), refl),
 )

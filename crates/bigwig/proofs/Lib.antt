@@ -1,5 +1,6 @@
 pub mod Answering
 pub mod BuiltIn
+pub mod Checks
 pub mod CommandLine
 pub mod Decided
 pub mod Due
@@ -8,4 +9,9 @@ pub mod Files
 pub mod Links
 pub mod Loads
 pub mod Pages
+pub mod Reaching
 pub mod Refusals
+pub mod Replies
+pub mod Sending
+pub mod SomeAnswer
+pub mod Stops

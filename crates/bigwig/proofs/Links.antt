@@ -1,9 +1,36 @@
 -- Links that are served, one after another.
-use Rattle.std.proofs.Common.{◌≡◌, ◌<◌, ◌+◌, ℕ, List, [], ◌∷◌, ◌++◌, length, Option, None, Some, IfSome, refl, sym, ap, ◌∙◌, subst, inl, inr, arith, append-nil, append_assoc, length-append}
+use Rattle.std.proofs.Common.{
+  ◌≡◌,
+  ◌<◌,
+  ◌+◌,
+  ℕ,
+  List,
+  [],
+  ◌∷◌,
+  ◌++◌,
+  length,
+  Option,
+  None,
+  Some,
+  IfSome,
+  refl,
+  sym,
+  ap,
+  ◌∙◌,
+  subst,
+  inl,
+  inr,
+  arith,
+  append-nil,
+  append_assoc,
+  length-append,
+}
 use Rattle.bw_answer.specs.Answers.{Place, IsAt, Answers}
+use Rattle.bw_answer.specs.Good.{RepliesAreGood}
 use Rattle.bw_answer.specs.declared.ends.StreamEnd.{StreamEnd}
 use Rattle.bw_answer.specs.declared.ends.StreamEnd.TheVariants as ends
-use Rattle.bw_lang.specs.declared.service.Service.{Service}
+use Rattle.bw_check.specs.Accepts.{Accepts}
+use Rattle.bw_cover.specs.Worlds.{Reached}
 use Rattle.bw_model.specs.Runs.{At}
 use Rattle.bw_model.specs.Sessions.{World}
 use Rattle.bw_out.specs.Causes.{Shows}
@@ -11,41 +38,53 @@ use Rattle.bw_out.specs.Doors.{Returned, Arrives, GivesBack}
 use Rattle.bw_out.specs.Told.{Coming}
 use Rattle.bw_world.specs.Seen.{Seen}
 use Rattle.bw_world.specs.Stands.{StandsFor}
-use Rattle.bigwig.specs.Outcomes.{Between, Outside, AreServed, IsServed, AreGivenBack, ServesLinks}
+use Rattle.bigwig.specs.Asked.{Ruled}
+use Rattle.bigwig.specs.Checks.{IsRuled}
+use Rattle.bigwig.specs.Outcomes.{Between, Outside, AreServed, IsServed, AreGivenBack, ServesLinks, begins}
 use Rattle.bigwig.specs.declared.status.Status.TheVariants.{Done, DoorFault}
+use Rattle.bigwig.proofs.Reaching.{course_reaches}
 
--- so many links were given back, and the world of the code stands for the model world that they leave
+-- so many links were given back, and the world of the code stands for the model world that they leave, which requests reach
 abbrev pub HasServed : ℕ → Seen → Seen → Outside → Outside → Type 0
 HasServed n first seen before after =
-    (world : World) → StandsFor first world → (keys : Coming) → before.keys ≡ Some keys → (links : List (List ℕ)) → before.coming ≡ Some links → (given : List Returned) → before.returned ≡ Some given
-    → (backs : List Returned) × (rest : List (List ℕ)) × (to : Between) × AreGivenBack first.service (record { world = world; keys = keys; steps = before.steps }) links given backs rest to after
-    × (length backs ≡ n) × StandsFor seen to.world
+    (ruled : Ruled) (world : World) → IsRuled first.service ruled → StandsFor first world → Reached ruled.service world
+    → (keys : Coming) → before.keys ≡ Some keys → (links : List (List ℕ)) → before.coming ≡ Some links
+    → (given : List Returned) → before.returned ≡ Some given
+    → (backs : List Returned) × (rest : List (List ℕ)) × (to : Between)
+    × AreGivenBack ruled (record { world = world; keys = keys; steps = before.steps }) links given backs rest to after
+    × (length backs ≡ n) × StandsFor seen to.world × Reached ruled.service to.world
 
 pub served_none : (seen : Seen) (o : Outside) → HasServed 0 seen seen o o
-served_none seen o world stands keys k links l given g = (
+served_none seen o ruled world is stands reached keys k links l given g = (
   [],
   links,
   record { world = world; keys = keys; steps = o.steps },
   record { served = (refl, refl); returned = g ∙ ap Some (sym (append-nil given)); coming = l; keys = k; steps = refl },
   refl,
   stands,
+  reached,
 )
 
 -- one link more was served
-serves_one : (service : Service) (from to next : Between) (links : List (List ℕ)) (backs : List Returned) (rest more : List (List ℕ)) (bytes : List ℕ) (back : Returned)
-    → AreServed service from links backs to rest → rest ≡ bytes ∷ more → IsServed service to bytes back next → AreServed service from links (backs ++ back ∷ []) next more
-serves_one service from to next links [] rest more bytes back s e i =
-    (bytes, more, next, sym s.1 ∙ e, subst (λ b. IsServed service b bytes back next) s.0 i, (refl, refl))
-serves_one service from to next links (b ∷ backs) rest more bytes back s e i =
-    (s.0, s.1, s.2, s.3, s.4, serves_one service s.2 to next s.1 backs rest more bytes back s.5 e i)
+serves_one : (ruled : Ruled) (from to next : Between) (links : List (List ℕ)) (backs : List Returned) (rest more : List (List ℕ)) (bytes : List ℕ)
+    (back : Returned)
+    → AreServed ruled from links backs to rest → rest ≡ bytes ∷ more → IsServed ruled to bytes back next
+    → AreServed ruled from links (backs ++ back ∷ []) next more
+serves_one ruled from to next links [] rest more bytes back s e i =
+    (bytes, more, next, sym s.1 ∙ e, subst (λ b. IsServed ruled b bytes back next) s.0 i, (refl, refl))
+serves_one ruled from to next links (b ∷ backs) rest more bytes back s e i =
+    (s.0, s.1, s.2, s.3, s.4, serves_one ruled s.2 to next s.1 backs rest more bytes back s.5 e i)
 
 -- a link was answered on its first message
-link_served : (service : Service) (from : Between) (bytes : List ℕ) (old new : Place) (back : Returned) (end : StreamEnd)
+link_served : (ruled : Ruled) (from : Between) (bytes : List ℕ) (old new : Place) (back : Returned) (end : StreamEnd)
+    → Accepts ruled.service ruled.schema → Reached ruled.service from.world
     → StandsFor old.seen from.world → old.taken ≡ [] → old.left ≡ Some bytes → old.held ≡ Some [] → old.keys ≡ Some from.keys → old.steps ≡ from.steps
-    → new.held ≡ back.written → new.left ≡ back.unread → Shows (end ≡ ends.ReadFault) 0 back.read_faults → Shows (end ≡ ends.WriteFault) 0 back.write_faults → Answers service 1 old new end
-    → (to : Between) × (new.keys ≡ Some to.keys) × (new.steps ≡ to.steps) × StandsFor new.seen to.world × IsServed service from bytes back to
-link_served service from bytes old new back end stands none left held keys steps written unread read write answers =
-    let at : At = record { world = from.world; bytes = bytes; keys = from.keys } in
+    → new.held ≡ back.written → new.left ≡ back.unread → Shows (end ≡ ends.ReadFault) 0 back.read_faults
+    → Shows (end ≡ ends.WriteFault) 0 back.write_faults → Answers ruled.service 1 old new end → RepliesAreGood ruled.service old
+    → (to : Between) × (new.keys ≡ Some to.keys) × (new.steps ≡ to.steps) × StandsFor new.seen to.world × IsServed ruled from bytes back to
+    × Reached ruled.service to.world
+link_served ruled from bytes old new back end accepts reached stands none left held keys steps written unread read write answers good =
+    let at : At = begins from bytes in
     let is : IsAt old at = record { stands = stands; bytes = (bytes, left, sym (ap (λ l. l ++ bytes) none)); keys = keys } in
     let a = answers at is in (
       record { world = a.0.world; keys = a.0.keys; steps = new.steps },
@@ -54,38 +93,59 @@ link_served service from bytes old new back end stands none left held keys steps
       a.1.stands,
       record {
         end = end;
-        streamed = record { old = old; new = new; rest = a.0.bytes; course = a.2; unhandled = (a.1.bytes.0, sym unread ∙ a.1.bytes.1, a.1.bytes.2); held_is = held; now_is = written; from_is = steps; to_is = refl };
+        streamed = record {
+          old = old;
+          new = new;
+          rest = a.0.bytes;
+          course = a.2;
+          pages = λ replies. good ruled.schema at replies accepts is reached;
+          unhandled = (a.1.bytes.0, sym unread ∙ a.1.bytes.1, a.1.bytes.2);
+          held_is = held;
+          now_is = written;
+          from_is = steps;
+          to_is = refl;
+        };
         read_fault = read;
         write_fault = write;
       },
+      course_reaches ruled.service 1 at a.0 old new end a.2 reached,
     )
 
 -- what a count shows from nothing on
 pub shows_first : (fact : Type 0) (before now : ℕ) → before ≡ 0 → Shows fact before now → Shows fact 0 now
 shows_first fact before now e s = subst (λ b. Shows fact b now) e s
 
-pub served_more : {Link : Type 0} (left held : Link → Option (List ℕ)) (n : ℕ) (first seen later : Seen) (before mid after : Outside) (coming : Option (List (List ℕ))) (returned : Option (List Returned)) (next : Option Link) (link : Link) (back : Returned) (old new : Place) (end : StreamEnd)
+pub served_more : {Link : Type 0} (left held : Link → Option (List ℕ)) (n : ℕ) (first seen later : Seen) (before mid after : Outside)
+    (coming : Option (List (List ℕ))) (returned : Option (List Returned)) (next : Option Link) (link : Link) (back : Returned) (old new : Place)
+    (end : StreamEnd)
     → HasServed n first seen before mid → seen.service ≡ first.service
     → next ≡ Some link → Arrives left held mid.coming coming next
     → old.seen ≡ seen → old.taken ≡ [] → old.left ≡ left link → old.held ≡ held link → old.keys ≡ mid.keys → old.steps ≡ mid.steps
-    → Answers seen.service 1 old new end → new.held ≡ back.written → new.left ≡ back.unread → Shows (end ≡ ends.ReadFault) 0 back.read_faults → Shows (end ≡ ends.WriteFault) 0 back.write_faults
-    → new.seen ≡ later → after.keys ≡ new.keys → after.steps ≡ new.steps → after.coming ≡ coming → returned ≡ mid.returned → GivesBack returned after.returned back
+    → Answers seen.service 1 old new end → RepliesAreGood seen.service old
+    → new.held ≡ back.written → new.left ≡ back.unread → Shows (end ≡ ends.ReadFault) 0 back.read_faults
+    → Shows (end ≡ ends.WriteFault) 0 back.write_faults
+    → new.seen ≡ later → after.keys ≡ new.keys → after.steps ≡ new.steps → after.coming ≡ coming → returned ≡ mid.returned
+    → GivesBack returned after.returned back
     → HasServed (n + 1) first later before after
-served_more left held n first seen later before mid after coming returned next link back old new end had by is arrives seen_is taken left_is held_is keys_is steps_is answers written unread read write later_is drawn spent coming_is returned_is gives world stands keys k links l given g =
-    let h = had world stands keys k links l given g in
+served_more left held n first seen later before mid after coming returned next link back old new end had by is arrives seen_is taken left_is held_is
+    keys_is steps_is answers good written unread read write later_is drawn spent coming_is returned_is gives ruled world ruled_is stands reached keys k
+    links l given g =
+    let h = had ruled world ruled_is stands reached keys k links l given g in
     let backs = h.0 in
     let to = h.2 in
     let were = h.3 in
+    let same : seen.service ≡ ruled.service = by ∙ sym ruled_is.0 in
     let came = subst (λ c. Arrives left held c coming (Some link)) were.coming (subst (λ x. Arrives left held mid.coming coming x) is arrives) in
     let gave = subst (λ r. GivesBack r after.returned back) (returned_is ∙ were.returned) gives in
-    let one = link_served first.service to came.0 old new back end (subst (λ s. StandsFor s to.world) (sym seen_is) h.5) taken (left_is ∙ came.4) (held_is ∙ came.5) (keys_is ∙ were.keys) (steps_is ∙ were.steps)
-    written unread read write (subst (λ s. Answers s 1 old new end) by answers) in
+    let one = link_served ruled to came.0 old new back end ruled_is.1 h.6 (subst (λ s. StandsFor s to.world) (sym seen_is) h.5) taken
+    (left_is ∙ came.4) (held_is ∙ came.5) (keys_is ∙ were.keys) (steps_is ∙ were.steps) written unread read write
+    (subst (λ s. Answers s 1 old new end) same answers) (subst (λ s. RepliesAreGood s old) same good) in
     let len = length-append backs (back ∷ []) in (
       backs ++ back ∷ [],
       came.1,
       one.0,
       record {
-        served = serves_one first.service _ to one.0 links backs h.1 came.1 came.0 back were.served came.2 one.4;
+        served = serves_one ruled _ to one.0 links backs h.1 came.1 came.0 back were.served came.2 one.4;
         returned = gave ∙ ap Some (append_assoc given backs (back ∷ []));
         coming = coming_is ∙ came.3;
         keys = drawn ∙ one.1;
@@ -93,34 +153,44 @@ served_more left held n first seen later before mid after coming returned next l
       },
       omega (arith, len, h.4),
       subst (λ s. StandsFor s one.0.world) later_is one.3,
+      one.5,
     )
 
 -- ---- serving is over
 
 -- the same, where nothing else is seen
-pub given_so : (service : Service) (from : Between) (links : List (List ℕ)) (given backs : List Returned) (rest : List (List ℕ)) (to : Between) (mid after : Outside) → AreGivenBack service from links given backs rest to mid
-    → after.coming ≡ mid.coming → after.returned ≡ mid.returned → after.keys ≡ mid.keys → after.steps ≡ mid.steps → AreGivenBack service from links given backs rest to after
-given_so service from links given backs rest to mid after g c r k s = record { served = g.served; returned = r ∙ g.returned; coming = c ∙ g.coming; keys = k ∙ g.keys; steps = s ∙ g.steps }
+pub given_so : (ruled : Ruled) (from : Between) (links : List (List ℕ)) (given backs : List Returned) (rest : List (List ℕ)) (to : Between)
+    (mid after : Outside) → AreGivenBack ruled from links given backs rest to mid
+    → after.coming ≡ mid.coming → after.returned ≡ mid.returned → after.keys ≡ mid.keys → after.steps ≡ mid.steps
+    → AreGivenBack ruled from links given backs rest to after
+given_so ruled from links given backs rest to mid after g c r k s =
+    record { served = g.served; returned = r ∙ g.returned; coming = c ∙ g.coming; keys = k ∙ g.keys; steps = s ∙ g.steps }
 
-pub over_most : (n most : ℕ) (first seen : Seen) (before after : Outside) → HasServed n first seen before after → n ≡ most → (w : World) → StandsFor first w → ServesLinks first.service w most before after Done
-over_most n most first seen before after had full w stands keys k links l given g =
-    let h = had w stands keys k links l given g in
+pub over_most : (n most : ℕ) (first seen : Seen) (before after : Outside) → HasServed n first seen before after → n ≡ most → (ruled : Ruled) (w : World)
+    → IsRuled first.service ruled → StandsFor first w → Reached ruled.service w → ServesLinks ruled w most before after Done
+over_most n most first seen before after had full ruled w is stands reached keys k links l given g =
+    let h = had ruled w is stands reached keys k links l given g in
     (h.0, h.1, h.2, h.3, omega (arith, h.4), inl (refl, inr (h.4 ∙ full)))
 
-pub over_none : {Link : Type 0} (left held : Link → Option (List ℕ)) (n most : ℕ) (first seen : Seen) (before mid after : Outside) (next : Option Link) → n < most → HasServed n first seen before mid → next ≡ None
-    → Arrives left held mid.coming after.coming next → after.returned ≡ mid.returned → after.keys ≡ mid.keys → after.steps ≡ mid.steps → (w : World) → StandsFor first w → ServesLinks first.service w most before after Done
-over_none left held n most first seen before mid after next fewer had is arrives r ks st w stands keys k links l given g =
-    let h = had w stands keys k links l given g in
+pub over_none : {Link : Type 0} (left held : Link → Option (List ℕ)) (n most : ℕ) (first seen : Seen) (before mid after : Outside) (next : Option Link)
+    → n < most → HasServed n first seen before mid → next ≡ None
+    → Arrives left held mid.coming after.coming next → after.returned ≡ mid.returned → after.keys ≡ mid.keys → after.steps ≡ mid.steps
+    → (ruled : Ruled) (w : World) → IsRuled first.service ruled → StandsFor first w → Reached ruled.service w
+    → ServesLinks ruled w most before after Done
+over_none left held n most first seen before mid after next fewer had none arrives r ks st ruled w is stands reached keys k links l given g =
+    let h = had ruled w is stands reached keys k links l given g in
     let were = h.3 in
-    let came = subst (λ c. Arrives left held c after.coming None) were.coming (subst (λ x. Arrives left held mid.coming after.coming x) is arrives) in
-    let none : after.coming ≡ mid.coming = came.1 ∙ ap Some (sym came.0) ∙ sym were.coming in
-    (h.0, h.1, h.2, given_so first.service _ links given h.0 h.1 h.2 mid after were none r ks st, omega (arith, h.4), inl (refl, inl came.0))
+    let came = subst (λ c. Arrives left held c after.coming None) were.coming (subst (λ x. Arrives left held mid.coming after.coming x) none arrives) in
+    let same : after.coming ≡ mid.coming = came.1 ∙ ap Some (sym came.0) ∙ sym were.coming in
+    (h.0, h.1, h.2, given_so ruled _ links given h.0 h.1 h.2 mid after were same r ks st, omega (arith, h.4), inl (refl, inl came.0))
 
-pub over_fault : (n most : ℕ) (first seen : Seen) (before mid after : Outside) → n < most → HasServed n first seen before mid → after.coming ≡ mid.coming → after.returned ≡ mid.returned → after.keys ≡ mid.keys → after.steps ≡ mid.steps
-    → (w : World) → StandsFor first w → ServesLinks first.service w most before after DoorFault
-over_fault n most first seen before mid after fewer had c r ks st w stands keys k links l given g =
-    let h = had w stands keys k links l given g in
-    (h.0, h.1, h.2, given_so first.service _ links given h.0 h.1 h.2 mid after h.3 c r ks st, omega (arith, h.4), inr (refl, omega (arith, h.4)))
+pub over_fault : (n most : ℕ) (first seen : Seen) (before mid after : Outside) → n < most → HasServed n first seen before mid → after.coming ≡ mid.coming
+    → after.returned ≡ mid.returned → after.keys ≡ mid.keys → after.steps ≡ mid.steps
+    → (ruled : Ruled) (w : World) → IsRuled first.service ruled → StandsFor first w → Reached ruled.service w
+    → ServesLinks ruled w most before after DoorFault
+over_fault n most first seen before mid after fewer had c r ks st ruled w is stands reached keys k links l given g =
+    let h = had ruled w is stands reached keys k links l given g in
+    (h.0, h.1, h.2, given_so ruled _ links given h.0 h.1 h.2 mid after h.3 c r ks st, omega (arith, h.4), inr (refl, omega (arith, h.4)))
 
 -- what is said of a link that came
 pub of_link : {Link : Type 0} (P : Link → Type 0) (next : Option Link) (link : Link) → next ≡ Some link → IfSome next P → P link

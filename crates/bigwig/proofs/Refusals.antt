@@ -1,11 +1,15 @@
 -- What is said where a question goes wrong refuses something: it is neither done nor a fault.
 use Rattle.std.proofs.Common.{◌≡◌, ◌∙◌, Bool, true, false, ℕ, List, Option, None, Some, refl, ap, inl, inr}
+use Rattle.bw_lang.specs.declared.service.Service.{Service}
+use Rattle.bw_make.specs.Made.{made}
 use Rattle.bw_out.specs.Told.{Disk}
-use Rattle.bigwig.specs.Asked.{command, file, read, typed, small, accepted, served, service_file, replayed, at_port, page, page_file, rules, schema, judged, ruled, work, asked}
+use Rattle.bw_schema.specs.declared.schema.Schema.{Schema}
+use Rattle.bigwig.specs.Asked.{command, file, read, typed, service_file, checked, checked_by, accepted_file, accepted_text, accepted, replayed}
+use Rattle.bigwig.specs.Asked.{at_port, turned, page, page_file, rules, schema, built_in, judged, ruled, work, asked}
 use Rattle.bigwig.specs.Asked.Work.{replays}
 use Rattle.bigwig.specs.Questions.{Said, Question, ◌>>=◌, found}
 use Rattle.bigwig.specs.declared.command.Command.{Command}
-use Rattle.bigwig.specs.declared.command.Command.TheVariants.{Replay, Serve, Valid}
+use Rattle.bigwig.specs.declared.command.Command.TheVariants.{Check, Replay, Serve, Valid, Make}
 use Rattle.bigwig.specs.declared.status.Status.{Status}
 use Rattle.bigwig.specs.declared.status.Status.TheVariants.{Usage, NoFile, ServiceRefused, SchemaRefused, PageRefused}
 
@@ -30,10 +34,15 @@ then_refuses q next first others s (inr x) = others x.0 s x.2
 file_refuses : (disk : Disk) (name : List ℕ) → Refuses (file disk name)
 file_refuses disk name s x = says_so s _ x.1 refl
 
+read_refuses : (content : List ℕ) → Refuses (read content)
+read_refuses content s x = says_so s _ x.3 refl
+
+typed_refuses : (tree : Service) → Refuses (typed tree)
+typed_refuses tree s x = says_so s _ x.2 refl
+
 service_file_refuses : (disk : Disk) (name : List ℕ) → Refuses (service_file disk name)
 service_file_refuses disk name =
-    then_refuses (file disk name) served (file_refuses disk name) (λ content. then_refuses (read content) accepted (λ s x. says_so s _ x.3 refl)
-    (λ tree. then_refuses (typed tree) small (λ s x. says_so s _ x.2 refl) (λ same s x. says_so s _ x.1 refl)))
+    then_refuses (file disk name >>= read) typed (then_refuses (file disk name) read (file_refuses disk name) read_refuses) typed_refuses
 
 rules_refuse : (content : List ℕ) → Refuses (rules content)
 rules_refuse content s x = says_so s _ x.3 refl
@@ -42,13 +51,32 @@ schema_refuses : (disk : Disk) (named : Option (List ℕ)) → Refuses (schema d
 schema_refuses disk None = rules_refuse _
 schema_refuses disk (Some name) = then_refuses (file disk name) rules (file_refuses disk name) rules_refuse
 
+checked_refuses : (tree : Service) (by : Schema) → Refuses (checked tree by)
+checked_refuses tree by s x = says_so s _ x.3 refl
+
+accepted_file_refuses : (disk : Disk) (name : List ℕ) (named : Option (List ℕ)) → Refuses (accepted_file disk name named)
+accepted_file_refuses disk name named =
+    then_refuses (service_file disk name) (checked_by disk named) (service_file_refuses disk name)
+    (λ tree. then_refuses (schema disk named) (checked tree) (schema_refuses disk named) (checked_refuses tree))
+
+accepted_text_refuses : (text : List ℕ) → Refuses (accepted_text text)
+accepted_text_refuses text =
+    then_refuses (read text >>= typed) (λ tree. built_in >>= checked tree) (then_refuses (read text) typed (read_refuses text) typed_refuses)
+    (λ tree. then_refuses built_in (checked tree) (rules_refuse _) (checked_refuses tree))
+
 work_refuses : (disk : Disk) (c : Command) → Refuses (work disk c)
-work_refuses disk (Replay service requests most) =
-    then_refuses (service_file disk service) (replayed disk requests most) (service_file_refuses disk service) (λ tree. then_refuses (file disk requests) (λ stream. found (replays tree stream most)) (file_refuses disk requests) (λ stream s x. absurd x))
-work_refuses disk (Serve service port most) = then_refuses (service_file disk service) (at_port port most) (service_file_refuses disk service) (λ tree s x. absurd x)
+work_refuses disk (Check service judging) =
+    then_refuses (accepted_file disk service judging.schema) accepted (accepted_file_refuses disk service judging.schema) (λ ruled s x. absurd x)
+work_refuses disk (Replay service requests judging most) =
+    then_refuses (accepted_file disk service judging.schema) (replayed disk requests most) (accepted_file_refuses disk service judging.schema)
+    (λ ruled. then_refuses (file disk requests) (λ stream. found (replays ruled stream most)) (file_refuses disk requests) (λ stream s x. absurd x))
+work_refuses disk (Serve service judging port most) =
+    then_refuses (accepted_file disk service judging.schema) (at_port port most) (accepted_file_refuses disk service judging.schema) (λ ruled s x. absurd x)
 work_refuses disk (Valid name named) =
     then_refuses (page_file disk name) (ruled disk named) (then_refuses (file disk name) page (file_refuses disk name) (λ content s x. says_so s _ x.1 refl))
     (λ tree. then_refuses (schema disk named) (judged tree) (schema_refuses disk named) (λ by s x. says_so s _ x.2 refl))
+work_refuses disk (Make count workers) =
+    then_refuses (accepted_text (made count)) (turned count) (accepted_text_refuses (made count)) (λ ruled s x. absurd x)
 
 asked_refuses : (words : List (List ℕ)) (disk : Disk) → Refuses (asked words disk)
 asked_refuses words disk = then_refuses (command words) (work disk) (λ s x. says_so s _ x.1 refl) (work_refuses disk)
@@ -57,5 +85,6 @@ not_both : (b : Bool) → b ≡ false → b ≡ true → ⊥
 not_both b is isnt = cc
 
 -- another status is never said
-pub never_said : (words : List (List ℕ)) (disk : Disk) (s : Said) (status : Status) → is_refusal status ≡ false → (asked words disk).says s → status ≡ s.status → ⊥
+pub never_said : (words : List (List ℕ)) (disk : Disk) (s : Said) (status : Status) → is_refusal status ≡ false → (asked words disk).says s
+    → status ≡ s.status → ⊥
 never_said words disk s status other x e = not_both (is_refusal status) other (ap is_refusal e ∙ asked_refuses words disk s x)

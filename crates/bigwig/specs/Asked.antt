@@ -1,9 +1,12 @@
 -- The questions of each command, in their order. A later command, option or file is one line more.
-use Rattle.std.specs.Prelude.{◌≡◌, ◌≢◌, ◌≤◌, ◌<◌, ℕ, List, Option, None, Some, codes}
-use Rattle.bw_flow.specs.Layout.{points}
+use Rattle.std.specs.Prelude.{◌≡◌, ◌≢◌, ℕ, List, Option, None, Some, codes}
+use Rattle.bw_check.specs.Accepts.{Accepts, IsCheckFault}
+use Rattle.bw_check.specs.declared.fault.CheckFault.{CheckFault}
+use Rattle.bw_check.specs.declared.fault.CheckFault.TheVariants as checks
 use Rattle.bw_lang.specs.Document.Forest.{Forest}
 use Rattle.bw_lang.specs.Service.Reads.{Reads}
 use Rattle.bw_lang.specs.declared.service.Service.{Service}
+use Rattle.bw_make.specs.Made.{made}
 use Rattle.bw_out.specs.Told.{Disk}
 use Rattle.bw_read.specs.Pages.{IsPage}
 use Rattle.bw_schema.specs.Reads.{IsSchemaRefused}
@@ -21,10 +24,12 @@ use Rattle.bw_types.specs.declared.fault.TypeFault.{TypeFault}
 use Rattle.bw_valid.specs.Breaches.{breach}
 use Rattle.bw_valid.specs.declared.breach.Breach.{Breach}
 use Rattle.bigwig.specs.Commands.{command_of}
-use Rattle.bigwig.specs.Lines.{syntax_line, type_line, points_line, no_file_line, no_page_line, breach_line, schema_line}
+use Rattle.bigwig.specs.FaultLines.{check_text, page_names}
+use Rattle.bigwig.specs.Lines.{syntax_line, type_line, no_file_line, no_page_line, breach_line, schema_line}
+use Rattle.bigwig.specs.Making.{made_text}
 use Rattle.bigwig.specs.Questions.{Question, ◌>>=◌, found, line}
 use Rattle.bigwig.specs.declared.command.Command.{Command}
-use Rattle.bigwig.specs.declared.command.Command.TheVariants.{Replay, Serve, Valid}
+use Rattle.bigwig.specs.declared.command.Command.TheVariants.{Check, Replay, Serve, Valid, Make}
 use Rattle.bigwig.specs.declared.status.Status.TheVariants.{Usage, NoFile, ServiceRefused, SchemaRefused, PageRefused}
 
 -- what is printed where the words are refused
@@ -49,7 +54,8 @@ file disk name = record {
 abbrev pub read : List ℕ → Question Service
 read content = record {
   gives = λ tree. Reads content tree;
-  says = λ said. (fault : SyntaxFault) × IsServiceRefused content fault × (fault ≢ reading.Memory) × (said ≡ record { status = ServiceRefused; text = line (syntax_line fault) });
+  says = λ said. (fault : SyntaxFault) × IsServiceRefused content fault × (fault ≢ reading.Memory)
+      × (said ≡ record { status = ServiceRefused; text = line (syntax_line fault) });
 }
 
 -- is it well typed?
@@ -59,39 +65,82 @@ typed tree = record {
   says = λ said. (fault : TypeFault) × (first_fault tree ≡ Some fault) × (said ≡ record { status = ServiceRefused; text = line (type_line fault) });
 }
 
--- has it few enough points?
-abbrev pub small : Service → Question Service
-small tree = record {
-  gives = λ same. (same ≡ tree) × (points tree.sessions ≤ 4096);
-  says = λ said. (4096 < points tree.sessions) × (said ≡ record { status = ServiceRefused; text = line (points_line (points tree.sessions)) });
-}
-
--- is it served?
-abbrev pub accepted : Service → Question Service
-accepted tree = typed tree >>= small
-
--- which service does the content give that is served?
-abbrev pub served : List ℕ → Question Service
-served content = read content >>= accepted
+-- the service of a text
+abbrev pub service_text : List ℕ → Question Service
+service_text content = read content >>= typed
 
 -- the service of a file
 abbrev pub service_file : Disk → List ℕ → Question Service
-service_file disk name = file disk name >>= served
+service_file disk name = file disk name >>= read >>= typed
+
+-- which schema does the content read as?
+abbrev pub rules : List ℕ → Question Schema
+rules content = record {
+  gives = λ schema. ReadsSchema content schema.root schema.elements;
+  says = λ said. (fault : SchemaFault) × IsSchemaRefused content fault × (fault ≢ schemas.Memory)
+      × (said ≡ record { status = SchemaRefused; text = line (schema_line fault) });
+}
+
+-- the schema of the built-in text
+abbrev pub built_in : Question Schema
+built_in = rules BUILT_IN.now
+
+-- the schema of a file, or the built-in one where none is named
+abbrev pub schema : Disk → Option (List ℕ) → Question Schema
+schema disk None = built_in
+schema disk (Some name) = file disk name >>= rules
+
+-- a service, and a schema by which it is accepted
+pub record Ruled : Type 0 where
+  pub service : Service
+  pub schema : Schema
+
+-- does the check accept the service by the schema?
+abbrev pub checked : Service → Schema → Question Ruled
+checked tree by = record {
+  gives = λ both. (both ≡ record { service = tree; schema = by }) × Accepts tree by;
+  says = λ said. (fault : CheckFault) × IsCheckFault tree by fault × (fault ≢ checks.Memory)
+      × (said ≡ record { status = ServiceRefused; text = check_text (page_names tree) fault });
+}
+
+-- the schema that is named, and then the check
+abbrev pub checked_by : Disk → Option (List ℕ) → Service → Question Ruled
+checked_by disk named tree = schema disk named >>= checked tree
+
+-- the service of a file, where it is accepted: the file is read before the schema
+abbrev pub accepted_file : Disk → List ℕ → Option (List ℕ) → Question Ruled
+accepted_file disk name named = service_file disk name >>= checked_by disk named
 
 -- What is left to do where every question went well: to print; to answer a stream of at most so many requests; or to
 -- serve at most so many links at a port.
 pub data Work : Type 0 where
   prints : List ℕ → Work
-  replays : Service → List ℕ → ℕ → Work
-  serves : Service → ℕ → ℕ → Work
+  replays : Ruled → List ℕ → ℕ → Work
+  serves : Ruled → ℕ → ℕ → Work
+
+-- a service that is accepted, and no more is asked for
+abbrev pub accepted : Ruled → Question Work
+accepted ruled = found (prints (line (codes "accepted")))
 
 -- the request file of a service that is served
-abbrev pub replayed : Disk → List ℕ → ℕ → Service → Question Work
-replayed disk requests most tree = file disk requests >>= (λ stream. found (replays tree stream most))
+abbrev pub replayed : Disk → List ℕ → ℕ → Ruled → Question Work
+replayed disk requests most ruled = file disk requests >>= (λ stream. found (replays ruled stream most))
 
 -- the port of a service that is served
-abbrev pub at_port : ℕ → ℕ → Service → Question Work
-at_port port most tree = found (serves tree port most)
+abbrev pub at_port : ℕ → ℕ → Ruled → Question Work
+at_port port most ruled = found (serves ruled port most)
+
+-- the service of a text, where it is accepted by the built-in schema
+abbrev pub accepted_text : List ℕ → Question Ruled
+accepted_text text = service_text text >>= (λ tree. built_in >>= checked tree)
+
+-- its turns, and what is printed of them
+abbrev pub turned : ℕ → Ruled → Question Work
+turned count ruled = found (prints (made_text count ruled.service))
+
+-- the made service of so many pages, where it is accepted, and its turns
+abbrev pub made_work : ℕ → Question Work
+made_work count = accepted_text (made count) >>= turned count
 
 -- which page is the content?
 abbrev pub page : List ℕ → Question Forest
@@ -103,18 +152,6 @@ page content = record {
 -- the page of a file
 abbrev pub page_file : Disk → List ℕ → Question Forest
 page_file disk name = file disk name >>= page
-
--- which schema does the content read as?
-abbrev pub rules : List ℕ → Question Schema
-rules content = record {
-  gives = λ schema. ReadsSchema content schema.root schema.elements;
-  says = λ said. (fault : SchemaFault) × IsSchemaRefused content fault × (fault ≢ schemas.Memory) × (said ≡ record { status = SchemaRefused; text = line (schema_line fault) });
-}
-
--- the schema of a file, or that of the built-in text where none is named
-abbrev pub schema : Disk → Option (List ℕ) → Question Schema
-schema disk None = rules BUILT_IN.now
-schema disk (Some name) = file disk name >>= rules
 
 -- is the page valid by the schema?
 abbrev pub judged : Forest → Schema → Question Work
@@ -129,9 +166,11 @@ ruled disk named tree = schema disk named >>= judged tree
 
 -- the questions of a command, and the work that they lead to
 abbrev pub work : Disk → Command → Question Work
-work disk (Replay service requests most) = service_file disk service >>= replayed disk requests most
-work disk (Serve service port most) = service_file disk service >>= at_port port most
+work disk (Check service judging) = accepted_file disk service judging.schema >>= accepted
+work disk (Replay service requests judging most) = accepted_file disk service judging.schema >>= replayed disk requests most
+work disk (Serve service judging port most) = accepted_file disk service judging.schema >>= at_port port most
 work disk (Valid name named) = page_file disk name >>= ruled disk named
+work disk (Make count workers) = made_work count
 
 -- all that the program finds out from its words and its files
 abbrev pub asked : List (List ℕ) → Disk → Question Work

@@ -3,7 +3,18 @@ use Rattle.std.specs.Prelude.{ℕ}
 use Rattle.bigwig.specs.declared.status.Refusal.{Refusal}
 use Rattle.bigwig.specs.declared.status.Refusal.TheVariants as refusals
 use Rattle.bigwig.specs.declared.status.Status.{Status}
-use Rattle.bigwig.specs.declared.status.Status.TheVariants.{Done, Usage, ServiceRefused, SchemaRefused, ReadFault, WriteFault, DoorFault, Memory, PageRefused, NoFile}
+use Rattle.bigwig.specs.declared.status.Status.TheVariants.{
+  Done,
+  Usage,
+  ServiceRefused,
+  SchemaRefused,
+  ReadFault,
+  WriteFault,
+  DoorFault,
+  Memory,
+  PageRefused,
+  NoFile,
+}
 
 -- the code that the program ends with for a status
 abbrev pub code_of : Status → ℕ

@@ -1,35 +1,48 @@
 -- The commands that the words of the command line give.
-use Rattle.std.specs.Prelude.{ℕ, Bool, ◌&&◌, is_none, List, [], ◌∷◌, Option, None, Some, bytes_eq, codes, if◌then◌else◌}
+use Rattle.std.specs.Prelude.{◌≤◌, ⊤, ℕ, Bool, ◌&&◌, is_none, List, [], ◌∷◌, Option, None, Some, bytes_eq, codes, if◌then◌else◌}
 use Rattle.clap.specs.Kinds.{Kinds}
 use Rattle.clap.specs.Words.{fault_of}
-use Rattle.bigwig.specs.Numbers.{number_or}
+use Rattle.bigwig.specs.Numbers.{number_in, number_or}
 use Rattle.bigwig.specs.Words.{Written, bigwig, written_by}
 use Rattle.bigwig.specs.declared.command.Command.{Command}
-use Rattle.bigwig.specs.declared.command.Command.TheVariants.{Replay, Serve, Valid}
+use Rattle.bigwig.specs.declared.command.Command.TheVariants.{Check, Replay, Serve, Valid, Make}
+use Rattle.bigwig.specs.declared.command.Judging.{Judging}
 
--- no option is there but the limit
-abbrev pub has_limit_alone : Written → Bool
-has_limit_alone w = is_none w.schema && (is_none w.workers && is_none w.port)
+-- what a service is judged by: the schema that is named, if one is, and by how many workers
+abbrev pub judging_of : Option (List ℕ) → Option ℕ → Option Judging
+judging_of schema (Some workers) = Some (record { schema = schema; workers = workers })
+judging_of schema None = None
+
+abbrev pub judging_by : Written → Option Judging
+judging_by w = judging_of w.schema (number_or 1 16 1 w.workers)
+
+-- no option is there but the schema and the workers
+abbrev pub has_judging_alone : Written → Bool
+has_judging_alone w = is_none w.limit && is_none w.port
+
+-- check SERVICE
+abbrev pub check_of : Option (List ℕ) → Option (List ℕ) → Option Judging → Option Command
+check_of (Some service) None (Some judging) = Some (Check service judging)
+check_of service second judging = None
+
+abbrev pub check_by : Written → Option Command
+check_by w = if has_judging_alone w then check_of w.first w.second (judging_by w) else None
 
 -- replay SERVICE REQUESTS
-abbrev pub replay_of : Option (List ℕ) → Option (List ℕ) → Option ℕ → Option Command
-replay_of (Some service) (Some requests) (Some most) = Some (Replay service requests most)
-replay_of service requests most = None
+abbrev pub replay_of : Option (List ℕ) → Option (List ℕ) → Option Judging → Option ℕ → Option Command
+replay_of (Some service) (Some requests) (Some judging) (Some most) = Some (Replay service requests judging most)
+replay_of service requests judging most = None
 
 abbrev pub replay_by : Written → Option Command
-replay_by w = if has_limit_alone w then replay_of w.first w.second (number_or 1 1000000 1000000 w.limit) else None
-
--- no option is there but the limit and the port
-abbrev pub has_limit_and_port_alone : Written → Bool
-has_limit_and_port_alone w = is_none w.schema && is_none w.workers
+replay_by w = if is_none w.port then replay_of w.first w.second (judging_by w) (number_or 1 1000000 1000000 w.limit) else None
 
 -- serve SERVICE
-abbrev pub serve_of : Option (List ℕ) → Option (List ℕ) → Option ℕ → Option ℕ → Option Command
-serve_of (Some service) None (Some port) (Some most) = Some (Serve service port most)
-serve_of service second port most = None
+abbrev pub serve_of : Option (List ℕ) → Option (List ℕ) → Option Judging → Option ℕ → Option ℕ → Option Command
+serve_of (Some service) None (Some judging) (Some port) (Some most) = Some (Serve service judging port most)
+serve_of service second judging port most = None
 
 abbrev pub serve_by : Written → Option Command
-serve_by w = if has_limit_and_port_alone w then serve_of w.first w.second (number_or 1 65535 8080 w.port) (number_or 1 1000000 1000000 w.limit) else None
+serve_by w = serve_of w.first w.second (judging_by w) (number_or 1 65535 8080 w.port) (number_or 1 1000000 1000000 w.limit)
 
 -- no option is there but the schema
 abbrev pub has_schema_alone : Written → Bool
@@ -43,12 +56,32 @@ valid_of page second schema = None
 abbrev pub valid_by : Written → Option Command
 valid_by w = if has_schema_alone w then valid_of w.first w.second w.schema else None
 
+-- no option is there but the workers
+abbrev pub has_workers_alone : Written → Bool
+has_workers_alone w = is_none w.schema && (is_none w.limit && is_none w.port)
+
+-- make N
+abbrev pub make_of : Option ℕ → Option (List ℕ) → Option ℕ → Option Command
+make_of (Some count) None (Some workers) = Some (Make count workers)
+make_of count second workers = None
+
+-- the number that the word is, if it is there
+abbrev pub count_of : Option (List ℕ) → Option ℕ
+count_of None = None
+count_of (Some t) = number_in 1 250 t
+
+abbrev pub make_by : Written → Option Command
+make_by w = if has_workers_alone w then make_of (count_of w.first) w.second (number_or 1 16 1 w.workers) else None
+
 -- the command of this name
 abbrev pub named_by : Option (List ℕ) → Written → Option Command
 named_by None w = None
 named_by (Some name) w =
-    if bytes_eq name (codes "replay") then replay_by w
-    else (if bytes_eq name (codes "serve") then serve_by w else (if bytes_eq name (codes "valid") then valid_by w else None))
+    if bytes_eq name (codes "check") then check_by w
+    else (if bytes_eq name (codes "replay") then replay_by w
+    else (if bytes_eq name (codes "serve") then serve_by w
+    else (if bytes_eq name (codes "valid") then valid_by w
+    else (if bytes_eq name (codes "make") then make_by w else None))))
 
 -- the command that is written so
 abbrev pub command_by : Written → Option Command
@@ -62,3 +95,17 @@ unless_fault (kind ∷ kinds) command = None
 -- the command that the words give, and None where they are refused
 unfoldable pub command_of : List (List ℕ) → Option Command
 command_of words = unless_fault (fault_of bigwig words) (command_by (written_by words))
+
+-- ---- ranges
+
+-- from 1 to 16 workers
+abbrev pub AreWorkers : ℕ → Type 0
+AreWorkers n = (1 ≤ n) × (n ≤ 16)
+
+-- the command's numbers are within their ranges
+abbrev pub IsInRange : Command → Type 0
+IsInRange (Check service judging) = AreWorkers judging.workers
+IsInRange (Replay service requests judging most) = AreWorkers judging.workers
+IsInRange (Serve service judging port most) = AreWorkers judging.workers
+IsInRange (Valid page schema) = ⊤
+IsInRange (Make count workers) = (1 ≤ count) × (count ≤ 250) × AreWorkers workers

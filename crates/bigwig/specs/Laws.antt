@@ -1,30 +1,54 @@
 -- Laws of outcomes.
-use Rattle.std.specs.Prelude.{◌≡◌, ◌↔◌, ◌⊎◌, ℕ, List, Option, None, Some}
+use Rattle.std.specs.Prelude.{◌≡◌, ◌≢◌, ◌↔◌, ◌⊎◌, ℕ, List, Option, None, Some}
 use Rattle.bw_lang.specs.Document.Forest.{Forest}
+use Rattle.bw_check.specs.Accepts.{Accepts, IsCheckFault}
+use Rattle.bw_check.specs.declared.fault.CheckFault.{CheckFault}
+use Rattle.bw_check.specs.declared.fault.CheckFault.TheVariants as checks
+use Rattle.bw_lang.specs.Service.Reads.{Reads}
 use Rattle.bw_lang.specs.declared.service.Service.{Service}
+use Rattle.bw_make.specs.Made.{made}
 use Rattle.bw_out.specs.Told.{Disk}
 use Rattle.bw_read.specs.Pages.{IsPage}
 use Rattle.bw_schema.specs.BuiltIn.{built_in_root, built_in_rules}
-use Rattle.bw_schema.specs.Reads.{Reads}
+use Rattle.bw_schema.specs.Reads.{Reads as ReadsSchema}
 use Rattle.bw_schema.specs.Validity.{Valid as IsValid}
 use Rattle.bw_schema.specs.declared.default_schema.TheConstants.{BUILT_IN}
 use Rattle.bw_schema.specs.declared.schema.Schema.{Schema}
-use Rattle.bigwig.specs.Asked.{Work, asked, schema}
+use Rattle.bw_types.specs.Faults.{IsWellTyped}
+use Rattle.bigwig.specs.Asked.{Ruled, Work, asked, built_in, schema, service_file, service_text}
 use Rattle.bigwig.specs.Asked.Work.{serves}
 use Rattle.bigwig.specs.Commands.{command_of}
 use Rattle.bigwig.specs.Outcomes.{Outside, Comes, IsDone}
 use Rattle.bigwig.specs.Questions.{Said}
-use Rattle.bigwig.specs.declared.command.Command.TheVariants.{Valid}
+use Rattle.bigwig.specs.declared.command.Command.{Command}
+use Rattle.bigwig.specs.declared.command.Command.TheVariants.{Check, Make, Replay, Serve, Valid}
+use Rattle.bigwig.specs.declared.command.Judging.{Judging}
 use Rattle.bigwig.specs.declared.status.Status.{Status}
 use Rattle.bigwig.specs.declared.status.Status.TheVariants.{Done, ReadFault, WriteFault, DoorFault, Memory}
 
 -- the status that is due by the words and the files: that of what is said, or that of work that is done
 abbrev pub Due : List (List ℕ) → Disk → Status → Type 0
-Due words disk status = ((said : Said) × (asked words disk).says said × (status ≡ said.status)) ⊎ ((work : Work) × (asked words disk).gives work × (status ≡ Done))
+Due words disk status = ((said : Said) × (asked words disk).says said × (status ≡ said.status))
+    ⊎ ((work : Work) × (asked words disk).gives work × (status ≡ Done))
 
--- for all words and files some status is due
+-- the check has a verdict on the service: it accepts it, or there is a reason why not
+abbrev pub HasVerdict : Service → Schema → Type 0
+HasVerdict tree by = Accepts tree by ⊎ ((fault : CheckFault) × IsCheckFault tree by fault × (fault ≢ checks.Memory))
+
+-- the command leads to a check of this service by this schema
+abbrev pub Checks : Disk → Command → Service → Schema → Type 0
+Checks disk (Check service judging) tree by = (service_file disk service).gives tree × (schema disk judging.schema).gives by
+Checks disk (Replay service requests judging most) tree by = (service_file disk service).gives tree × (schema disk judging.schema).gives by
+Checks disk (Serve service judging port most) tree by = (service_file disk service).gives tree × (schema disk judging.schema).gives by
+Checks disk (Valid name named) tree by = ⊥
+Checks disk (Make count workers) tree by = (service_text (made count)).gives tree × built_in.gives by
+
+-- for all words and files some status is due, where the check has a verdict on the service that they lead to, if any
 abbrev pub SomeStatusIsDue : Type 0
-SomeStatusIsDue = (words : List (List ℕ)) (disk : Disk) → (status : Status) × Due words disk status
+SomeStatusIsDue =
+    (words : List (List ℕ)) (disk : Disk)
+    → ((c : Command) (tree : Service) (by : Schema) → command_of words ≡ Some c → Checks disk c tree by → HasVerdict tree by)
+    → (status : Status) × Due words disk status
 
 -- and one only
 abbrev pub OneStatusIsDue : Type 0
@@ -50,7 +74,24 @@ DoesItsWork =
 abbrev pub DoorFaultsServe : Type 0
 DoorFaultsServe =
     (words : List (List ℕ)) (disk : Disk) (before after : Outside) → Comes (asked words disk) before after DoorFault
-    → (tree : Service) × (port : ℕ) × (most : ℕ) × (asked words disk).gives (serves tree port most)
+    → (ruled : Ruled) × (port : ℕ) × (most : ℕ) × (asked words disk).gives (serves ruled port most)
+
+-- the file of this name has a service that is accepted by the schema that is named
+pub record IsAcceptedFile (disk : Disk) (name : List ℕ) (named : Option (List ℕ)) : Type 0 where
+  pub content : List ℕ
+  pub found : disk name ≡ Some content
+  pub tree : Service
+  pub reads : Reads content tree
+  pub typed : IsWellTyped tree
+  pub by : Schema
+  pub is_schema : (schema disk named).gives by
+  pub accepted : Accepts tree by
+
+-- `check` is done exactly where the service and the schema read and the service is accepted
+abbrev pub CheckIsDone : Type 0
+CheckIsDone =
+    (words : List (List ℕ)) (disk : Disk) (name : List ℕ) (judging : Judging) → command_of words ≡ Some (Check name judging)
+    → Due words disk Done ↔ IsAcceptedFile disk name judging.schema
 
 -- the file of this name is a page, and it is valid by the schema that is named
 pub record IsValidFile (disk : Disk) (name : List ℕ) (named : Option (List ℕ)) : Type 0 where
@@ -65,11 +106,12 @@ pub record IsValidFile (disk : Disk) (name : List ℕ) (named : Option (List ℕ
 -- `valid` is done exactly where the page and the schema read and the page is valid
 abbrev pub ValidIsDone : Type 0
 ValidIsDone =
-    (words : List (List ℕ)) (disk : Disk) (name : List ℕ) (named : Option (List ℕ)) → command_of words ≡ Some (Valid name named) → Due words disk Done ↔ IsValidFile disk name named
+    (words : List (List ℕ)) (disk : Disk) (name : List ℕ) (named : Option (List ℕ)) → command_of words ≡ Some (Valid name named) → Due words disk Done
+    ↔ IsValidFile disk name named
 
 -- the built-in text reads as the rules of the built-in schema
 abbrev pub BuiltInReads : Type 0
-BuiltInReads = Reads BUILT_IN.now built_in_root built_in_rules
+BuiltInReads = ReadsSchema BUILT_IN.now built_in_root built_in_rules
 
 -- where no schema is named, these rules are meant
 abbrev pub BuiltInIsMeant : Type 0

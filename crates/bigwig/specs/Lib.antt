@@ -1,8 +1,11 @@
 pub mod Asked
+pub mod Checks
 pub mod Codes
 pub mod Commands
+pub mod FaultLines
 pub mod Laws
 pub mod Lines
+pub mod Making
 pub mod Numbers
 pub mod Outcomes
 pub mod Questions

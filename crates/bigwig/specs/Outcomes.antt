@@ -1,7 +1,8 @@
 -- What the program comes to: its status, and what is then printed, drawn and given back.
 use Rattle.std.specs.Prelude.{◌≡◌, ◌⊎◌, ◌<◌, ◌≤◌, ℕ, List, [], ◌∷◌, ◌++◌, length, Option, Some, codes, decimal}
 use Rattle.std.specs.Io.KnownBytes.{Appends}
-use Rattle.bw_lang.specs.declared.service.Service.{Service}
+use Rattle.bw_http.specs.declared.replies.Reply.{Reply}
+use Rattle.bw_model.specs.Runs.{At}
 use Rattle.bw_model.specs.Sessions.{World, empty}
 use Rattle.bw_out.specs.Causes.{Shows}
 use Rattle.bw_out.specs.Doors.{Returned, Asks}
@@ -10,7 +11,8 @@ use Rattle.bw_out.specs.Writes.{AppendsPart}
 use Rattle.bw_answer.specs.Answers.{Place, Course, AreLeft}
 use Rattle.bw_answer.specs.declared.ends.StreamEnd.{StreamEnd}
 use Rattle.bw_answer.specs.declared.ends.StreamEnd.TheVariants as ends
-use Rattle.bigwig.specs.Asked.{Work}
+use Rattle.bw_sound.specs.Good.{AreGood}
+use Rattle.bigwig.specs.Asked.{Ruled, Work}
 use Rattle.bigwig.specs.Asked.Work.{prints, replays, serves}
 use Rattle.bigwig.specs.Questions.{Said, Question, line}
 use Rattle.bigwig.specs.declared.status.Status.{Status}
@@ -36,13 +38,20 @@ pub record Between : Type 0 where
   pub keys : Coming
   pub steps : ℕ
 
--- these bytes were answered by a run of at most so many messages, whose replies are appended to what was held; `left`
--- is what was not read
-pub record IsStreamed (most : ℕ) (service : Service) (from : Between) (bytes : List ℕ) (to : Between) (held now left : Option (List ℕ)) (end : StreamEnd) : Type 0 where
+-- a stream of these bytes begins there
+abbrev pub begins : Between → List ℕ → At
+begins from bytes = record { world = from.world; bytes = bytes; keys = from.keys }
+
+-- These bytes were answered by a run of at most so many messages, whose replies are appended to what was held; `left` is
+-- what was not read. Each page among the replies is good: it is valid by the schema, and a shown page has each field that
+-- its show receives.
+pub record IsStreamed (most : ℕ) (ruled : Ruled) (from : Between) (bytes : List ℕ) (to : Between) (held now left : Option (List ℕ))
+    (end : StreamEnd) : Type 0 where
   pub old : Place
   pub new : Place
   pub rest : List ℕ
-  pub course : Course service most (record { world = from.world; bytes = bytes; keys = from.keys }) (record { world = to.world; bytes = rest; keys = to.keys }) old new end
+  pub course : Course ruled.service most (begins from bytes) (begins to rest) old new end
+  pub pages : (replies : List Reply) → AreGood ruled.service ruled.schema (begins from bytes) replies
   pub unhandled : AreLeft new.taken left rest
   pub held_is : old.held ≡ held
   pub now_is : new.held ≡ now
@@ -65,33 +74,33 @@ pub record IsSaid (what : Said) (before after : Outside) (status : Status) : Typ
   pub kept : after ≡ record before { printed = after.printed }
 
 -- the requests of a file were answered on `out`, from the world in which nothing was requested yet
-pub record IsReplayed (tree : Service) (stream : List ℕ) (most : ℕ) (before after : Outside) (status : Status) : Type 0 where
+pub record IsReplayed (ruled : Ruled) (stream : List ℕ) (most : ℕ) (before after : Outside) (status : Status) : Type 0 where
   pub end : StreamEnd
   pub status_is : status ≡ status_of end
   pub left : Option (List ℕ)
   pub streamed : (keys : Coming) → before.keys ≡ Some keys → (to : Between) × (after.keys ≡ Some to.keys) × (after.steps ≡ to.steps)
-      × IsStreamed most tree (record { world = empty tree; keys = keys; steps = before.steps }) stream to before.printed after.printed left end
+      × IsStreamed most ruled (record { world = empty ruled.service; keys = keys; steps = before.steps }) stream to before.printed after.printed left end
   pub kept : (after.asked ≡ before.asked) × (after.coming ≡ before.coming) × (after.returned ≡ before.returned)
 
 -- A link that had these bytes was answered and given back: by a run of at most one message, and a fault on it is what
 -- its counts show.
-pub record IsServed (service : Service) (from : Between) (bytes : List ℕ) (back : Returned) (to : Between) : Type 0 where
+pub record IsServed (ruled : Ruled) (from : Between) (bytes : List ℕ) (back : Returned) (to : Between) : Type 0 where
   pub end : StreamEnd
-  pub streamed : IsStreamed 1 service from bytes to (Some []) back.written back.unread end
+  pub streamed : IsStreamed 1 ruled from bytes to (Some []) back.written back.unread end
   pub read_fault : Shows (end ≡ ends.ReadFault) 0 back.read_faults
   pub write_fault : Shows (end ≡ ends.WriteFault) 0 back.write_faults
 
 -- links were given back, each one served, in the order in which they came and over one world; the rest is to come
-abbrev pub AreServed : Service → Between → List (List ℕ) → List Returned → Between → List (List ℕ) → Type 0
-AreServed service from links [] to rest = (to ≡ from) × (rest ≡ links)
-AreServed service from links (back ∷ backs) to rest =
-    (bytes : List ℕ) × (more : List (List ℕ)) × (mid : Between) × (links ≡ bytes ∷ more) × IsServed service from bytes back mid
-    × AreServed service mid more backs to rest
+abbrev pub AreServed : Ruled → Between → List (List ℕ) → List Returned → Between → List (List ℕ) → Type 0
+AreServed ruled from links [] to rest = (to ≡ from) × (rest ≡ links)
+AreServed ruled from links (back ∷ backs) to rest =
+    (bytes : List ℕ) × (more : List (List ℕ)) × (mid : Between) × (links ≡ bytes ∷ more) × IsServed ruled from bytes back mid
+    × AreServed ruled mid more backs to rest
 
 -- these links were served and given back behind those of before, and this is left of the door and the keys
-pub record AreGivenBack (service : Service) (from : Between) (links : List (List ℕ)) (given backs : List Returned) (rest : List (List ℕ)) (to : Between)
+pub record AreGivenBack (ruled : Ruled) (from : Between) (links : List (List ℕ)) (given backs : List Returned) (rest : List (List ℕ)) (to : Between)
     (after : Outside) : Type 0 where
-  pub served : AreServed service from links backs to rest
+  pub served : AreServed ruled from links backs to rest
   pub returned : after.returned ≡ Some (given ++ backs)
   pub coming : after.coming ≡ Some rest
   pub keys : after.keys ≡ Some to.keys
@@ -104,11 +113,11 @@ IsOver most backs rest status =
     ((status ≡ Done) × ((rest ≡ []) ⊎ (length backs ≡ most))) ⊎ ((status ≡ DoorFault) × (length backs < most))
 
 -- at most so many links were served from this model world on, where the keys and the door tell
-abbrev pub ServesLinks : Service → World → ℕ → Outside → Outside → Status → Type 0
-ServesLinks service world most before after status =
+abbrev pub ServesLinks : Ruled → World → ℕ → Outside → Outside → Status → Type 0
+ServesLinks ruled world most before after status =
     (keys : Coming) → before.keys ≡ Some keys → (links : List (List ℕ)) → before.coming ≡ Some links → (given : List Returned) → before.returned ≡ Some given
     → (backs : List Returned) × (rest : List (List ℕ)) × (to : Between)
-    × AreGivenBack service (record { world = world; keys = keys; steps = before.steps }) links given backs rest to after
+    × AreGivenBack ruled (record { world = world; keys = keys; steps = before.steps }) links given backs rest to after
     × (length backs ≤ most) × IsOver most backs rest status
 
 abbrev pub serving_line : ℕ → List ℕ
@@ -117,18 +126,18 @@ serving_line port = codes "serving " ++ line (decimal port)
 -- The port couldn't be listened on, and nothing else has changed; or it was asked for and the line that says so was
 -- printed in a first part; or the whole line was, and then links were served from the world in which nothing was
 -- requested yet.
-pub data IsServing (tree : Service) (port most : ℕ) (before after : Outside) (status : Status) : Type 0 where
-  no_port : status ≡ DoorFault → after ≡ record before { asked = after.asked } → IsServing tree port most before after status
+pub data IsServing (ruled : Ruled) (port most : ℕ) (before after : Outside) (status : Status) : Type 0 where
+  no_port : status ≡ DoorFault → after ≡ record before { asked = after.asked } → IsServing ruled port most before after status
   no_line : status ≡ WriteFault → Asks after.asked port → AppendsPart before.printed after.printed (serving_line port)
-      → after ≡ record before { asked = after.asked; printed = after.printed } → IsServing tree port most before after status
+      → after ≡ record before { asked = after.asked; printed = after.printed } → IsServing ruled port most before after status
   links_served : (status ≡ Done) ⊎ (status ≡ DoorFault) → Asks after.asked port → Appends before.printed after.printed (serving_line port)
-      → ServesLinks tree (empty tree) most before after status → IsServing tree port most before after status
+      → ServesLinks ruled (empty ruled.service) most before after status → IsServing ruled port most before after status
 
 -- what comes of the work
 abbrev pub IsDone : Work → Outside → Outside → Status → Type 0
 IsDone (prints text) before after status = IsSaid (record { status = Done; text = text }) before after status
-IsDone (replays tree stream most) before after status = IsReplayed tree stream most before after status
-IsDone (serves tree port most) before after status = IsServing tree port most before after status
+IsDone (replays ruled stream most) before after status = IsReplayed ruled stream most before after status
+IsDone (serves ruled port most) before after status = IsServing ruled port most before after status
 
 -- What comes of the questions. What is said is printed; or the work is done; or, after a read fault or for want of
 -- memory, nothing has changed.

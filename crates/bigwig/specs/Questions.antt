@@ -31,16 +31,9 @@ abbrev pub ◌>>=◌ : {A B : Type 0} → Question A → (A → Question B) → 
 abbrev pub found : {A : Type 0} → A → Question A
 found value = record { gives = λ b. b ≡ value; says = λ said. ⊥ }
 
--- The question is answered, and in one way: it gives one value, or something is said, with one status.
-pub record IsDecided {A : Type 0} (question : Question A) : Type 0 where
-  pub some : ((a : A) × question.gives a) ⊎ ((said : Said) × question.says said)
-  pub once : (a b : A) → question.gives a → question.gives b → a ≡ b
-  pub not_both : (a : A) (said : Said) → question.gives a → question.says said → ⊥
-  pub one_status : (said other : Said) → question.says said → question.says other → said.status ≡ other.status
-
 -- the code stopped at a question; a read fault and want of memory are free here, and have their causes elsewhere
 abbrev pub IsStop : {A : Type 0} → Question A → Stop → Type 0
-IsStop question (Says refusal text) = question.says (record { status = status_for refusal; text = line text.items })
+IsStop question (Says refusal text) = question.says (record { status = status_for refusal; text = text.items })
 IsStop question ReadFault = ⊤
 IsStop question Memory = ⊤
 

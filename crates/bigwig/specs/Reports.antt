@@ -1,23 +1,35 @@
 -- What the code stops with, and what comes of it.
 use Rattle.std.specs.Prelude.{◌≡◌, ℕ, List, Option, ⊤}
+use Rattle.bw_check.specs.declared.fault.CheckFault.{CheckFault}
+use Rattle.bw_check.specs.declared.fault.CheckFault.TheVariants as checks
 use Rattle.bigwig.specs.Codes.{status_for}
-use Rattle.bigwig.specs.Lines.{no_file_line}
+use Rattle.bigwig.specs.FaultLines.{check_text}
 use Rattle.bigwig.specs.Outcomes.{Prints}
 use Rattle.bigwig.specs.Questions.{line}
+use Rattle.bigwig.specs.declared.status.Refusal.{Refusal}
 use Rattle.bigwig.specs.declared.status.Refusal.TheVariants as refusals
 use Rattle.bigwig.specs.declared.status.Status.{Status}
 use Rattle.bigwig.specs.declared.status.Status.TheVariants as status
 use Rattle.bigwig.specs.declared.stop.Stop.{Stop}
 use Rattle.bigwig.specs.declared.stop.Stop.TheVariants.{Says, ReadFault, Memory}
 
--- a refusal is printed; a read fault and want of memory are not
+-- the lines of a refusal are printed; a read fault and want of memory are not
 abbrev pub IsReported : Stop → Option (List ℕ) → Option (List ℕ) → Status → Type 0
-IsReported (Says refusal text) held now result = Prints (record { status = status_for refusal; text = line text.items }) held now result
+IsReported (Says refusal text) held now result = Prints (record { status = status_for refusal; text = text.items }) held now result
 IsReported ReadFault held now result = (result ≡ status.ReadFault) × (now ≡ held)
 IsReported Memory held now result = (result ≡ status.Memory) × (now ≡ held)
 
--- there is no file of this name, and the line says so, if there was memory for it
-abbrev pub IsAbsent : List ℕ → Stop → Type 0
-IsAbsent name (Says refusal text) = (refusal ≡ refusals.File) × (text.items ≡ no_file_line name)
-IsAbsent name ReadFault = ⊥
-IsAbsent name Memory = ⊤
+-- this is refused by this text, if there was memory for it
+abbrev pub SaysText : Refusal → List ℕ → Stop → Type 0
+SaysText refusal text (Says other said) = (other ≡ refusal) × (said.items ≡ text)
+SaysText refusal text ReadFault = ⊥
+SaysText refusal text Memory = ⊤
+
+-- and by one line
+abbrev pub SaysLine : Refusal → List ℕ → Stop → Type 0
+SaysLine refusal text = SaysText refusal (line text)
+
+-- why a service isn't accepted, whose templates have these names; want of memory has no text
+abbrev pub SaysWhy : List (List ℕ) → CheckFault → Stop → Type 0
+SaysWhy names checks.Memory stop = stop ≡ Memory
+SaysWhy names fault stop = SaysText refusals.Service (check_text names fault) stop

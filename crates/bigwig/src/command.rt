@@ -1,5 +1,5 @@
 //! What the words of the command line ask for.
-ghost use Rattle.std.specs.Prelude.{◌≡◌, None, Some, IfOk, IsErrOf};
+ghost use Rattle.std.specs.Prelude.{◌≡◌, None, Some, IfOk, IfErr, IsErrOf};
 ghost use Rattle.bigwig.specs.Commands as spec;
 ghost use Rattle.bigwig.specs.Numbers.{number_or};
 ghost use Rattle.bigwig.specs.Words as words;
@@ -21,15 +21,37 @@ const PORT_MOST: u32 = 65_535;
 /// The port that is served where none is named.
 const PORT: u16 = 8080;
 
+/// The greatest number of workers.
+const WORKERS_MOST: u32 = 16;
+
+/// The greatest number of pages of a made service.
+const PAGES_MOST: u32 = 250;
+
+/// What a service is judged by.
+#[derive(Debug, Drop)]
+pub struct Judging {
+    /// The name of the schema file. Where there is none, the built-in schema is meant.
+    pub schema: Option<Text>,
+    /// How many workers judge it, from 1 to 16.
+    pub workers: u32,
+}
+
 /// What is asked for.
 #[derive(Debug, Drop)]
 pub enum Command {
+    /// To say whether a service is accepted.
+    Check {
+        /// The name of the service file.
+        service: Text,
+        judging: Judging,
+    },
     /// To answer requests.
     Replay {
         /// The name of the service file.
         service: Text,
         /// The name of the file of requests.
         requests: Text,
+        judging: Judging,
         /// The greatest number of requests that are answered.
         most: u32,
     },
@@ -37,6 +59,7 @@ pub enum Command {
     Serve {
         /// The name of the service file.
         service: Text,
+        judging: Judging,
         /// The port.
         port: u16,
         /// The greatest number of links that are served.
@@ -49,12 +72,19 @@ pub enum Command {
         /// The name of the schema file. Where there is none, the built-in schema is meant.
         schema: Option<Text>,
     },
+    /// To make a service, check it and run it.
+    Make {
+        /// How many pages it has, from 1 to 250.
+        count: u32,
+        /// How many workers judge it, from 1 to 16.
+        workers: u32,
+    },
 }
 
 /// The command that the words give. `Refused` comes exactly where they are refused, and `Memory` for want of memory
 /// alone.
 pub fn read_words(alloc: Global, words: &Words) -> Result<Command, WordsFault>
-    ensures ok { IfOk result (λ c. spec.command_of words.now ≡ Some c) }
+    ensures ok { IfOk result (λ c. (spec.command_of words.now ≡ Some c) × spec.IsInRange c) }
     ensures refused { IsErrOf result WordsFault.Refused → spec.command_of words.now ≡ None }
 {
     match texts_of(alloc, words) {
@@ -68,94 +98,111 @@ pub fn read_words(alloc: Global, words: &Words) -> Result<Command, WordsFault>
 
 /// The command that is written so.
 fn command_by(alloc: Global, line: &Line<'_>) -> Result<Command, WordsFault>
-    ensures ok { IfOk result (λ c. spec.command_by (words.line_of line.now) ≡ Some c) }
+    ensures ok { IfOk result (λ c. (spec.command_by (words.line_of line.now) ≡ Some c) × spec.IsInRange c) }
     ensures refused { IsErrOf result WordsFault.Refused → spec.command_by (words.line_of line.now) ≡ None }
 {
-    match line.command {
-        Some(name) => {
-            if name == "replay" {
-                replay_by(alloc, line)
-            } else if name == "serve" {
-                serve_by(alloc, line)
-            } else if name == "valid" {
-                valid_by(alloc, line)
-            } else {
-                Err(WordsFault::Refused)
-            }
-        }
-        None => Err(WordsFault::Refused),
+    let name = line.command.ok_or(WordsFault::Refused)?;
+    if name == "check" {
+        check_by(alloc, line)
+    } else if name == "replay" {
+        replay_by(alloc, line)
+    } else if name == "serve" {
+        serve_by(alloc, line)
+    } else if name == "valid" {
+        valid_by(alloc, line)
+    } else if name == "make" {
+        make_by(line)
+    } else {
+        Err(WordsFault::Refused)
     }
 }
 
-/// Whether no option is there but the limit.
-fn has_limit_alone(line: &Line<'_>) -> bool
-    ensures { result ≡ spec.has_limit_alone (words.line_of line.now) }
+/// A text of its own.
+fn owned(alloc: Global, text: &str) -> Result<Text, WordsFault>
+    ensures ok { IfOk result (λ own. own ≡ text.now) }
+    ensures memory { IfErr result (λ e. e ≡ WordsFault.Memory) }
 {
-    line.schema.is_none() && line.workers.is_none() && line.port.is_none()
+    match Text::of(alloc, text) {
+        Ok(own) => Ok(own),
+        Err(Memory) => Err(WordsFault::Memory),
+    }
+}
+
+/// The same, where there is one.
+fn owned_option(alloc: Global, text: Option<&str>) -> Result<Option<Text>, WordsFault>
+    ensures ok { IfOk result (λ own. own ≡ words.text_of text.entry) }
+    ensures memory { IfErr result (λ e. e ≡ WordsFault.Memory) }
+{
+    match text {
+        Some(text) => Ok(Some(owned(alloc, text)?)),
+        None => Ok(None),
+    }
+}
+
+/// What a service is judged by: the schema that is named, if one is, and by 1 worker where no number is named.
+fn judging_by(alloc: Global, line: &Line<'_>) -> Result<Judging, WordsFault>
+    ensures ok { IfOk result (λ j. (spec.judging_by (words.line_of line.now) ≡ Some j) × spec.AreWorkers j.workers) }
+    ensures refused { IsErrOf result WordsFault.Refused → spec.judging_by (words.line_of line.now) ≡ None }
+{
+    let workers = number_or(1, WORKERS_MOST, 1, line.workers).ok_or(WordsFault::Refused)?;
+    let schema = owned_option(alloc, line.schema)?;
+    Ok(Judging { schema, workers })
+}
+
+/// `check SERVICE`.
+fn check_by(alloc: Global, line: &Line<'_>) -> Result<Command, WordsFault>
+    ensures ok { IfOk result (λ c. (spec.check_by (words.line_of line.now) ≡ Some c) × spec.IsInRange c) }
+    ensures refused { IsErrOf result WordsFault.Refused → spec.check_by (words.line_of line.now) ≡ None }
+{
+    if line.limit.is_some() || line.port.is_some() || line.second.is_some() {
+        return Err(WordsFault::Refused);
+    }
+    let service = line.first.ok_or(WordsFault::Refused)?;
+    let judging = judging_by(alloc, line)?;
+    Ok(Command::Check {
+        service: owned(alloc, service)?,
+        judging,
+    })
 }
 
 /// `replay SERVICE REQUESTS`.
 fn replay_by(alloc: Global, line: &Line<'_>) -> Result<Command, WordsFault>
-    ensures ok { IfOk result (λ c. spec.replay_by (words.line_of line.now) ≡ Some c) }
+    ensures ok { IfOk result (λ c. (spec.replay_by (words.line_of line.now) ≡ Some c) × spec.IsInRange c) }
     ensures refused { IsErrOf result WordsFault.Refused → spec.replay_by (words.line_of line.now) ≡ None }
 {
-    if !has_limit_alone(line) {
+    if line.port.is_some() {
         return Err(WordsFault::Refused);
     }
-    let most = number_or(1, REQUESTS_MOST, REQUESTS_MOST, line.limit);
-    replay_of(alloc, line.first, line.second, most)
-}
-
-/// The same of its parts.
-fn replay_of(
-    alloc: Global,
-    service: Option<&str>,
-    requests: Option<&str>,
-    most: Option<u32>,
-) -> Result<Command, WordsFault>
-    ensures ok { IfOk result (λ c. spec.replay_of (words.text_of service.entry) (words.text_of requests.entry) most ≡ Some c) }
-    ensures refused { IsErrOf result WordsFault.Refused → spec.replay_of (words.text_of service.entry) (words.text_of requests.entry) most ≡ None }
-{
-    let Some(service) = service else {
-        return Err(WordsFault::Refused);
-    };
-    let Some(requests) = requests else {
-        return Err(WordsFault::Refused);
-    };
-    let Some(most) = most else {
-        return Err(WordsFault::Refused);
-    };
-    let Ok(service) = Text::of(alloc, service) else {
-        return Err(WordsFault::Memory);
-    };
-    let Ok(requests) = Text::of(alloc, requests) else {
-        return Err(WordsFault::Memory);
-    };
+    let service = line.first.ok_or(WordsFault::Refused)?;
+    let requests = line.second.ok_or(WordsFault::Refused)?;
+    let most = number_or(1, REQUESTS_MOST, REQUESTS_MOST, line.limit).ok_or(WordsFault::Refused)?;
+    let judging = judging_by(alloc, line)?;
     Ok(Command::Replay {
-        service,
-        requests,
+        service: owned(alloc, service)?,
+        requests: owned(alloc, requests)?,
+        judging,
         most,
     })
 }
 
-/// Whether no option is there but the limit and the port.
-fn has_limit_and_port_alone(line: &Line<'_>) -> bool
-    ensures { result ≡ spec.has_limit_and_port_alone (words.line_of line.now) }
-{
-    line.schema.is_none() && line.workers.is_none()
-}
-
 /// `serve SERVICE`.
 fn serve_by(alloc: Global, line: &Line<'_>) -> Result<Command, WordsFault>
-    ensures ok { IfOk result (λ c. spec.serve_by (words.line_of line.now) ≡ Some c) }
+    ensures ok { IfOk result (λ c. (spec.serve_by (words.line_of line.now) ≡ Some c) × spec.IsInRange c) }
     ensures refused { IsErrOf result WordsFault.Refused → spec.serve_by (words.line_of line.now) ≡ None }
 {
-    if !has_limit_and_port_alone(line) {
+    if line.second.is_some() {
         return Err(WordsFault::Refused);
     }
-    let port = port_of(line.port);
-    let most = number_or(1, LINKS_MOST, LINKS_MOST, line.limit);
-    serve_of(alloc, line.first, line.second, port, most)
+    let service = line.first.ok_or(WordsFault::Refused)?;
+    let port = port_of(line.port).ok_or(WordsFault::Refused)?;
+    let most = number_or(1, LINKS_MOST, LINKS_MOST, line.limit).ok_or(WordsFault::Refused)?;
+    let judging = judging_by(alloc, line)?;
+    Ok(Command::Serve {
+        service: owned(alloc, service)?,
+        judging,
+        port,
+        most,
+    })
 }
 
 /// The port that is named, and 8080 where none is.
@@ -171,91 +218,39 @@ fn port_of(text: Option<&str>) -> Option<u16>
     }
 }
 
-/// `serve` of its parts.
-fn serve_of(
-    alloc: Global,
-    service: Option<&str>,
-    second: Option<&str>,
-    port: Option<u16>,
-    most: Option<u32>,
-) -> Result<Command, WordsFault>
-    ensures ok { IfOk result (λ c. spec.serve_of (words.text_of service.entry) (words.text_of second.entry) port most ≡ Some c) }
-    ensures refused { IsErrOf result WordsFault.Refused → spec.serve_of (words.text_of service.entry) (words.text_of second.entry) port most ≡ None }
-{
-    let Some(service) = service else {
-        return Err(WordsFault::Refused);
-    };
-    if second.is_some() {
-        return Err(WordsFault::Refused);
-    }
-    let Some(port) = port else {
-        return Err(WordsFault::Refused);
-    };
-    let Some(most) = most else {
-        return Err(WordsFault::Refused);
-    };
-    match Text::of(alloc, service) {
-        Ok(service) => Ok(Command::Serve {
-            service,
-            port,
-            most,
-        }),
-        Err(Memory) => Err(WordsFault::Memory),
-    }
-}
-
-/// Whether no option is there but the schema.
-fn has_schema_alone(line: &Line<'_>) -> bool
-    ensures { result ≡ spec.has_schema_alone (words.line_of line.now) }
-{
-    line.workers.is_none() && line.limit.is_none() && line.port.is_none()
-}
-
 /// `valid PAGE`.
 fn valid_by(alloc: Global, line: &Line<'_>) -> Result<Command, WordsFault>
-    ensures ok { IfOk result (λ c. spec.valid_by (words.line_of line.now) ≡ Some c) }
+    ensures ok { IfOk result (λ c. (spec.valid_by (words.line_of line.now) ≡ Some c) × spec.IsInRange c) }
     ensures refused { IsErrOf result WordsFault.Refused → spec.valid_by (words.line_of line.now) ≡ None }
 {
-    if !has_schema_alone(line) {
+    if line.workers.is_some()
+        || line.limit.is_some()
+        || line.port.is_some()
+        || line.second.is_some()
+    {
         return Err(WordsFault::Refused);
     }
-    valid_of(alloc, line.first, line.second, line.schema)
+    let page = line.first.ok_or(WordsFault::Refused)?;
+    Ok(Command::Valid {
+        page: owned(alloc, page)?,
+        schema: owned_option(alloc, line.schema)?,
+    })
 }
 
-/// The same of its parts.
-fn valid_of(
-    alloc: Global,
-    page: Option<&str>,
-    second: Option<&str>,
-    schema: Option<&str>,
-) -> Result<Command, WordsFault>
-    ensures ok { IfOk result (λ c. spec.valid_of (words.text_of page.entry) (words.text_of second.entry) (words.text_of schema.entry) ≡ Some c) }
-    ensures refused { IsErrOf result WordsFault.Refused → spec.valid_of (words.text_of page.entry) (words.text_of second.entry) (words.text_of schema.entry) ≡ None }
+/// `make N`.
+fn make_by(line: &Line<'_>) -> Result<Command, WordsFault>
+    ensures ok { IfOk result (λ c. (spec.make_by (words.line_of line.now) ≡ Some c) × spec.IsInRange c) }
+    ensures refused { IfErr result (λ e. (e ≡ WordsFault.Refused) × (spec.make_by (words.line_of line.now) ≡ None)) }
 {
-    let Some(page) = page else {
-        return Err(WordsFault::Refused);
-    };
-    if second.is_some() {
+    if line.schema.is_some()
+        || line.limit.is_some()
+        || line.port.is_some()
+        || line.second.is_some()
+    {
         return Err(WordsFault::Refused);
     }
-    let Ok(page) = Text::of(alloc, page) else {
-        return Err(WordsFault::Memory);
-    };
-    match owned(alloc, schema) {
-        Ok(schema) => Ok(Command::Valid { page, schema }),
-        Err(Memory) => Err(WordsFault::Memory),
-    }
-}
-
-/// A text of its own, where there is one.
-fn owned(alloc: Global, text: Option<&str>) -> Result<Option<Text>, Memory>
-    ensures { IfOk result (λ own. own ≡ words.text_of text.entry) }
-{
-    match text {
-        Some(text) => match Text::of(alloc, text) {
-            Ok(own) => Ok(Some(own)),
-            Err(Memory) => Err(Memory),
-        },
-        None => Ok(None),
-    }
+    let count = line.first.ok_or(WordsFault::Refused)?;
+    let count = number_in(1, PAGES_MOST, count).ok_or(WordsFault::Refused)?;
+    let workers = number_or(1, WORKERS_MOST, 1, line.workers).ok_or(WordsFault::Refused)?;
+    Ok(Command::Make { count, workers })
 }

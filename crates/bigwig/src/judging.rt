@@ -1,25 +1,23 @@
 //! Whether a page is valid: the page file is read first, then the schema.
-ghost use Rattle.std.specs.Prelude.{◌≡◌, ◌<◌, ◌^◌, codes, IfOk, IfSome, IsErrOf, Some};
+ghost use Rattle.std.specs.Prelude.{◌≡◌, ◌<◌, ◌^◌, codes, IfOk, IfSome, IsErrOf};
 ghost use Rattle.bw_lang.specs.Document.Documents.{elements};
 ghost use Rattle.bw_out.specs.Causes.{Shows};
-ghost use Rattle.bigwig.specs.Asked.{page, page_file, rules, schema, judged, ruled, work};
+ghost use Rattle.bigwig.specs.Asked.{page, page_file, judged, ruled, work};
 ghost use Rattle.bigwig.specs.Asked.Work.{prints};
 ghost use Rattle.bigwig.specs.Questions.{IsAnswer, line};
 ghost use Rattle.bigwig.specs.declared.command.Command.TheVariants as commands;
 
-use crate::lines::{breach_line, no_page_line, schema_line};
+use crate::lines::{breach_line, no_page_line};
 use crate::loading::{fetch_bytes, refused};
+use crate::schemas::load_schema;
 use crate::status::Refusal;
 use crate::stop::Stop;
-use bw_lang::{Memory, Text, Tree};
+use bw_lang::{Text, Tree};
 use bw_out::Files;
 use bw_read::{PageFault, read_page};
-use bw_schema::{Schema, built_in, read_schema};
+use bw_schema::Schema;
 use bw_valid::valid;
 use std::alloc::Global;
-
-/// One byte more than a schema file may have.
-const SCHEMA_FRONT: usize = 1_048_577;
 
 /// One byte more than a page file may have.
 const PAGE_FRONT: usize = 4_195_329;
@@ -31,7 +29,8 @@ pub fn load_valid<F: Files>(
     name: &str,
     named: &Option<Text>,
 ) -> Result<(), Stop>
-    ensures answers { IfSome (F.told files.old) (λ disk. IsAnswer (λ done. prints (line (codes "valid"))) (work disk (commands.Valid name.now named.now)) result) }
+    ensures answers { IfSome (F.told files.old) (λ disk.
+        IsAnswer (λ done. prints (line (codes "valid"))) (work disk (commands.Valid name.now named.now)) result) }
     ensures told { F.told files.new ≡ F.told files.old }
     ensures read_fault { Shows (IsErrOf result Stop.ReadFault) (F.faults files.old) (F.faults files.new) }
 {
@@ -94,43 +93,5 @@ fn judge(alloc: Global, schema: &Schema, tree: &Tree) -> Result<(), Stop>
     match valid(schema, tree) {
         Ok(()) => Ok(()),
         Err(breach) => Err(refused(Refusal::Page, breach_line(alloc, breach))),
-    }
-}
-
-/// The schema of a file, or the built-in one where none is named.
-fn load_schema<F: Files>(alloc: Global, files: &mut F, named: &Option<Text>) -> Result<Schema, Stop>
-    ensures answers { IfSome (F.told files.old) (λ disk. IsAnswer (λ s. s) (schema disk named.now) result) }
-    ensures told { F.told files.new ≡ F.told files.old }
-    ensures read_fault { Shows (IsErrOf result Stop.ReadFault) (F.faults files.old) (F.faults files.new) }
-{
-    match named {
-        None => match built_in(alloc) {
-            Ok(schema) => Ok(schema),
-            Err(Memory) => Err(Stop::Memory),
-        },
-        Some(name) => load_rules(alloc, files, name.as_str()),
-    }
-}
-
-/// The schema of a file, which is closed again: of its first 1,048,577 bytes, which tell what all of them are.
-fn load_rules<F: Files>(alloc: Global, files: &mut F, name: &str) -> Result<Schema, Stop>
-    ensures answers { IfSome (F.told files.old) (λ disk. IsAnswer (λ s. s) (schema disk (Some name.now)) result) }
-    ensures told { F.told files.new ≡ F.told files.old }
-    ensures read_fault { Shows (IsErrOf result Stop.ReadFault) (F.faults files.old) (F.faults files.new) }
-{
-    match fetch_bytes(alloc, files, name, SCHEMA_FRONT) {
-        Ok(bytes) => rules_of(alloc, &bytes),
-        Err(stop) => Err(stop),
-    }
-}
-
-/// The schema that these bytes read as.
-fn rules_of(alloc: Global, bytes: &[u8]) -> Result<Schema, Stop>
-    ensures answers { IsAnswer (λ s. s) (rules bytes.now) result }
-    ensures no_read { IsErrOf result Stop.ReadFault → ⊥ }
-{
-    match read_schema(alloc, bytes) {
-        Ok(schema) => Ok(schema),
-        Err(fault) => Err(refused(Refusal::Schema, schema_line(alloc, &fault))),
     }
 }

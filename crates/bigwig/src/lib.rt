@@ -1,14 +1,19 @@
 //! All that the program does: `run` takes the words of the command line and the outside, and ends with a status.
 #![tactic(auto)]
 
+mod checking;
 mod command;
+mod fault_lines;
 mod judging;
 mod laws;
 mod lines;
 mod loading;
+mod making;
 mod numbers;
 mod program;
+mod replaying;
 mod report;
+mod schemas;
 mod serving;
 mod status;
 mod stop;

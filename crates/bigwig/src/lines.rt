@@ -137,7 +137,7 @@ fn kind_line(alloc: Global, wanted: Kind, found: Kind) -> Result<Vec<u8>, Memory
 }
 
 /// A byte of a field's name as it prints: the ends of lines as spaces.
-fn shown(byte: u8) -> u8
+pub fn shown(byte: u8) -> u8
     ensures { result ≡ spec.shown byte }
 {
     if byte == b'\n' {

@@ -2,19 +2,19 @@
 ghost use Rattle.std.specs.Prelude.{◌≡◌, ◌≢◌, List, ℕ, IfOk, IfErr, IfSome, IsErrOf, take, Some};
 ghost use Rattle.bw_lang.specs.Service.Reads.{IsReadable};
 ghost use Rattle.bw_out.specs.Causes.{Shows};
-ghost use Rattle.bigwig.specs.Asked.{file, service_file, served, accepted, small};
+ghost use Rattle.bigwig.specs.Asked.{file, typed, service_text, service_file};
+ghost use Rattle.bigwig.specs.Lines as lines;
 ghost use Rattle.bigwig.specs.Questions.{IsAnswer, IsStop};
-ghost use Rattle.bigwig.specs.Reports.{IsAbsent};
+ghost use Rattle.bigwig.specs.Reports.{SaysLine};
+ghost use Rattle.bigwig.specs.declared.status.Refusal.TheVariants as refusals;
 
-use crate::lines::{no_file_line, points_line, syntax_line, type_line};
+use crate::lines::{no_file_line, syntax_line, type_line};
 use crate::status::Refusal;
 use crate::stop::Stop;
-use bw_flow::FlowFault;
 use bw_lang::{Memory, Service};
 use bw_out::{Failed, Files, ReadStop, read_up_to};
 use bw_syntax::read_service;
 use bw_types::{Typed, resolve};
-use bw_world::Checked;
 use std::alloc::Global;
 
 /// One byte more than a service file may have.
@@ -22,19 +22,30 @@ const SERVICE_FRONT: usize = 1_048_577;
 
 /// That this is refused, or isn't there, with the line that says why.
 pub fn refused(refusal: Refusal, line: Result<Vec<u8>, Memory>) -> Stop
-    ensures line { IfOk line (λ l. result ≡ Stop.Says refusal l) }
+    ensures line { IfOk line (λ l. SaysLine refusal l.items result) }
     ensures memory { IfErr line (λ e. result ≡ Stop.Memory) }
     ensures no_read { result ≢ Stop.ReadFault }
 {
     match line {
-        Ok(line) => Stop::Says(refusal, line),
+        Ok(line) => said(refusal, line),
         Err(Memory) => Stop::Memory,
+    }
+}
+
+/// That this is refused, with a line to which its end is added.
+fn said(refusal: Refusal, line: Vec<u8>) -> Stop
+    ensures { SaysLine refusal line.items result }
+{
+    let mut text = line;
+    match text.push(b'\n') {
+        Ok(()) => Stop::Says(refusal, text),
+        Err(_) => Stop::Memory,
     }
 }
 
 /// That there is no file of this name.
 pub fn no_file(alloc: Global, name: &str) -> Stop
-    ensures { IsAbsent name.now result }
+    ensures { SaysLine refusals.File (lines.no_file_line name.now) result }
 {
     refused(Refusal::File, no_file_line(alloc, name))
 }
@@ -46,7 +57,8 @@ pub fn fetch_bytes<F: Files>(
     name: &str,
     most: usize,
 ) -> Result<Vec<u8>, Stop>
-    ensures found { IfOk result (λ bytes. IfSome (F.told files.old) (λ disk. (content : List ℕ) × (disk name.now ≡ Some content) × (bytes.items ≡ take most content))) }
+    ensures found { IfOk result (λ bytes. IfSome (F.told files.old)
+        (λ disk. (content : List ℕ) × (disk name.now ≡ Some content) × (bytes.items ≡ take most content))) }
     ensures stops { IfErr result (λ stop. IfSome (F.told files.old) (λ disk. IsStop (file disk name.now) stop)) }
     ensures told { F.told files.new ≡ F.told files.old }
     ensures read_fault { Shows (IsErrOf result Stop.ReadFault) (F.faults files.old) (F.faults files.new) }
@@ -67,48 +79,34 @@ pub fn fetch_bytes<F: Files>(
 }
 
 /// The service of a file, which is closed again: of its first 1,048,577 bytes, which tell what all of them are.
-pub fn load_service<F: Files>(alloc: Global, files: &mut F, name: &str) -> Result<Checked, Stop>
-    ensures answers { IfSome (F.told files.old) (λ disk. IsAnswer (λ c. c.typed.service) (service_file disk name.now) result) }
+pub fn load_service<F: Files>(alloc: Global, files: &mut F, name: &str) -> Result<Typed, Stop>
+    ensures answers { IfSome (F.told files.old) (λ disk. IsAnswer (λ t. t.service) (service_file disk name.now) result) }
     ensures told { F.told files.new ≡ F.told files.old }
     ensures read_fault { Shows (IsErrOf result Stop.ReadFault) (F.faults files.old) (F.faults files.new) }
 {
-    match fetch_bytes(alloc, files, name, SERVICE_FRONT) {
-        Ok(bytes) => load(alloc, &bytes),
-        Err(stop) => Err(stop),
-    }
+    let bytes = fetch_bytes(alloc, files, name, SERVICE_FRONT)?;
+    typed_of(alloc, &bytes)
 }
 
-/// The service that these bytes read as, where it is served.
-fn load(alloc: Global, bytes: &[u8]) -> Result<Checked, Stop>
-    ensures answers { IsAnswer (λ c. c.typed.service) (served bytes.now) result }
+/// The service that these bytes read as, where it is well typed.
+pub fn typed_of(alloc: Global, bytes: &[u8]) -> Result<Typed, Stop>
+    ensures answers { IsAnswer (λ t. t.service) (service_text bytes.now) result }
     ensures no_read { IsErrOf result Stop.ReadFault → ⊥ }
 {
     match read_service(alloc, bytes) {
-        Ok(service) => accept(alloc, service),
+        Ok(service) => resolved(alloc, service),
         Err(fault) => Err(refused(Refusal::Service, syntax_line(alloc, &fault))),
     }
 }
 
-/// The service with its flow, where it is well typed and has at most 4,096 points.
-fn accept(alloc: Global, service: Service) -> Result<Checked, Stop>
+/// A service, where it is well typed.
+fn resolved(alloc: Global, service: Service) -> Result<Typed, Stop>
     requires { IsReadable service }
-    ensures answers { IsAnswer (λ c. c.typed.service) (accepted service) result }
+    ensures answers { IsAnswer (λ t. t.service) (typed service) result }
     ensures no_read { IsErrOf result Stop.ReadFault → ⊥ }
 {
     match resolve(alloc, service) {
-        Ok(typed) => admit(alloc, typed),
+        Ok(typed) => Ok(typed),
         Err(fault) => Err(refused(Refusal::Service, type_line(alloc, &fault))),
-    }
-}
-
-/// The service with its flow, where it has at most 4,096 points.
-fn admit(alloc: Global, typed: Typed) -> Result<Checked, Stop>
-    ensures answers { IsAnswer (λ c. c.typed.service) (small typed.service) result }
-    ensures no_read { IsErrOf result Stop.ReadFault → ⊥ }
-{
-    match Checked::admit(alloc, typed) {
-        Ok(checked) => Ok(checked),
-        Err(FlowFault::TooMany(count)) => Err(refused(Refusal::Service, points_line(alloc, count))),
-        Err(FlowFault::Memory) => Err(Stop::Memory),
     }
 }

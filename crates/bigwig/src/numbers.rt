@@ -34,7 +34,7 @@ fn value(digits: &[u8]) -> u64
 /// The number that a text is, from `least` to `most`.
 pub fn number_in(least: u32, most: u32, text: &str) -> Option<u32>
     ensures is { result ≡ spec.number_in least most text.now }
-    ensures bound { IfSome result (λ n. n ≤ most) }
+    ensures bound { IfSome result (λ n. (least ≤ n) × (n ≤ most)) }
 {
     let bytes = text.as_bytes();
     if !is_number(bytes) {
@@ -50,7 +50,8 @@ pub fn number_in(least: u32, most: u32, text: &str) -> Option<u32>
 
 /// The number of an option, and `other` where the option isn't there.
 pub fn number_or(least: u32, most: u32, other: u32, text: Option<&str>) -> Option<u32>
-    ensures { result ≡ spec.number_or least most other (text_of text.entry) }
+    ensures is { result ≡ spec.number_or least most other (text_of text.entry) }
+    ensures bound { (least ≤ other) × (other ≤ most) → IfSome result (λ n. (least ≤ n) × (n ≤ most)) }
 {
     match text {
         None => Some(other),

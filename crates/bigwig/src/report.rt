@@ -7,7 +7,7 @@ ghost use Rattle.bigwig.specs.Reports.{IsReported};
 
 use crate::status::Status;
 use crate::stop::Stop;
-use bw_out::{Sink, WriteFault, write_parts};
+use bw_out::{Sink, WriteFault, write_all, write_parts};
 
 /// Prints a line, to which its end is added, and gives the status.
 pub fn print_line<W: Sink>(out: &mut W, status: Status, text: &[u8]) -> Status
@@ -16,6 +16,18 @@ pub fn print_line<W: Sink>(out: &mut W, status: Status, text: &[u8]) -> Status
     ensures write_fault { status ≢ Status.WriteFault → Shows (result ≡ Status.WriteFault) (W.write_faults out.old) (W.write_faults out.new) }
 {
     match write_parts(out, &[text, b"\n"]) {
+        Ok(()) => status,
+        Err(WriteFault) => Status::WriteFault,
+    }
+}
+
+/// Prints lines that have their ends, and gives the status.
+pub fn print_text<W: Sink>(out: &mut W, status: Status, text: &[u8]) -> Status
+    ensures prints { Prints (record { status = status; text = text.now }) (W.held out.old) (W.held out.new) result }
+    ensures status { (result ≡ status) ⊎ (result ≡ Status.WriteFault) }
+    ensures write_fault { status ≢ Status.WriteFault → Shows (result ≡ Status.WriteFault) (W.write_faults out.old) (W.write_faults out.new) }
+{
+    match write_all(out, text) {
         Ok(()) => status,
         Err(WriteFault) => Status::WriteFault,
     }
@@ -30,7 +42,7 @@ pub fn report<W: Sink>(out: &mut W, stop: Stop) -> Status
     ensures others { (result ≢ Status.Usage) × (result ≢ Status.DoorFault) }
 {
     match stop {
-        Stop::Says(refusal, text) => print_line(out, refusal.status(), &text),
+        Stop::Says(refusal, text) => print_text(out, refusal.status(), &text),
         Stop::ReadFault => Status::ReadFault,
         Stop::Memory => Status::Memory,
     }

@@ -1,38 +1,48 @@
 //! Links that are served, one after another, over one world.
 ghost use Rattle.std.specs.Prelude.{◌≡◌, ◌≢◌, ◌⊎◌, [], None, IfSome};
+ghost use Rattle.bw_cover.specs.Worlds.{Reached};
 ghost use Rattle.bw_model.specs.Sessions as model;
 ghost use Rattle.bw_out.specs.Causes.{HasCause, Shows};
 ghost use Rattle.bw_out.specs.Writes.{Writes};
 ghost use Rattle.bw_world.specs.Stands.{StandsFor};
-ghost use Rattle.bigwig.specs.Asked.{at_port, work};
+ghost use Rattle.bigwig.specs.Asked.{Ruled, at_port, work};
+ghost use Rattle.bigwig.specs.Checks.{IsRuled};
+ghost use Rattle.bigwig.specs.Commands.{AreWorkers};
 ghost use Rattle.bigwig.specs.Outcomes.{Comes, ServesLinks, outside, serving_line};
 ghost use Rattle.bigwig.specs.declared.command.Command.TheVariants as commands;
 
-use crate::loading::load_service;
+use crate::checking::load_checked;
+use crate::command::Judging;
 use crate::report::report;
 use crate::status::Status;
 use bw_answer::answer;
+use bw_check::Checked;
 use bw_http::Intake;
 use bw_lang::{Memory, Text};
-use bw_out::{Door, Failed, Files, Keys, Sink, Steps, WriteFault, write_parts};
-use bw_world::{Checked, World};
+use bw_out::{Door, Failed, Files, Keys, Pulse, Sink, Steps, WriteFault, write_parts};
+use bw_world::World;
 use itoa::Buffer;
 use std::alloc::Global;
 use std::sync::ledger::Ledger;
+use std::thread::Threads;
 
 /// `serve`: serves the links of a port.
-pub fn serve_command<F: Files, D: Door, K: Keys, W: Sink, L: Ledger>(
+pub fn serve_command<R: Threads + Sync, F: Files, D: Door, K: Keys, W: Sink, P: Pulse, L: Ledger>(
+    rt: &R,
     alloc: Global,
     service: &Text,
+    judging: &Judging,
     port: u16,
     most: u32,
     files: &mut F,
     door: &mut D,
     keys: &mut K,
     out: &mut W,
+    pulse: &P,
     steps: &mut Steps<L>,
 ) -> Status
-    ensures comes { IfSome (F.told files.old) (λ disk. Comes (work disk (commands.Serve service.now port most))
+    requires { AreWorkers judging.now.workers }
+    ensures comes { IfSome (F.told files.old) (λ disk. Comes (work disk (commands.Serve service.now judging.now port most))
         (outside (W.held out.old) (K.coming keys.old) (D.asked door.old) (D.coming door.old) (D.returned door.old) steps.old)
         (outside (W.held out.new) (K.coming keys.new) (D.asked door.new) (D.coming door.new) (D.returned door.new) steps.new) result) }
     ensures not_usage { result ≢ Status.Usage }
@@ -40,7 +50,7 @@ pub fn serve_command<F: Files, D: Door, K: Keys, W: Sink, L: Ledger>(
     ensures write_fault { Shows (result ≡ Status.WriteFault) (W.write_faults out.old) (W.write_faults out.new) }
     ensures door_fault { Shows (result ≡ Status.DoorFault) (D.faults door.old) (D.faults door.new) }
 {
-    match load_service(alloc, files, service.as_str()) {
+    match load_checked(rt, alloc, files, service.as_str(), judging, pulse) {
         Ok(checked) => serve_service(alloc, checked, port, most, door, keys, out, steps),
         Err(stop) => report(out, stop),
     }
@@ -57,7 +67,7 @@ fn serve_service<D: Door, K: Keys, W: Sink, L: Ledger>(
     out: &mut W,
     steps: &mut Steps<L>,
 ) -> Status
-    ensures comes { Comes (at_port port most checked.typed.service)
+    ensures comes { (ruled : Ruled) → IsRuled checked.typed.service ruled → Comes (at_port port most ruled)
         (outside (W.held out.old) (K.coming keys.old) (D.asked door.old) (D.coming door.old) (D.returned door.old) steps.old)
         (outside (W.held out.new) (K.coming keys.new) (D.asked door.new) (D.coming door.new) (D.returned door.new) steps.new) result }
     ensures others { (result ≢ Status.Usage) × (result ≢ Status.ReadFault) }
@@ -82,7 +92,7 @@ fn serve_world<D: Door, K: Keys, W: Sink, L: Ledger>(
     steps: &mut Steps<L>,
 ) -> Status
     requires { StandsFor world.old (model.empty world.old.service) }
-    ensures comes { Comes (at_port port most world.old.service)
+    ensures comes { (ruled : Ruled) → IsRuled world.old.service ruled → Comes (at_port port most ruled)
         (outside (W.held out.old) (K.coming keys.old) (D.asked door.old) (D.coming door.old) (D.returned door.old) steps.old)
         (outside (W.held out.new) (K.coming keys.new) (D.asked door.new) (D.coming door.new) (D.returned door.new) steps.new) result }
     ensures others { (result ≢ Status.Usage) × (result ≢ Status.ReadFault) }
@@ -118,7 +128,7 @@ fn serve_port<D: Door, K: Keys, W: Sink, L: Ledger>(
     steps: &mut Steps<L>,
 ) -> Status
     requires { StandsFor world.old (model.empty world.old.service) }
-    ensures comes { Comes (at_port port most world.old.service)
+    ensures comes { (ruled : Ruled) → IsRuled world.old.service ruled → Comes (at_port port most ruled)
         (outside (W.held out.old) (K.coming keys.old) (D.asked door.old) (D.coming door.old) (D.returned door.old) steps.old)
         (outside (W.held out.new) (K.coming keys.new) (D.asked door.new) (D.coming door.new) (D.returned door.new) steps.new) result }
     ensures others { (result ≢ Status.Usage) × (result ≢ Status.ReadFault) }
@@ -156,8 +166,8 @@ fn serve_links<D: Door, K: Keys, L: Ledger>(
     most: u32,
     steps: &mut Steps<L>,
 ) -> Status
-    ensures serves { (m : model.World) → StandsFor world.old m → ServesLinks world.old.service m most
-        (outside None (K.coming keys.old) (D.asked door.old) (D.coming door.old) (D.returned door.old) steps.old)
+    ensures serves { (ruled : Ruled) (m : model.World) → IsRuled world.old.service ruled → StandsFor world.old m → Reached ruled.service m
+        → ServesLinks ruled m most (outside None (K.coming keys.old) (D.asked door.old) (D.coming door.old) (D.returned door.old) steps.old)
         (outside None (K.coming keys.new) (D.asked door.new) (D.coming door.new) (D.returned door.new) steps.new) result }
     ensures ends { (result ≡ Status.Done) ⊎ (result ≡ Status.DoorFault) }
     ensures asked { D.asked door.new ≡ D.asked door.old }

@@ -32,6 +32,7 @@ use std::alloc::{AllocError, Global};
 use std::marker::Brand;
 use std::num::NonZeroUsize;
 use std::sync::ledger::{Blank, Ledger};
+use std::thread::Threads;
 
 /// The room of standard output.
 const ROOM: usize = 65_536;
@@ -64,17 +65,26 @@ struct RunCase<'a> {
 }
 
 /// Tries a run.
-pub fn try_case(alloc: Global, texts: &Texts<'_>, case: &Case<'_>) -> Result<Verdict, Fault> {
+pub fn try_case<R: Threads + Sync>(
+    rt: &R,
+    alloc: Global,
+    texts: &Texts<'_>,
+    case: &Case<'_>,
+) -> Result<Verdict, Fault> {
     let mut run_case = RunCase::new(alloc)?;
     for line in &case.lines {
         run_case.take(alloc, texts, *line)?;
     }
-    let got = outcome_of(alloc, &run_case)?;
+    let got = outcome_of(rt, alloc, &run_case)?;
     Ok(Verdict::of(run_case.wanted.shown(alloc)?, got.shown(alloc)?))
 }
 
 /// Tries the run of the service that is the case's name.
-pub fn try_service(alloc: Global, case: &Case<'_>) -> Result<Verdict, Fault> {
+pub fn try_service<R: Threads + Sync>(
+    rt: &R,
+    alloc: Global,
+    case: &Case<'_>,
+) -> Result<Verdict, Fault> {
     let mut run_case = RunCase::new(alloc)?;
     run_case.files.push(CaseFile::with(alloc, "s", case.name)?)?;
     run_case.files.push(CaseFile::with(alloc, "r", "")?)?;
@@ -84,7 +94,7 @@ pub fn try_service(alloc: Global, case: &Case<'_>) -> Result<Verdict, Fault> {
             _ => return Err(Fault::Malformed),
         }
     }
-    let got = outcome_of(alloc, &run_case)?;
+    let got = outcome_of(rt, alloc, &run_case)?;
     Ok(Verdict::of(run_case.wanted.shown(alloc)?, got.shown(alloc)?))
 }
 
@@ -192,7 +202,11 @@ impl<'a> RunCase<'a> {
 }
 
 /// Runs the program as the case says.
-fn outcome_of(alloc: Global, case: &RunCase<'_>) -> Result<Outcome, Fault> {
+fn outcome_of<R: Threads + Sync>(
+    rt: &R,
+    alloc: Global,
+    case: &RunCase<'_>,
+) -> Result<Outcome, Fault> {
     let mut folder = Vec::new(alloc);
     for file in &case.files {
         folder.push(file.in_memory())?;
@@ -212,7 +226,8 @@ fn outcome_of(alloc: Global, case: &RunCase<'_>) -> Result<Outcome, Fault> {
     );
     // A copy, so that the copying of words is tried as well.
     let words = case.words.copy()?;
-    let status = counted::<Brand>(
+    let status = counted::<Brand, R>(
+        rt,
         alloc,
         &words,
         &mut files,
@@ -231,7 +246,8 @@ fn outcome_of(alloc: Global, case: &RunCase<'_>) -> Result<Outcome, Fault> {
 }
 
 /// Runs the program with a count of steps that nobody reads, and gives its exit code.
-fn counted<L: Ledger>(
+fn counted<L: Ledger, R: Threads + Sync>(
+    rt: &R,
     alloc: Global,
     words: &Words,
     files: &mut MemFiles<'_>,
@@ -245,7 +261,7 @@ fn counted<L: Ledger>(
     requires some { 0 < blank.parts }
 {
     let mut steps: Steps<L> = Steps::new(blank);
-    run(alloc, words, files, door, keys, out, &Quiet, &mut steps).code()
+    run(rt, alloc, words, files, door, keys, out, &Quiet, &mut steps).code()
 }
 
 /// How many of these keys were drawn: those in front of the next one to come.

@@ -14,6 +14,7 @@ use std::io::ErrorKind;
 use std::marker::Brand;
 use std::process::ExitCode;
 use std::sync::ledger::{Blank, Ledger};
+use std::thread::Threads;
 use std::{env, io};
 
 /// The exit code where the key generator can't be seeded.
@@ -28,7 +29,13 @@ fn main(rt: HostRuntime) -> ExitCode {
         }
     };
     match command_line(&rt) {
-        Ok(words) => ExitCode::from(counted::<Brand>(rt, &words, generator, Blank::new(1)).code()),
+        Ok(words) => ExitCode::from(counted::<Brand, _>(
+            &rt,
+            &rt,
+            &words,
+            generator,
+            Blank::new(1),
+        ).code()),
         Err(Memory) => ExitCode::from(Status::Memory.code()),
     }
 }
@@ -51,9 +58,11 @@ fn command_line(rt: &HostRuntime) -> Result<Words, Memory> {
     Ok(words)
 }
 
-/// Runs the program over the real things, with a count of steps that nobody reads.
-fn counted<L: Ledger>(
-    rt: HostRuntime,
+/// Runs the program over the real things, with a count of steps that nobody reads. `threads` is where the check makes its
+/// threads.
+fn counted<L: Ledger, R: Threads + Sync>(
+    rt: &HostRuntime,
+    threads: &R,
     words: &Words,
     generator: ChaCha20Rng,
     blank: Blank,
@@ -63,12 +72,12 @@ fn counted<L: Ledger>(
     requires some { 0 < blank.parts }
 {
     let alloc: Global = rt.alloc();
-    let mut door = TcpDoor::new(&rt);
+    let mut door = TcpDoor::new(rt);
     let mut steps: Steps<L> = Steps::new(blank);
-    let mut out = Writing::new(io::writer(&rt));
-    let mut files = DiskFiles::new(&rt);
+    let mut out = Writing::new(io::writer(rt));
+    let mut files = DiskFiles::new(rt);
     let mut keys = RandomKeys::new(generator);
     run(
-        alloc, words, &mut files, &mut door, &mut keys, &mut out, &Quiet, &mut steps,
+        threads, alloc, words, &mut files, &mut door, &mut keys, &mut out, &Quiet, &mut steps,
     )
 }

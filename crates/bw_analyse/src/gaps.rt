@@ -163,7 +163,8 @@ impl Scene<'_, '_, '_> {
         faults: &mut Faults,
     ) -> Result<(), Memory>
         ensures { OnOk result (faults.new ≡ noted_term self.now.ground.now.typed.now.service
-            (look self.now.ground.now.typed.now.service self.now.scope.now self.now.locals.now self.now.shared.now) statement (term_of (act what.now)) faults.old) }
+            (look self.now.ground.now.typed.now.service self.now.scope.now self.now.locals.now self.now.shared.now) statement
+            (term_of (act what.now)) faults.old) }
     {
         if let Some(expr) = expression(what) {
             self.noted(alloc, expr, statement, faults)?;

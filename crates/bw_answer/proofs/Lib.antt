@@ -1,3 +1,4 @@
+pub mod Good
 pub mod Messages
 pub mod Runs
 pub mod Streams

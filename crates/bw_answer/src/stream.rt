@@ -6,6 +6,7 @@ ghost use Rattle.bw_out.specs.Sends as sends;
 ghost use Rattle.bw_types.specs.Fields.{field_names};
 ghost use Rattle.bw_model.specs.Runs.{want};
 ghost use Rattle.bw_answer.specs.Answers.{Answers, place};
+ghost use Rattle.bw_answer.specs.Good.{RepliesAreGood};
 ghost use Rattle.bw_answer.specs.Steps.Turns.{Takes, AreFit, Goes, IsFew};
 
 use crate::ends::StreamEnd;
@@ -92,6 +93,9 @@ fn answer_next<C: Source + Sink, K: Keys, L: Ledger>(
 /// be written is as after the request. The steps rise by the costs of the requests, and by at most 100,000 for each that
 /// there was no memory for. What is left of the stream is in the intake and in the link, so that a further call goes on
 /// from there.
+///
+/// Where a schema accepts the service, and requests led here from the empty world, every page among the replies is valid
+/// by the schema, and the page of a show has each field that the show receives.
 pub fn answer<C: Source + Sink, K: Keys, L: Ledger>(
     alloc: Global,
     world: &mut World,
@@ -107,7 +111,9 @@ pub fn answer<C: Source + Sink, K: Keys, L: Ledger>(
     ensures write_fault { Shows (result ≡ StreamEnd.WriteFault) (C.write_faults link.old) (C.write_faults link.new) }
     ensures same { C.same link.old link.new }
     ensures service { world.new.service ≡ world.old.service }
+    ensures pages { RepliesAreGood world.old.service (place C.Channel world.old intake.old link.old (K.coming keys.old) steps.old) }
 {
+    let _ = world.checked();
     let mut count: u32 = 0;
     'messages: for turn in 0..most {
         match answer_next(alloc, world, intake, link, keys, steps) {

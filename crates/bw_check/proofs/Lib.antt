@@ -1,7 +1,9 @@
 pub mod Accepting
+pub mod Chunks
 pub mod Joining
 pub mod OneAnswer
 pub mod PagePlaces
 pub mod Pages
+pub mod Shared
 pub mod Some
 pub mod Whole

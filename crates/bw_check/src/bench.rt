@@ -102,6 +102,6 @@ pub fn judge_piece<P: Pulse>(
     pulse.at(number);
     match bench.flow.point(place) {
         Some(point) => judge_page(alloc, bench, place, point),
-        None => Err(Memory),
+        None => unreachable!(),
     }
 }

@@ -11,7 +11,7 @@ ghost use Rattle.bw_schema.specs.declared.schema.Schema.{Schema};
 use crate::bench::Bench;
 use crate::checked::Checked;
 use crate::fault::CheckFault;
-use crate::pieces::{judge_in_turn, pieces_of};
+use crate::pieces::{judge_pieces, pieces_of};
 use bw_analyse::{AnalyseFault, Facts, analyse, gap_faults};
 use bw_faults::Faults;
 use bw_flow::{Flow, FlowFault, lower};
@@ -21,14 +21,17 @@ use bw_schema::Schema;
 use bw_strings::Literals;
 use bw_types::Typed;
 use std::alloc::Global;
+use std::thread::Threads;
 
 /// All faults of a service by a schema, in their order.
-fn faults_of<P: Pulse>(
+fn faults_of<R: Threads + Sync, P: Pulse>(
+    rt: &R,
     alloc: Global,
     typed: &Typed,
     flow: &Flow,
     facts: &Facts,
     schema: &Schema,
+    workers: u32,
     pulse: &P,
 ) -> Result<Faults, Memory>
     requires lowered { flow.now ≡ plan_of typed.now.service }
@@ -44,7 +47,7 @@ fn faults_of<P: Pulse>(
         literals: &literals,
         schema,
     };
-    let mut faults = judge_in_turn(alloc, bench, pulse, pieces.as_slice())?;
+    let mut faults = judge_pieces(rt, alloc, bench, pulse, pieces.as_slice(), workers)?;
     faults.join(gap_faults(alloc, typed, flow, facts)?)?;
     Ok(faults)
 }
@@ -77,10 +80,12 @@ fn facts_of(alloc: Global, typed: &Typed, flow: &Flow) -> Result<Facts, CheckFau
 }
 
 /// The flow and the facts of a service that is accepted by a schema, or why it isn't.
-fn judged<P: Pulse>(
+fn judged<R: Threads + Sync, P: Pulse>(
+    rt: &R,
     alloc: Global,
     typed: &Typed,
     schema: &Schema,
+    workers: u32,
     pulse: &P,
 ) -> Result<(Flow, Facts), CheckFault>
     ensures accepted { IfOk result (λ r. (r.0 ≡ plan_of typed.now.service) × IsAccepted typed.now.service schema.now r.1) }
@@ -88,7 +93,7 @@ fn judged<P: Pulse>(
 {
     let flow = flow_of(alloc, typed)?;
     let facts = facts_of(alloc, typed, &flow)?;
-    let faults = faults_of(alloc, typed, &flow, &facts, schema, pulse)?;
+    let faults = faults_of(rt, alloc, typed, &flow, &facts, schema, workers, pulse)?;
     if faults.len() > 0 {
         return Err(CheckFault::Refused(faults));
     }
@@ -98,19 +103,22 @@ fn judged<P: Pulse>(
 /// Checks a service by a schema: it is accepted exactly where it has at most 4,096 points, its least solution has at most
 /// 2,000,000 members, and it has no fault. Then what is known of it is kept with it.
 ///
-/// The pieces are the pages of its shows and exits in source order, from 0. They are judged one after another, and
-/// `pulse.at(k)` is called as piece `k` begins. Every refusal drops the service and the schema.
-pub fn check<P: Pulse>(
+/// The pieces are the pages of its shows and exits in source order, from 0. Up to `workers` of them are judged at once,
+/// in threads of their own where these can be made; with 0 or 1 they are judged in turn. `pulse.at(k)` is called as piece
+/// `k` begins. The answer is the same with any number of workers. Every refusal drops the service and the schema.
+pub fn check<R: Threads + Sync, P: Pulse>(
+    rt: &R,
     alloc: Global,
     typed: Typed,
     schema: Schema,
+    workers: u32,
     pulse: &P,
 ) -> Result<Checked, CheckFault>
     ensures kept { IfOk result (λ c. (c.typed ≡ typed) × (c.schema ≡ schema)) }
     ensures accepted { IfOk result (λ c. Accepts typed.service schema) }
     ensures fault { IfErr result (IsCheckFault typed.service schema) }
 {
-    match judged(alloc, &typed, &schema, pulse) {
+    match judged(rt, alloc, &typed, &schema, workers, pulse) {
         Ok((flow, facts)) => Ok(Checked {
             typed,
             flow,

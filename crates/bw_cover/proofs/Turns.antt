@@ -200,7 +200,8 @@ module _ {K : Type 0} (service : Service) (f : Facts K) where
       let ps = plugs_behind service y (n + 1) around a in
       let other = leave (declared z) (go_on_behind service z k around a) in
       let qs = plugs_behind service z k around a in
-      good_if service f q (after rest sc) (nat_lt a.at k) (then_do one next) (if nat_lt a.at m then then_do other next else go_on_behind service rest m around a)
+      good_if service f q (after rest sc) (nat_lt a.at k) (then_do one next)
+      (if nat_lt a.at m then then_do other next else go_on_behind service rest m around a)
       (ps ++ on_end one more) (if nat_lt a.at m then qs ++ on_end other more else plugs_behind service rest m around a)
       (λ _.
       let g = good_leave service f j sc y (go_on_behind service y (n + 1) around a) ps ay (behind_good y (n + 1) around sc b j a cl cs ci hy) in

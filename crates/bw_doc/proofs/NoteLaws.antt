@@ -42,8 +42,11 @@ one_attr n x = append-nil (value_notes n x.value)
 
 pub attr_notes_at_read : (n : ℕ) (xs : List Attr) (i : ℕ) (d : Attr) → i < length xs
     → (get_or xs i d ≡ get_or xs i d) × (attr_notes n (take (i + 1) xs) ≡ attr_notes n (take i xs) ++ value_notes n (get_or xs i d).value)
-attr_notes_at_read n xs i d h =
-    (refl, ap (attr_notes n) (take_more xs i d h) ∙ flat_map-append (λ a. value_notes n a.value) (take i xs) (get_or xs i d ∷ []) ∙ ap (λ x. attr_notes n (take i xs) ++ x) (one_attr n (get_or xs i d)))
+attr_notes_at_read n xs i d h = (
+  refl,
+  ap (attr_notes n) (take_more xs i d h) ∙ flat_map-append (λ a. value_notes n a.value) (take i xs) (get_or xs i d ∷ [])
+      ∙ ap (λ x. attr_notes n (take i xs) ++ x) (one_attr n (get_or xs i d)),
+)
 
 pub ruleset note_steps = (append-nil, append_assoc, size_at_read, notes_at_read, attr_notes_at_read, elements_room)
 
@@ -88,7 +91,8 @@ value_noted : (g n : ℕ) (v : AttrValue) → all_noted g (value_notes n v) ≡ 
 value_noted g n (Fixed s) = refl
 value_noted g n (Hole h) =
     one_noted g (record { gap = h; says = hole_at n })
-    ∙ opened_as (only (h == g) (hole_at n)) (record { content = nowhere; hole = times (level n) (once (h == g)) }) (no_content n (h == g)) (hole_once n (h == g))
+    ∙ opened_as (only (h == g) (hole_at n)) (record { content = nowhere; hole = times (level n) (once (h == g)) }) (no_content n (h == g))
+    (hole_once n (h == g))
 
 attrs_noted : (g n : ℕ) (a : List Attr) → all_noted g (attr_notes n a) ≡ held g n a
 attrs_noted g n [] = refl
@@ -98,7 +102,8 @@ attrs_noted g n (x ∷ a) =
     ∙ all_noted-append g (value_notes n x.value) (attr_notes n a)
     ∙ ap (λ o. both o (all_noted g (attr_notes n a))) (value_noted g n x.value)
     ∙ ap (both (record { content = nowhere; hole = times (level n) own })) (attrs_noted g n a)
-    ∙ opened_as (both (record { content = nowhere; hole = times (level n) own }) (held g n a)) (held g n (x ∷ a)) refl (sym (join_times (level n) own (holes g a)))
+    ∙ opened_as (both (record { content = nowhere; hole = times (level n) own }) (held g n a)) (held g n (x ∷ a)) refl
+    (sym (join_times (level n) own (holes g a)))
 
 -- an element's attributes, what is in it and what is behind it
 element_noted : (g n : ℕ) (t : List ℕ) (a : List Attr) (i r : Forest)
@@ -149,7 +154,8 @@ notes_are_few f h g = record {
 noted_more : (g : ℕ) (xs : List Note) (i : ℕ) (d : Note) → i < length xs
     → all_noted g (take (i + 1) xs) ≡ both (all_noted g (take i xs)) (only ((get_or xs i d).gap == g) (get_or xs i d).says)
 noted_more g xs i d h =
-    ap (all_noted g) (take_more xs i d h) ∙ all_noted-append g (take i xs) (get_or xs i d ∷ []) ∙ ap (both (all_noted g (take i xs))) (one_noted g (get_or xs i d))
+    ap (all_noted g) (take_more xs i d h) ∙ all_noted-append g (take i xs) (get_or xs i d ∷ [])
+    ∙ ap (both (all_noted g (take i xs))) (one_noted g (get_or xs i d))
 
 pub table_noted : (xs : List Note) (i : ℕ) (d x : Note) (old new : List Open) → x ≡ get_or xs i d → i < length xs
     → IsTableOf (λ g. all_noted g (take i xs)) old → IsTableOf (added_at x.gap x.says old) new → IsTableOf (λ g. all_noted g (take (i + 1) xs)) new
@@ -168,7 +174,8 @@ note_room xs i d x table is h before few =
     let whole : all_noted g xs ≡ both (both (at table g) x.says) behind =
     ap (all_noted g) (sym (take-append-drop (i + 1) xs)) ∙ all_noted-append g (take (i + 1) xs) (drop (i + 1) xs)
     ∙ ap (λ o. both o behind) (
-    noted_more g xs i d h ∙ ap (λ y. both ahead (only (y.gap == g) y.says)) (sym is) ∙ ap (both ahead) (same_gap x.says g) ∙ ap (λ o. both o x.says) (sym (before g))) in
+    noted_more g xs i d h ∙ ap (λ y. both ahead (only (y.gap == g) y.says)) (sym is) ∙ ap (both ahead) (same_gap x.says g)
+    ∙ ap (λ o. both o x.says) (sym (before g))) in
     record {
       content = omega (arith, (few g).content, ap (λ o. o.content.count) whole);
       hole = omega (arith, (few g).hole, ap (λ o. o.hole.count) whole);

@@ -31,14 +31,17 @@ title_bytes title = element_bytes (codes "title") [] (text title none) none refl
 
 -- a page with these items in its body
 page_bytes : (title : List ℕ) (body : Forest) (b : List ℕ) → print body ≡ b
-    → print (element (codes "html") [] (element (codes "head") [] (element (codes "title") [] (text title none) none) (element (codes "body") [] body none)) none)
+    → print (element (codes "html") [] (element (codes "head") [] (element (codes "title") [] (text title none) none)
+    (element (codes "body") [] body none)) none)
     ≡ codes "<html><head><title>" ++ (escaped title ++ (codes "</title></head><body>" ++ (b ++ codes "</body></html>")))
 page_bytes title body b e =
-    element_bytes (codes "html") [] (element (codes "head") [] (element (codes "title") [] (text title none) none) (element (codes "body") [] body none)) none refl
+    element_bytes (codes "html") [] (element (codes "head") [] (element (codes "title") [] (text title none) none)
+    (element (codes "body") [] body none)) none refl
     ∙ ap (λ x. codes "<html>" ++ (x ++ codes "</html>")) (
     element_bytes (codes "head") [] (element (codes "title") [] (text title none) none) (element (codes "body") [] body none) refl
     ∙ ap (λ x. codes "<head>" ++ (x ++ (codes "</head>" ++ print (element (codes "body") [] body none)))) (title_bytes title)
-    ∙ ap (λ x. codes "<head>" ++ ((codes "<title>" ++ (escaped title ++ codes "</title>")) ++ (codes "</head>" ++ x))) (element_bytes (codes "body") [] body none refl ∙ ap (λ x. codes "<body>" ++ (x ++ codes "</body>")) e))
+    ∙ ap (λ x. codes "<head>" ++ ((codes "<title>" ++ (escaped title ++ codes "</title>")) ++ (codes "</head>" ++ x)))
+    (element_bytes (codes "body") [] body none refl ∙ ap (λ x. codes "<body>" ++ (x ++ codes "</body>")) e))
     ∙ ap (λ x. codes "<html><head><title>" ++ x) (
     ap (λ x. x ++ codes "</html>") (append_assoc (escaped title) (codes "</title>") (codes "</head><body>" ++ (b ++ codes "</body>")))
     ∙ append_assoc (escaped title) (codes "</title></head><body>" ++ (b ++ codes "</body>")) (codes "</html>")
@@ -53,11 +56,13 @@ exit_bytes title d = page_bytes title (append (close d) none) (print d) (closed_
 
 form_bytes : (target : List ℕ) (d : Forest)
     → print (element (codes "form") (attr (codes "action") (Fixed target) ∷ attr (codes "method") (Fixed (codes "post")) ∷ []) (append (close d) button) none)
-    ≡ codes "<form action=\"" ++ (escaped target ++ (codes "\" method=\"post\">" ++ (print d ++ codes "<p><input type=\"submit\" value=\"Continue\"/></p></form>")))
+    ≡ codes "<form action=\"" ++ (escaped target ++ (codes "\" method=\"post\">"
+    ++ (print d ++ codes "<p><input type=\"submit\" value=\"Continue\"/></p></form>")))
 form_bytes target d =
     let attrs = attr (codes "action") (Fixed target) ∷ attr (codes "method") (Fixed (codes "post")) ∷ [] in
     element_bytes (codes "form") attrs (append (close d) button) none refl
-    ∙ ap (λ x. (printed_start (codes "form") attrs ++ codes ">") ++ x) (ap (λ x. x ++ codes "</form>") (closed_bytes d button) ∙ append_assoc (print d) (print button) (codes "</form>"))
+    ∙ ap (λ x. (printed_start (codes "form") attrs ++ codes ">") ++ x)
+    (ap (λ x. x ++ codes "</form>") (closed_bytes d button) ∙ append_assoc (print d) (print button) (codes "</form>"))
     ∙ ap (λ x. codes "<form action=\"" ++ x) (
     let behind = print d ++ codes "<p><input type=\"submit\" value=\"Continue\"/></p></form>" in
     ap (λ x. (x ++ codes ">") ++ behind) (append_assoc (escaped target) (codes "\"") (codes " method=\"post\""))
@@ -65,10 +70,14 @@ form_bytes target d =
     ∙ append_assoc (escaped target) (codes "\" method=\"post\">") behind)
 
 pub show_bytes : (title target : List ℕ) (d : Forest) → print (show_page title target d)
-    ≡ codes "<html><head><title>" ++ (escaped title ++ (codes "</title></head><body><form action=\"" ++ (escaped target ++ (codes "\" method=\"post\">" ++ (print d ++ codes "<p><input type=\"submit\" value=\"Continue\"/></p></form></body></html>")))))
+    ≡ codes "<html><head><title>" ++ (escaped title ++
+    (codes "</title></head><body><form action=\"" ++ (escaped target ++ (codes "\" method=\"post\">"
+    ++ (print d ++ codes "<p><input type=\"submit\" value=\"Continue\"/></p></form></body></html>")))))
 show_bytes title target d =
     let last = codes "<p><input type=\"submit\" value=\"Continue\"/></p></form>" in
-    page_bytes title (element (codes "form") (attr (codes "action") (Fixed target) ∷ attr (codes "method") (Fixed (codes "post")) ∷ []) (append (close d) button) none) (codes "<form action=\"" ++ (escaped target ++ (codes "\" method=\"post\">" ++ (print d ++ last)))) (form_bytes target d)
+    page_bytes title (element (codes "form") (attr (codes "action") (Fixed target) ∷ attr (codes "method") (Fixed (codes "post")) ∷ [])
+    (append (close d) button) none) (codes "<form action=\"" ++ (escaped target ++ (codes "\" method=\"post\">" ++ (print d ++ last))))
+    (form_bytes target d)
     ∙ ap (λ x. codes "<html><head><title>" ++ (escaped title ++ (codes "</title></head><body><form action=\"" ++ x))) (
     append_assoc (escaped target) (codes "\" method=\"post\">" ++ (print d ++ last)) (codes "</body></html>")
     ∙ ap (λ x. escaped target ++ (codes "\" method=\"post\">" ++ x)) (append_assoc (print d) last (codes "</body></html>")))

@@ -69,7 +69,8 @@ content_other g h e (text s r) q = content_other g h e r q
 content_other g h e (gap k r) q = by_test (k == g) refl (content_other g h e r q)
   where
     by_test : (b : Bool) → (k == g) ≡ b → content h (plug g e r) ≡ join (content h r) (times (content g r) (content h e))
-        → content h (if b then append e (plug g e r) else gap k (plug g e r)) ≡ join (join (once (k == h)) (content h r)) (times (join (once b) (content g r)) (content h e))
+        → content h (if b then append e (plug g e r) else gap k (plug g e r)) ≡ join (join (once (k == h)) (content h r))
+        (times (join (once b) (content g r)) (content h e))
     by_test true p ih =
         content-append h e (plug g e r)
         ∙ ap (join (content h e)) ih
@@ -78,7 +79,8 @@ content_other g h e (gap k r) q = by_test (k == g) refl (content_other g h e r q
         ∙ join_assoc (content h r) (content h e) (times (content g r) (content h e))
         ∙ ap (λ x. join (content h r) (join x (times (content g r) (content h e)))) (sym (times_once (content h e)))
         ∙ ap (join (content h r)) (sym (times_join (once true) (content g r) (content h e)))
-        ∙ ap (λ x. join x (times (join (once true) (content g r)) (content h e))) (sym (nowhere_join (content h r)) ∙ ap (λ b. join (once b) (content h r)) (sym (apart k g h p q)))
+        ∙ ap (λ x. join x (times (join (once true) (content g r)) (content h e)))
+        (sym (nowhere_join (content h r)) ∙ ap (λ b. join (once b) (content h r)) (sym (apart k g h p q)))
     by_test false p ih =
         ap (join (once (k == h))) ih
         ∙ sym (join_assoc (once (k == h)) (content h r) (times (content g r) (content h e)))
@@ -225,7 +227,8 @@ pub holes_are : (g : ℕ) (a : List Attr) → holes g a ≡ record { count = cou
 holes_are g [] = refl
 holes_are g (x ∷ a) =
     ap (join (once (is_hole g x.value))) (holes_are g a)
-    ∙ spot (join (once (is_hole g x.value)) rest) whole (sym (sum_by-cons (λ (v : Attr). cond (is_hole g v.value) 1 0) x a)) (by_tests (is_hole g x.value) (list_any (λ v. is_hole g v.value) a))
+    ∙ spot (join (once (is_hole g x.value)) rest) whole (sym (sum_by-cons (λ (v : Attr). cond (is_hole g v.value) 1 0) x a))
+    (by_tests (is_hole g x.value) (list_any (λ v. is_hole g v.value) a))
   where
     rest : Spot
     rest = record { count = count_by (λ v. is_hole g v.value) a; depth = here (list_any (λ v. is_hole g v.value) a) }
@@ -250,5 +253,6 @@ counted g (element t a i r) =
     ∙ ap (λ x. join x (join (content g r) (hole g r))) (sym (inside_join (content g i) own))
     ∙ ap (join (inside (join (content g i) own))) (counted g r)
     ∙ ap (λ x. join (inside x) (record { count = count g r; depth = depth g r })) (
-    sym (join_assoc (content g i) (holes g a) (hole g i)) ∙ ap (λ x. join x (hole g i)) (join_comm (content g i) (holes g a)) ∙ join_assoc (holes g a) (content g i) (hole g i)
+    sym (join_assoc (content g i) (holes g a) (hole g i)) ∙ ap (λ x. join x (hole g i)) (join_comm (content g i) (holes g a))
+    ∙ join_assoc (holes g a) (content g i) (hole g i)
     ∙ ap (join (holes g a)) (counted g i) ∙ ap (λ x. join x (record { count = count g i; depth = depth g i })) (holes_are g a))

@@ -45,7 +45,8 @@ pub table_more : (f : ℕ → Open) (n : ℕ) (table : List Open) (o : Open) →
 table_more f n table o first is = record {
   size = length-append table (o ∷ []) ∙ omega (arith, first.size);
   below =
-      below_more (λ g. at (table ++ o ∷ []) g ≡ f g) n (λ g h. at_old table o g (omega (arith, h, first.size)) ∙ first.below g h) (ap (λ k. at (table ++ o ∷ []) k) (sym first.size) ∙ at_new table o ∙ is);
+      below_more (λ g. at (table ++ o ∷ []) g ≡ f g) n (λ g h. at_old table o g (omega (arith, h, first.size)) ∙ first.below g h)
+      (ap (λ k. at (table ++ o ∷ []) k) (sym first.size) ∙ at_new table o ∙ is);
 }
 
 -- a whole table

@@ -12,7 +12,8 @@ use Rattle.bw_typed.proofs.Services.{templates_are_measured}
 
 measured_at : (templates : List Template) (n : ℕ) (t : Template) → slice_get templates n ≡ Some t → All (λ t. IsMeasured t.items) templates → IsMeasured t.items
 measured_at templates n t at all =
-    subst (λ (x : Template). IsMeasured x.items) (get_or_from_slice_get templates n t t at) (All-get_or (λ t. IsMeasured t.items) templates n t (slice_get_within templates n t at) all)
+    subst (λ (x : Template). IsMeasured x.items) (get_or_from_slice_get templates n t t at)
+    (All-get_or (λ t. IsMeasured t.items) templates n t (slice_get_within templates n t at) all)
 
 -- the constant of a template that was read is within the limits
 pub template_within : (service : Service) (n : ℕ) (t : Template) → slice_get service.templates n ≡ Some t → ∥ IsReadable service ∥₁

@@ -1,5 +1,32 @@
 -- Adding to lists of faults.
-use Rattle.std.proofs.Common.{◌≡◌, ◌⊎◌, inl, inr, ℕ, zero, suc, ◌+◌, ◌<◌, Bool, true, false, ◌||◌, List, [], ◌∷◌, ◌++◌, length, take, get_or, refl, sym, ap, ◌∙◌, subst, arith}
+use Rattle.std.proofs.Common.{
+  ◌≡◌,
+  ◌⊎◌,
+  inl,
+  inr,
+  ℕ,
+  zero,
+  suc,
+  ◌+◌,
+  ◌<◌,
+  Bool,
+  true,
+  false,
+  ◌||◌,
+  List,
+  [],
+  ◌∷◌,
+  ◌++◌,
+  length,
+  take,
+  get_or,
+  refl,
+  sym,
+  ap,
+  ◌∙◌,
+  subst,
+  arith,
+}
 use Rattle.std.proofs.Math.Bool.{or-false}
 use Rattle.std.proofs.lemmas.Bool.{false≢true, or_cases, or_left, or_right}
 use Rattle.std.proofs.lemmas.Cmp.{tied_itself}
@@ -36,14 +63,16 @@ adds_then R p q to from = record {
 }
 
 -- one fault
-pub adds_fault : (f : Fault) (P : Fault → Type 0) (old : List Fault) → ((x : Fault) → x ≡ f → P x) → ((x : Fault) → P x → x ≡ f) → Adds P old (merge fault_cmp old (f ∷ []))
+pub adds_fault : (f : Fault) (P : Fault → Type 0) (old : List Fault) → ((x : Fault) → x ≡ f → P x) → ((x : Fault) → P x → x ≡ f)
+    → Adds P old (merge fault_cmp old (f ∷ []))
 adds_fault f P old to from = record {
   sound = λ x h. elim (or_cases (has fault_cmp old x) (is_eq (fault_cmp f x) || false) (sym (merge_has fault_total old (f ∷ []) x) ∙ h)) [
     | inl k ↦ inl k
     | inr k ↦ inr (to x (sym (same_fault f x (is_Equal (fault_cmp f x) (sym (or-false (is_eq (fault_cmp f x))) ∙ k)))))
   ];
   kept = λ x h. merge_has fault_total old (f ∷ []) x ∙ or_left _ _ h;
-  whole = λ x p. merge_has fault_total old (f ∷ []) x ∙ or_right (has fault_cmp old x) _ (or_left _ false (ap is_eq (ap (fault_cmp f) (from x p) ∙ tied_itself fault_total f)));
+  whole = λ x p. merge_has fault_total old (f ∷ []) x ∙ or_right (has fault_cmp old x) _
+      (or_left _ false (ap is_eq (ap (fault_cmp f) (from x p) ∙ tied_itself fault_total f)));
 }
 
 -- a fault that is none

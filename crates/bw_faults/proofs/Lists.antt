@@ -1,5 +1,38 @@
 -- Sorted lists without doubles.
-use Rattle.std.proofs.Common.{◌≡◌, ◌⊎◌, inl, inr, ℕ, zero, suc, ◌<◌, ◌≤◌, Bool, true, false, ◌||◌, List, [], ◌∷◌, ◌++◌, length, append_assoc, get_or, Option, Some, None, Ok, Err, refl, sym, ap, ◌∙◌, subst, arith, add-one}
+use Rattle.std.proofs.Common.{
+  ◌≡◌,
+  ◌⊎◌,
+  inl,
+  inr,
+  ℕ,
+  zero,
+  suc,
+  ◌<◌,
+  ◌≤◌,
+  Bool,
+  true,
+  false,
+  ◌||◌,
+  List,
+  [],
+  ◌∷◌,
+  ◌++◌,
+  length,
+  append_assoc,
+  get_or,
+  Option,
+  Some,
+  None,
+  Ok,
+  Err,
+  refl,
+  sym,
+  ap,
+  ◌∙◌,
+  subst,
+  arith,
+  add-one,
+}
 use Rattle.std.proofs.Math.Bool.{or-false}
 use Rattle.std.proofs.lemmas.Bool.{false≢true, cases_Bool, or_left}
 use Rattle.std.specs.declared.cmp.Ordering.{Ordering}
@@ -8,6 +41,7 @@ use Rattle.std.specs.Ordering.{nat_cmp, is_eq, is_lt, match_ordering, ordering_r
 use Rattle.std.specs.Cmp.{IsTotalOrder}
 use Rattle.std.specs.Cmp.Lexicographic.{slice_cmp}
 use Rattle.std.specs.List.{AllByRecursion, insert, list_any}
+use Rattle.std.specs.Slice.{IsItemAt}
 use Rattle.std.specs.List.Sorted.{IsBinarySearchResult, IsSortedBy}
 use Rattle.std.proofs.lemmas.Cmp.{tied_itself, ranked}
 use Rattle.std.proofs.lemmas.List.Sorted.{searchable_from_sorted}
@@ -43,7 +77,8 @@ module _ {T : Type 0} {cmp : T → T → Ordering} (o : IsTotalOrder cmp) where
   below_lacks : (x y : T) (ys : List T) → cmp x y ≡ Less → IsSet cmp (y ∷ ys) → has cmp (y ∷ ys) x ≡ false
   below_lacks x y ys e s = above_lacks o x (y ∷ ys) (e, all_weaker (λ z. cmp y z ≡ Less) (λ z. cmp x z ≡ Less) ys (λ z k. o.trans x y z e k) s.0)
 
-  tails : (x y : T) (xs ys : List T) → x ≡ y → IsSet cmp (x ∷ xs) → IsSet cmp (y ∷ ys) → ((z : T) → has cmp (x ∷ xs) z ≡ has cmp (y ∷ ys) z) → (z : T) → has cmp xs z ≡ has cmp ys z
+  tails : (x y : T) (xs ys : List T) → x ≡ y → IsSet cmp (x ∷ xs) → IsSet cmp (y ∷ ys) → ((z : T) → has cmp (x ∷ xs) z ≡ has cmp (y ∷ ys) z) → (z : T)
+      → has cmp xs z ≡ has cmp ys z
   tails x y xs ys e s t h z = elim (cases_Bool (is_eq (cmp x z))) [
     | inl here ↦
         let k = same_Equal _ here in
@@ -85,7 +120,8 @@ module _ {T : Type 0} {cmp : T → T → Ordering} (o : IsTotalOrder cmp) where
       (λ e. absurd (false≢true (sym (below_lacks x y ys (o.antisymm x y ∙ ap ordering_reverse e) s) ∙ h)))
 
   -- a member put between those below and those above
-  pub add_between : (xs : List T) (i : ℕ) (x : T) → i ≤ length xs → ((k : ℕ) (d : T) → k < i → cmp (get_or xs k d) x ≡ Less) → ((k : ℕ) (d : T) → i ≤ k → k < length xs → cmp (get_or xs k d) x ≡ Greater)
+  pub add_between : (xs : List T) (i : ℕ) (x : T) → i ≤ length xs → ((k : ℕ) (d : T) → k < i → cmp (get_or xs k d) x ≡ Less)
+      → ((k : ℕ) (d : T) → i ≤ k → k < length xs → cmp (get_or xs k d) x ≡ Greater)
       → insert xs i x ≡ merge cmp xs (x ∷ [])
   add_between [] zero x h p q = refl
   add_between [] (suc i) x h p q = absurd (omega (arith, h))
@@ -100,26 +136,31 @@ module _ {T : Type 0} {cmp : T → T → Ordering} (o : IsTotalOrder cmp) where
       not_equal : Equal ≡ Greater → ⊥
       not_equal e = false≢true (sym (ap is_eq e))
   add_between (y ∷ ys) (suc i) x h p q = by_order (λ l. insert (y ∷ ys) (suc i) x ≡ l) (cmp y x) _ _ _
-      (λ e. ap (λ l. y ∷ l) (add_between ys i x (omega (arith, h)) (λ k d l. p (suc k) d (omega (arith, l))) (λ k d l m. q (suc k) d (omega (arith, l)) (omega (arith, m)))))
+      (λ e. ap (λ l. y ∷ l) (add_between ys i x (omega (arith, h)) (λ k d l. p (suc k) d (omega (arith, l)))
+      (λ k d l m. q (suc k) d (omega (arith, l)) (omega (arith, m)))))
       (λ e. absurd (false≢true (ap is_lt (sym e ∙ p 0 x (omega arith)))))
       (λ e. absurd (false≢true (ap is_lt (sym e ∙ p 0 x (omega arith)))))
 
-set_steps : {T : Type 0} (cmp : T → T → Ordering) (xs : List T) → IsSet cmp xs → (k : ℕ) (d : T) → suc k < length xs → cmp (get_or xs k d) (get_or xs (suc k) d) ≡ Less
+set_steps : {T : Type 0} (cmp : T → T → Ordering) (xs : List T) → IsSet cmp xs → (k : ℕ) (d : T) → suc k < length xs
+    → cmp (get_or xs k d) (get_or xs (suc k) d) ≡ Less
 set_steps cmp [] s k d h = absurd (omega arith)
 set_steps cmp (x ∷ []) s k d h = absurd (omega arith)
 set_steps cmp (x ∷ y ∷ ys) s zero d h = s.0.0
 set_steps cmp (x ∷ y ∷ ys) s (suc k) d h = set_steps cmp (y ∷ ys) s.1 k d (omega arith)
 
 set_sorted : {T : Type 0} {cmp : T → T → Ordering} → IsTotalOrder cmp → (xs : List T) → IsSet cmp xs → IsSortedBy (λ a b. is_lt (cmp a b)) xs
-set_sorted {cmp = cmp} o xs s k d l h = rw add-one (ap is_lt (o.antisymm (get_or xs (suc k) d) (get_or xs k d) ∙ ap ordering_reverse (set_steps cmp xs s k d (let n : suc k < length xs = omega arith in n))))
+set_sorted {cmp = cmp} o xs s k d l h = rw add-one (ap is_lt
+    (o.antisymm (get_or xs (suc k) d) (get_or xs k d) ∙ ap ordering_reverse (set_steps cmp xs s k d (let n : suc k < length xs = omega arith in n))))
 
 -- what a binary search answers gives the set with the member
-pub inserted : {T : Type 0} {cmp : T → T → Ordering} → IsTotalOrder cmp → (xs : List T) (x : T) (i : ℕ) → IsSet cmp xs → i ≤ length xs → IsBinarySearchResult (λ y. cmp y x) xs (Err i) → insert xs i x ≡ merge cmp xs (x ∷ [])
+pub inserted : {T : Type 0} {cmp : T → T → Ordering} → IsTotalOrder cmp → (xs : List T) (x : T) (i : ℕ) → IsSet cmp xs → i ≤ length xs
+    → IsBinarySearchResult (λ y. cmp y x) xs (Err i) → insert xs i x ≡ merge cmp xs (x ∷ [])
 inserted o xs x i s h p =
     let parts = p (searchable_from_sorted o (λ y. y) xs x (set_sorted o xs s)) in
     add_between o xs i x h (λ k d l. parts.0 k d (omega arith) l) (λ k d l m. parts.1 k d l m)
 
-pub was_there : {T : Type 0} {cmp : T → T → Ordering} → IsTotalOrder cmp → (xs : List T) (x : T) (i : ℕ) → IsSet cmp xs → i < length xs → IsBinarySearchResult (λ y. cmp y x) xs (Ok i) → merge cmp xs (x ∷ []) ≡ xs
+pub was_there : {T : Type 0} {cmp : T → T → Ordering} → IsTotalOrder cmp → (xs : List T) (x : T) (i : ℕ) → IsSet cmp xs → i < length xs
+    → IsBinarySearchResult (λ y. cmp y x) xs (Ok i) → merge cmp xs (x ∷ []) ≡ xs
 was_there o xs x i s h p = add_there o xs x s (sym (found _ o xs x s (Ok i) h p))
 
 then_parts : (a b : Ordering) → ordering_then a b ≡ Equal → (a ≡ Equal) × (b ≡ Equal)
@@ -191,6 +232,11 @@ set_front (x ∷ xs) ys s = (all_front (λ y. fault_cmp x y ≡ Less) xs ys s.0,
 pub merge_none : (xs : List Fault) → merge fault_cmp xs [] ≡ xs
 merge_none [] = refl
 merge_none (x ∷ xs) = refl
+
+-- a list without a first fault is empty
+pub no_front : (xs : List Fault) → IsItemAt xs 0 None → xs ≡ []
+no_front [] h = refl
+no_front (x ∷ xs) h = let few : length (x ∷ xs) ≤ 0 = h.3 in absurd (omega (arith, few))
 
 -- one fault more of another list
 pub joined_more : (old xs : List Fault) (x : Fault) (rest : List Fault) → IsSet fault_cmp old → IsSet fault_cmp (xs ++ x ∷ rest)

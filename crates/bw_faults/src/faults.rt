@@ -1,12 +1,17 @@
 //! Lists of faults.
-ghost use Rattle.std.specs.Prelude.{◌≡◌, [], ◌∷◌, length, OnOk, OnErr};
+ghost use Rattle.std.specs.Option.{option_to_list};
+ghost use Rattle.std.specs.VecDeque.{deque_len};
+ghost use Rattle.std.specs.Prelude.{◌≡◌, ◌<◌, ◌+◌, ◌++◌, [], ◌∷◌, length, IfOk, IsSome, None, OnOk, OnErr};
 ghost use Rattle.bw_solve.specs.Sets.{IsSet, has, merge};
 ghost use Rattle.bw_faults.specs.Order.{fault_cmp};
 
 use crate::fault::Fault;
 use bw_lang::Memory;
 use std::alloc::Global;
+use std::cmp::Ordering;
+use std::collections::VecDeque;
 use std::marker::Model;
+use std::mem::replace;
 
 /// Faults in their order, without doubles. Contracts see the list.
 #[derive(Drop)]
@@ -77,9 +82,28 @@ impl Faults {
         }
     }
 
-    /// Takes in the faults of another list. Where all faults of this one are below them, this takes no longer than so
-    /// many pushes. After want of memory some of them may have been taken in.
+    /// Takes in the faults of another list. Where all faults of this one are below them they are put behind it; elsewhere
+    /// both lists are walked once. After want of memory some faults may be there, or none.
     pub fn join(&mut self, other: Faults) -> Result<(), Memory>
+        ensures { OnOk result (self.new ≡ merge fault_cmp self.old other) }
+    {
+        if self.is_below(&other) {
+            self.append(other)
+        } else {
+            self.merge(other)
+        }
+    }
+
+    /// Whether all faults of another list are above those of this one.
+    fn is_below(&self, other: &Faults) -> bool {
+        match (self.list.last(), other.list.first()) {
+            (Some(last), Some(first)) => last < first,
+            _ => true,
+        }
+    }
+
+    /// Takes in the faults of another list, one after another.
+    fn append(&mut self, other: Faults) -> Result<(), Memory>
         ensures { OnOk result (self.new ≡ merge fault_cmp self.old other) }
     {
         // These calls tell that both lists are in order.
@@ -89,5 +113,51 @@ impl Faults {
             self.add(fault)?;
         }
         Ok(())
+    }
+
+    /// Takes in the faults of another list, by a walk over both.
+    fn merge(&mut self, other: Faults) -> Result<(), Memory>
+        ensures { OnOk result (self.new ≡ merge fault_cmp self.old other) }
+    {
+        // These calls tell that both lists are in order.
+        let _mine = self.as_slice();
+        let _others = other.as_slice();
+        let alloc = *self.list.allocator();
+        let mine = replace(&mut self.list, Vec::new(alloc));
+        self.list = merged(alloc, mine, other.list)?;
+        Ok(())
+    }
+}
+
+/// The faults of two lists in their order, without doubles.
+fn merged(alloc: Global, mine: Vec<Fault>, others: Vec<Fault>) -> Result<Vec<Fault>, Memory>
+    ensures { IfOk result (λ v. v.items ≡ merge fault_cmp mine.items others.items) }
+{
+    let mut mine = VecDeque::from_vec(mine);
+    let mut others = VecDeque::from_vec(others);
+    let mut all = Vec::new(alloc);
+    while let Some(fault) = least(&mut mine, &mut others) {
+        all.push(fault)?;
+    }
+    Ok(all)
+}
+
+/// Takes the least fault out of two lists in their order; where both begin with it, out of both.
+fn least(mine: &mut VecDeque<Fault>, others: &mut VecDeque<Fault>) -> Option<Fault>
+    ensures first { option_to_list result ++ merge fault_cmp mine.new.items others.new.items ≡ merge fault_cmp mine.old.items others.old.items }
+    ensures none { result ≡ None → merge fault_cmp mine.new.items others.new.items ≡ [] }
+    ensures fewer { IsSome result → deque_len mine.new + deque_len others.new < deque_len mine.old + deque_len others.old }
+{
+    match (mine.front(), others.front()) {
+        (Some(one), Some(other)) => match one.cmp(other) {
+            Ordering::Less => mine.pop_front(),
+            Ordering::Equal => {
+                let _same = others.pop_front();
+                mine.pop_front()
+            }
+            Ordering::Greater => others.pop_front(),
+        },
+        (Some(_), None) => mine.pop_front(),
+        (None, _) => others.pop_front(),
     }
 }

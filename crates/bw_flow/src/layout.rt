@@ -22,7 +22,8 @@ impl Draft {
     ) -> Result<Vec<PointId>, Memory>
         requires { self.old.scope ≡ [] }
         ensures firsts { IfOk result (λ f. f.items ≡ session_firsts sessions.now (length self.old.steps) out) }
-        ensures steps { OnOk result (self.new.steps ≡ self.old.steps ++ session_steps typed.now.service sessions.now self.old.number (length self.old.steps) out) }
+        ensures steps { OnOk result (self.new.steps ≡ self.old.steps
+            ++ session_steps typed.now.service sessions.now self.old.number (length self.old.steps) out) }
     {
         let mut firsts = Vec::new(self.alloc());
         for session in sessions {

@@ -37,7 +37,8 @@ impl Draft {
         inside: u32,
         next: PointId,
     ) -> Result<(), Memory>
-        ensures { OnOk result (self.new ≡ record (with_statement self.old inside (sets name.now (term value.now)) (next ∷ [])) { scope = with_local self.old.scope name.now kind }) }
+        ensures { OnOk result (self.new ≡ record (with_statement self.old inside (sets name.now (term value.now)) (next ∷ []))
+            { scope = with_local self.old.scope name.now kind }) }
     {
         self.assign(name, value, inside, next)?;
         self.declare(name, kind)
@@ -64,7 +65,8 @@ impl Draft {
     pub fn if_head(&mut self, test: &Expr, yes: &Block, inside: u32) -> Result<Fork, Memory>
         ensures number { IfOk result (λ f. f.number ≡ self.old.number) }
         ensures join { IfOk result (λ f. f.join ≡ length self.old.steps + 1 + count yes.now) }
-        ensures point { IfOk result (λ f. self.new ≡ with_statement self.old inside (tests (term test.now)) (first_of (count yes.now) (length self.old.steps + 1) f.join ∷ f.join ∷ [])) }
+        ensures point { IfOk result (λ f. self.new ≡ with_statement self.old inside (tests (term test.now))
+            (first_of (count yes.now) (length self.old.steps + 1) f.join ∷ f.join ∷ [])) }
     {
         let number = self.number();
         let one = sum(self.len(), 1)?;
@@ -85,7 +87,8 @@ impl Draft {
     ) -> Result<Fork, Memory>
         ensures number { IfOk result (λ f. f.number ≡ self.old.number) }
         ensures join { IfOk result (λ f. f.join ≡ length self.old.steps + 1 + count yes.now + count no.now) }
-        ensures point { IfOk result (λ f. self.new ≡ with_statement self.old inside (tests (term test.now)) (first_of (count yes.now) (length self.old.steps + 1) f.join ∷ first_of (count no.now) (length self.old.steps + 1 + count yes.now) f.join ∷ [])) }
+        ensures point { IfOk result (λ f. self.new ≡ with_statement self.old inside (tests (term test.now))
+            (first_of (count yes.now) (length self.old.steps + 1) f.join ∷ first_of (count no.now) (length self.old.steps + 1 + count yes.now) f.join ∷ [])) }
     {
         let number = self.number();
         let one = sum(self.len(), 1)?;
@@ -111,7 +114,8 @@ impl Draft {
         next: PointId,
     ) -> Result<PointId, Memory>
         ensures head { IfOk result (λ h. h ≡ length self.old.steps) }
-        ensures point { OnOk result (self.new ≡ with_statement self.old inside (tests (term test.now)) (first_of (count body.now) (length self.old.steps + 1) (length self.old.steps) ∷ next ∷ [])) }
+        ensures point { OnOk result (self.new ≡ with_statement self.old inside (tests (term test.now))
+            (first_of (count body.now) (length self.old.steps + 1) (length self.old.steps) ∷ next ∷ [])) }
     {
         let head = PointId::of(self.len());
         let next = self.into_or_past(body, next)?;
@@ -130,7 +134,8 @@ impl Draft {
     ) -> Result<Foreach, Memory>
         ensures head { IfOk result (λ r. r.head ≡ length self.old.steps) }
         ensures inside { IfOk result (λ r. r.inside ≡ inside + 1) }
-        ensures point { OnOk result (self.new ≡ record (with_statement self.old inside (goes_over name.now (term value.now)) (first_of (count body.now) (length self.old.steps + 1) (length self.old.steps) ∷ next ∷ [])) { scope = with_local self.old.scope name.now Str }) }
+        ensures point { OnOk result (self.new ≡ record (with_statement self.old inside (goes_over name.now (term value.now))
+            (first_of (count body.now) (length self.old.steps + 1) (length self.old.steps) ∷ next ∷ [])) { scope = with_local self.old.scope name.now Str }) }
     {
         let head = PointId::of(self.len());
         let next = self.into_or_past(body, next)?;
@@ -162,7 +167,8 @@ impl Draft {
         inside: u32,
         next: PointId,
     ) -> Result<(), Memory>
-        ensures { OnOk result (self.new ≡ with_statement self.old inside (shows (term page.now) (receives typed.now.service self.old.scope list.now)) (next ∷ [])) }
+        ensures { OnOk result (self.new ≡ with_statement self.old inside (shows (term page.now) (receives typed.now.service self.old.scope list.now))
+            (next ∷ [])) }
     {
         let what = What::Show {
             page: page.copy()?,

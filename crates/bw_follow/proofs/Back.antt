@@ -230,7 +230,8 @@ module _ (service : Service) (flow : List Step) (num : HasNumbers flow) (pk : �
       let o2 = go_on_behind service rest n2 around (to []) in
       ⊎_elim (λ at. absurd (other_point p (step n sc d (acts.goes_over v e) (low.0 ∷ low.1 ∷ [])) low.2 refl refl a at))
       (λ past. ⊎_elim
-      (λ inside. let h = showing.deep service flow num pk x page fields here is b (n + 1) (with_local sc v kinds.Str) (d + 1) low.0 p low.3 past inside in absurd (omega arith))
+      (λ inside. let h = showing.deep service flow num pk x page fields here is b (n + 1) (with_local sc v kinds.Str) (d + 1) low.0 p low.3 past inside in
+      absurd (omega arith))
       (λ le. back_to (rs ++ []) d ns rs kq o2 (if nat_lt x.number n2 then o1 else o2) (sym (if_above x.number n2 o1 o2 le))
       (back rest n2 sc d low.1 q around rs [] scq ys r k low.4 s.2 eq ed ea m le (omega arith) c z))
       (cases_lt x.number n2))

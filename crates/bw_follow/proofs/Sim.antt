@@ -73,13 +73,15 @@ module _ (service : Service) (flow : List Step) where
       let kr = λ (st1 : State). on rs kq (next st1) in
       let yes = λ (st1 : State). leave (declared y) (exec service y (n + 1) around st1) in
       let go = λ (v : Value) (st1 : State). if truth_of v then yes st1 else Went st1 in
-      let mj = means_join service flow low.1 low.2 n d sc rs r kr low.4 (sim rest (n + 1 + numbered y) sc d low.2 q around rs scq ys r k low.6 s.1 eq ed ea m) in
+      let mj = means_join service flow low.1 low.2 n d sc rs r kr low.4
+      (sim rest (n + 1 + numbered y) sc d low.2 q around rs scq ys r k low.6 s.1 eq ed ea m) in
       let my = sim y (n + 1) sc d low.0 low.1 around rs sc (declared y) r kr low.5 s.0 refl ed ea mj in
       means_to service flow p sc rs r (λ st. on rs kr (begin service e st go)) (λ st. on rs kq (exec service (if_then e y rest) n around st))
       (λ st en. on_then rs kq (begin service e st go) next)
       (record {
         by = λ st zs en le. sim_test service flow p low.0 low.1 n d sc rs r kr e yes (λ st1. Went st1) low.3 st zs en le
-            (λ st1 en1 lt. inner service flow y (n + 1) low.0 low.1 d around sc sc (declared y) rs r kr st1 low.5 s.0 refl (scoped_apart service y sc s.0) my en1
+            (λ st1 en1 lt. inner service flow y (n + 1) low.0 low.1 d around sc sc (declared y) rs r kr st1 low.5 s.0 refl
+            (scoped_apart service y sc s.0) my en1
             (omega arith))
             (λ st1 en1 lt. means_at service flow low.1 sc rs r kr st1 mj en1 (omega arith));
       })
@@ -98,7 +100,8 @@ module _ (service : Service) (flow : List Step) where
       (λ st en. on_then rs kq (begin service e st go) next)
       (record {
         by = λ st zs en le. sim_test service flow p low.0 low.1 n d sc rs r kr e yes other low.4 st zs en le
-            (λ st1 en1 lt. inner service flow y (n + 1) low.0 low.2 d around sc sc (declared y) rs r kr st1 low.6 s.0 refl (scoped_apart service y sc s.0) my en1
+            (λ st1 en1 lt. inner service flow y (n + 1) low.0 low.2 d around sc sc (declared y) rs r kr st1 low.6 s.0 refl
+            (scoped_apart service y sc s.0) my en1
             (omega arith))
             (λ st1 en1 lt. inner service flow z n2 low.1 low.2 d around sc sc (declared z) rs r kr st1 low.7 s.1 refl (scoped_apart service z sc s.1) mz en1
             (omega arith));

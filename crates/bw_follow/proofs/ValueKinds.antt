@@ -233,7 +233,8 @@ module _ (service : Service) (scope : Scope) (locals shared : Values) (el : kind
         let t = h.0 in
         then_has t.1 kinds.Html (eval service locals shared e units) _ (has e t.1 units t.3) (λ v u1 ev.
         then_has kinds.Html kinds.Html (given (filled (names.name_number service.gaps g) v (document_of d)) u1) _
-        (given_has kinds.Html (filled (names.name_number service.gaps g) v (document_of d)) u1 (filled_has (names.name_number service.gaps g) v (document_of d)))
+        (given_has kinds.Html (filled (names.name_number service.gaps g) v (document_of d)) u1
+        (filled_has (names.name_number service.gaps g) v (document_of d)))
         (λ d1 u2 e1. fills ps d1 u2 h.1 e1))
 
 pub values_have_kinds : ValuesHaveKinds

@@ -107,8 +107,10 @@ module _ (service : Service) (around : ℕ) where
   never_back (assign w e rest) n b a h = never_back rest (n + 1) false a h
   never_back (if_then t y rest) n b a h =
       let m = n + 1 + numbered y in
-      not_if (nat_lt a.at m) (then_do (leave (declared y) (go_on_behind service y (n + 1) around a)) (exec service rest m around)) (go_on_behind service rest m around a)
-      (not_then (leave (declared y) (go_on_behind service y (n + 1) around a)) (exec service rest m around) (λ st. never rest m st h)) (never_back rest m false a h)
+      not_if (nat_lt a.at m) (then_do (leave (declared y) (go_on_behind service y (n + 1) around a)) (exec service rest m around))
+      (go_on_behind service rest m around a)
+      (not_then (leave (declared y) (go_on_behind service y (n + 1) around a)) (exec service rest m around) (λ st. never rest m st h))
+      (never_back rest m false a h)
   never_back (if_else t y z rest) n b a h =
       let k = n + 1 + numbered y in
       let m = k + numbered z in
@@ -125,7 +127,8 @@ module _ (service : Service) (around : ℕ) where
       (not_then (leave (declared c) (go_on_behind service c (n + 1) around a)) loop (λ st. never (while_loop t c rest) n st h)) (never_back rest m false a h)
   never_back (block c rest) n b a h =
       let m = n + numbered c in
-      not_if (nat_lt a.at m) (then_do (leave (declared c) (go_on_behind service c n around a)) (exec service rest m around)) (go_on_behind service rest m around a)
+      not_if (nat_lt a.at m) (then_do (leave (declared c) (go_on_behind service c n around a)) (exec service rest m around))
+      (go_on_behind service rest m around a)
       (not_then (leave (declared c) (go_on_behind service c n around a)) (exec service rest m around) (λ st. never rest m st h)) (never_back rest m false a h)
   never_back (for_each w e c rest) n b a h =
       let m = n + 1 + numbered c in

@@ -7,7 +7,7 @@ use Rattle.std.specs.List.{list_all, list_any}
 use Rattle.std.specs.Bool.{IsFalse}
 use Rattle.httparse.specs.Pieces.{is_newline}
 use Rattle.bw_http.specs.Heads.{HasNoHead, is_line_feed}
-use Rattle.bw_http.proofs.Heads.{no_line, blank_none}
+use Rattle.bw_http.proofs.LookingAgain.{no_line, blank_none}
 
 -- the bytes behind those that were held before
 abbrev pub behind : List ℕ → List ℕ → List ℕ

@@ -1,10 +1,12 @@
-pub mod Heads
-pub mod Tests
-pub mod Messages
-pub mod Streams
 pub mod Buffers
+pub mod Due
 pub mod Filling
+pub mod Heads
+pub mod LookingAgain
+pub mod Messages
+pub mod OnePath
 pub mod Spellings
 pub mod SpeltAscii
+pub mod Streams
+pub mod Tests
 pub mod Written
-pub mod OnePath

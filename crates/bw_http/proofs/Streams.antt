@@ -1,23 +1,69 @@
 -- From the bytes that were taken to the whole stream, and what is free in a cut.
-use Rattle.std.proofs.Common.{◌≡◌, ℕ, ◌+◌, ◌⊎◌, ◌<◌, ◌≤◌, Bool, true, false, cond, eqb, List, [], ◌∷◌, ◌++◌, length, take, drop, refl, sym, ap, ◌∙◌, subst, arith, append_assoc, append-nil, inl, inr, Option, Some, None, Result, Ok, Err, rules}
+use Rattle.std.proofs.Common.{
+  ◌≡◌,
+  ℕ,
+  ◌+◌,
+  ◌⊎◌,
+  ◌<◌,
+  ◌≤◌,
+  Bool,
+  true,
+  false,
+  cond,
+  eqb,
+  List,
+  [],
+  ◌++◌,
+  length,
+  take,
+  drop,
+  refl,
+  sym,
+  ap,
+  ◌∙◌,
+  subst,
+  arith,
+  append_assoc,
+  append-nil,
+  inl,
+  inr,
+  Option,
+  Some,
+  None,
+  Result,
+  Ok,
+  Err,
+}
 use Rattle.std.proofs.lemmas.List.{take-append-drop, length-append, drop_at, take_at, take-append-le, drop-append-le, drop_all, nil_from_length}
 use Rattle.std.proofs.lemmas.List.Sums.{sum_by-append, prefix_len-le-length}
 use Rattle.std.proofs.lemmas.List.Folds.{prefix_len-append}
 use Rattle.std.proofs.lemmas.Bool.{eqb-true, cases_lt}
 use Rattle.std.specs.List.{count_by, prefix_len}
 use Rattle.std.specs.Io.KnownBytes.{Consumes}
-use Rattle.httparse.specs.Grammar.{RequestHead, IsRequestHead, lf, is_token_byte, print_request, ReadsRequest, NeverHasRequest}
-use Rattle.std.proofs.lemmas.Str.{IsUtf8-from_ascii}
-use Rattle.std.proofs.lemmas.Str.Ascii.{IsAscii-nil, IsAscii-cons}
+use Rattle.httparse.specs.Grammar.{RequestHead, print_request, ReadsRequest, NeverHasRequest}
 use Rattle.httparse.specs.Pieces.{is_newline}
 use Rattle.httparse.proofs.GrammarLemmas.{request_unique, ReadsRequest-append}
 use Rattle.bw_http.specs.declared.request.ReadOutcome.{ReadOutcome}
-use Rattle.bw_http.specs.declared.request.ReadOutcome.TheVariants.{End, BadHead, Truncated, HeadTooLong, NoHost, Coding, BadLength, LengthRequired, BodyTooLong, Media, ReadFault, Memory}
+use Rattle.bw_http.specs.declared.request.ReadOutcome.TheVariants.{
+  End,
+  BadHead,
+  Truncated,
+  HeadTooLong,
+  NoHost,
+  Coding,
+  BadLength,
+  LengthRequired,
+  BodyTooLong,
+  Media,
+  ReadFault,
+  Memory,
+}
 use Rattle.bw_http.specs.declared.decide.Decision.TheVariants.{Refused, Body}
 use Rattle.bw_http.specs.declared.request.Request.{Request}
 use Rattle.bw_http.specs.Heads.{is_line_feed, skip_newlines, line_count, BeginsWith, HasNoHead, IsTooLong}
 use Rattle.bw_http.specs.Decisions.{decide}
-use Rattle.bw_http.proofs.Heads.{line_count-head, head_in_front}
+use Rattle.bw_http.proofs.Heads.{line_count-head}
+use Rattle.bw_http.proofs.LookingAgain.{head_in_front}
 use Rattle.bw_http.specs.Messages.{IsMessage, IsDenied, IsShort, IsRefusal, IsOutcome, ComesOf}
 use Rattle.bw_http.specs.Cuts.{AtFront, CutsAs, Cut, Tells}
 
@@ -131,13 +177,13 @@ message_unique stream h k a b r q m n =
 
 -- ---- where the head is whole, the outcome is a function of it
 
-no_bad : (stream : List ℕ) (h : RequestHead) (rest : List ℕ) → BeginsWith stream h rest → AtFront NeverHasRequest stream → ⊥
+pub no_bad : (stream : List ℕ) (h : RequestHead) (rest : List ℕ) → BeginsWith stream h rest → AtFront NeverHasRequest stream → ⊥
 no_bad stream h rest b f = f.3 f.1 h rest (subst (λ (t : List ℕ). ReadsRequest t h rest) f.2 b.reads)
 
-no_long : (stream : List ℕ) (h : RequestHead) (rest : List ℕ) → BeginsWith stream h rest → AtFront IsTooLong stream → ⊥
+pub no_long : (stream : List ℕ) (h : RequestHead) (rest : List ℕ) → BeginsWith stream h rest → AtFront IsTooLong stream → ⊥
 no_long stream h rest b f = too_long_stays f.0 f.1 f.3 h rest (subst (λ (t : List ℕ). BeginsWith t h rest) f.2 b)
 
-no_end : (h : RequestHead) (rest : List ℕ) → BeginsWith [] h rest → ⊥
+pub no_end : (h : RequestHead) (rest : List ℕ) → BeginsWith [] h rest → ⊥
 no_end h rest b =
     let nil : print_request h ≡ [] = nil_from_length (print_request h) (omega (arith, ap length b.reads.1, length-append (print_request h) rest)) in
     let some = line_count-head h b.reads.0 in
@@ -153,7 +199,7 @@ same_test stream e f d g =
     cc
 
 -- no test refuses the head of a whole message
-not_denied : (stream : List ℕ) (h : RequestHead) (body rest : List ℕ) (e : ReadOutcome) → IsMessage stream h body rest → IsDenied stream e → ⊥
+pub not_denied : (stream : List ℕ) (h : RequestHead) (body rest : List ℕ) (e : ReadOutcome) → IsMessage stream h body rest → IsDenied stream e → ⊥
 not_denied stream h body rest e m d =
     let bad : Refused e ≡ Body (length body) = sym d.test ∙ same_decision stream d.head h d.rest (body ++ rest) d.begins m.begins ∙ m.size in
     cc
@@ -181,76 +227,3 @@ denied_exact stream e (Err BodyTooLong) rest d c = inl (same_test stream e BodyT
 denied_exact stream e (Err Media) rest d c = inl (same_test stream e Media d c)
 denied_exact stream e (Err ReadFault) rest d c = inr refl
 denied_exact stream e (Err Memory) rest d c = absurd (not_denied stream c.0 c.1 rest e c.2 d)
-
--- ---- what is due comes
-
--- a whole message comes as its request, or as want of memory
-pub message_exact : (stream : List ℕ) (h : RequestHead) (body after rest : List ℕ) (e : ReadOutcome)
-    → IsMessage stream h body after → Cut stream (Err e) rest → (e ≡ Memory) ⊎ (e ≡ ReadFault)
-message_exact stream h body after rest End m c = absurd (no_end h (body ++ after) (subst (λ (t : List ℕ). BeginsWith t h (body ++ after)) c m.begins))
-message_exact stream h body after rest BadHead m c = absurd (no_bad stream h (body ++ after) m.begins c)
-message_exact stream h body after rest Truncated m c =
-    elim c.1 [
-      | inl none ↦ absurd (none h (body ++ after) m.begins)
-      | inr lacks ↦
-          let same = request_unique stream lacks.head h lacks.rest (body ++ after) lacks.begins.reads m.begins.reads in
-          let sizes : Body lacks.size ≡ Body (length body) = sym lacks.wants ∙ ap decide same.0 ∙ m.size in
-          let size : lacks.size ≡ length body = cc in
-          absurd (omega (arith, size, lacks.lacks, ap length same.1, length-append body after))
-    ]
-message_exact stream h body after rest HeadTooLong m c = absurd (no_long stream h (body ++ after) m.begins c)
-message_exact stream h body after rest NoHost m c = absurd (not_denied stream h body after NoHost m c)
-message_exact stream h body after rest Coding m c = absurd (not_denied stream h body after Coding m c)
-message_exact stream h body after rest BadLength m c = absurd (not_denied stream h body after BadLength m c)
-message_exact stream h body after rest LengthRequired m c = absurd (not_denied stream h body after LengthRequired m c)
-message_exact stream h body after rest BodyTooLong m c = absurd (not_denied stream h body after BodyTooLong m c)
-message_exact stream h body after rest Media m c = absurd (not_denied stream h body after Media m c)
-message_exact stream h body after rest ReadFault m c = inr refl
-message_exact stream h body after rest Memory m c = inl refl
-
--- some head, so that the empty bytes may become one
-sample : RequestHead
-sample = record { blank = []; method = 48 ∷ []; target = 48 ∷ []; minor = 0; line_end = lf; fields = []; last = lf }
-
-sample_is : IsRequestHead sample
-unfolding sample is_token_byte
-sample_is = record {
-  method = (omega arith, search rules);
-  target = (omega arith, search rules);
-  target_text = IsUtf8-from_ascii (48 ∷ []) (IsAscii-cons 48 [] (omega arith) IsAscii-nil);
-  minor = omega arith;
-  fields = search rules;
-}
-
-no_bad_end : AtFront NeverHasRequest [] → ⊥
-no_bad_end f =
-    let nil : f.0 ≡ [] = nil_from_length f.0 (omega (arith, ap length f.2, length-append f.0 f.1)) in
-    f.3 (print_request sample) sample [] (sample_is, ap (λ (t : List ℕ). t ++ print_request sample) nil ∙ sym (append-nil (print_request sample)))
-
-no_long_end : AtFront IsTooLong [] → ⊥
-no_long_end f =
-    let nil : f.0 ≡ [] = nil_from_length f.0 (omega (arith, ap length f.2, length-append f.0 f.1)) in
-    elim f.3.1 [
-      | inl bytes ↦ absurd (omega (arith, bytes, ap length nil))
-      | inr lines ↦ absurd (omega (arith, lines, ap line_count nil))
-    ]
-
--- an empty stream comes as its end
-pub end_exact : (r : Result Request ReadOutcome) (rest : List ℕ) → Cut [] r rest → (r ≡ Err End) ⊎ (r ≡ Err ReadFault)
-end_exact (Ok q) rest c = absurd (no_end c.0 (c.1 ++ rest) c.2.begins)
-end_exact (Err End) rest c = inl refl
-end_exact (Err BadHead) rest c = absurd (no_bad_end c)
-end_exact (Err Truncated) rest c = absurd (c.0 refl)
-end_exact (Err HeadTooLong) rest c = absurd (no_long_end c)
-end_exact (Err NoHost) rest c = absurd (no_end c.head c.rest c.begins)
-end_exact (Err Coding) rest c = absurd (no_end c.head c.rest c.begins)
-end_exact (Err BadLength) rest c = absurd (no_end c.head c.rest c.begins)
-end_exact (Err LengthRequired) rest c = absurd (no_end c.head c.rest c.begins)
-end_exact (Err BodyTooLong) rest c = absurd (no_end c.head c.rest c.begins)
-end_exact (Err Media) rest c = absurd (no_end c.head c.rest c.begins)
-end_exact (Err ReadFault) rest c = inr refl
-end_exact (Err Memory) rest c = absurd (no_end c.0 (c.1 ++ rest) c.2.begins)
-
--- want of memory takes the message that a request would take
-pub memory_goes_on : (stream : List ℕ) (q : Request) (rest after : List ℕ) → Cut stream (Err Memory) rest → Cut stream (Ok q) after → rest ≡ after
-memory_goes_on stream q rest after c d = (message_unique stream c.0 d.0 c.1 d.1 rest after c.2 d.2).2

@@ -1,5 +1,30 @@
 -- Targets, and the paths that they lead to.
-use Rattle.std.specs.Prelude.{◌≡◌, ◌≢◌, ℕ, ◌/◌, ◌%◌, ◌^◌, ◌<◌, ◌≤◌, zero, suc, Bool, ◌==◌, ◌||◌, cond, List, [], ◌∷◌, ◌++◌, length, take, drop, codes, decimal, ⊤}
+use Rattle.std.specs.Prelude.{
+  ◌≡◌,
+  ◌≢◌,
+  ℕ,
+  ◌/◌,
+  ◌%◌,
+  ◌^◌,
+  ◌<◌,
+  ◌≤◌,
+  zero,
+  suc,
+  Bool,
+  ◌==◌,
+  ◌||◌,
+  cond,
+  List,
+  [],
+  ◌∷◌,
+  ◌++◌,
+  length,
+  take,
+  drop,
+  codes,
+  decimal,
+  ⊤,
+}
 use Rattle.std.specs.List.{position_or_len}
 use Rattle.std.specs.Str.{byte}
 use Rattle.std.specs.Char.{digit_char}

@@ -5,7 +5,22 @@ ghost use Rattle.std.specs.Char.{is_ascii_digit};
 ghost use Rattle.std.specs.Str.Parse.{digits_value};
 ghost use Rattle.httparse.specs.Grammar.{skip_ows, trim_ows};
 ghost use Rattle.httparse.specs.Spans.{IsHeaderWithin, header_bytes};
-ghost use Rattle.bw_http.specs.Decisions.{same_word, values, IsFound, is_size, length_of, before_semicolon, media_type, is_form, is_one, is_none, method_of, decide_body, decide_in_order, decide_on};
+ghost use Rattle.bw_http.specs.Decisions.{
+  same_word,
+  values,
+  IsFound,
+  is_size,
+  length_of,
+  before_semicolon,
+  media_type,
+  is_form,
+  is_one,
+  is_none,
+  method_of,
+  decide_body,
+  decide_in_order,
+  decide_on,
+};
 
 use crate::request::{Method, ReadOutcome};
 use httparse::spans::{HeaderSpan, Span};

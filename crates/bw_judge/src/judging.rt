@@ -1,14 +1,12 @@
 //! The faults 1 to 7 of a page graph.
-ghost use Rattle.std.specs.Prelude.{◌≡◌, ℕ, ◌+◌, ◌^◌, ◌<◌, ◌&&◌, not, [], IfOk, OnOk, length, slice_index_or};
+ghost use Rattle.std.specs.Prelude.{◌≡◌, ℕ, ◌^◌, ◌<◌, [], IfOk, OnOk, length, slice_index_or};
 ghost use Rattle.std.specs.List.{All};
 ghost use Rattle.bw_faults.specs.Lists.{Adds, Lists, OfSome};
 ghost use Rattle.bw_lang.specs.Document.Documents.{elements, close};
-ghost use Rattle.bw_lang.specs.Document.Forest.{Forest, none};
-ghost use Rattle.bw_lang.specs.Document.View.{before};
+ghost use Rattle.bw_lang.specs.Document.Forest.{Forest};
 ghost use Rattle.bw_nodes.specs.Nodes.{node_at};
 ghost use Rattle.bw_nodes.specs.Templates.{template_at};
 ghost use Rattle.bw_rows.specs.Rows.{at};
-ghost use Rattle.bw_schema.specs.Rules.{allows};
 ghost use Rattle.bw_schema.specs.Validity.{Valid};
 ghost use Rattle.bw_shape.specs.Outlines.{IsPageGraph, IsShape, root_of};
 ghost use Rattle.bw_shape.specs.Tests.{gives};
@@ -16,200 +14,24 @@ ghost use Rattle.bw_strings.specs.Literals.{literals_of};
 ghost use Rattle.bw_sum.specs.Graph.{graph};
 ghost use Rattle.bw_sum.specs.Templates.{template_items};
 ghost use Rattle.bw_sum.specs.Unfolding.{Unfolds};
-ghost use Rattle.bw_judge.specs.Content as content;
 ghost use Rattle.bw_judge.specs.Faults.{IsFault};
 ghost use Rattle.bw_judge.specs.Found as found;
 ghost use Rattle.bw_judge.specs.Pages as page;
-ghost use Rattle.bw_judge.specs.Scene.{is_told};
 
-use crate::content::{Spot, add_if, judge_content};
+use crate::content::{Spot, add_if};
+use crate::elements::judge_items;
 use crate::scene::Scene;
 use bw_faults::Faults;
 use bw_lang::laws::readable_is_small;
 use bw_lang::wrappers::{exit_wrapper, show_wrapper};
-use bw_lang::{Attr, Attrs, Element, Item, Items, Memory, Name, Text, Words};
+use bw_lang::{Element, Item, Items, Memory, Name};
 use bw_nodes::{Node, Saying, Sayings, TemplateItems};
-use bw_schema::{Rule, Rules, Schema};
+use bw_schema::Schema;
 use bw_shape::Outline;
 use bw_strings::Literals;
 use bw_sum::Summary;
 use bw_types::Typed;
 use std::alloc::Global;
-
-/// Whether the attribute may be there and isn't allowed.
-fn is_wrong(scene: &Scene, rule: &Rule, attr: &Attr) -> bool
-    ensures { result ≡ (is_told scene.now attr.now.value && not (allows rule.now attr.now.name)) }
-{
-    scene.is_told(&attr.value) && !rule.allows(attr.name.as_str())
-}
-
-/// Adds the faults 1 and 3 of an attribute.
-fn judge_attr(
-    alloc: Global,
-    scene: &Scene,
-    rule: &Rule,
-    spot: Spot,
-    attr: &Attr,
-    faults: &mut Faults,
-) -> Result<(), Memory>
-    ensures { OnOk result (Adds (found.OfAttr scene.now rule.now spot attr.now) faults.old faults.new) }
-{
-    let name = attr.name.as_str();
-    let is_outside = !scene.is_permitted(&rule.values, attr);
-    add_if(alloc, is_wrong(scene, rule, attr), 1, spot, name, faults)?;
-    add_if(alloc, is_outside, 3, spot, name, faults)
-}
-
-/// Adds the faults 1 and 3 of the attributes.
-fn judge_attrs(
-    alloc: Global,
-    scene: &Scene,
-    rule: &Rule,
-    spot: Spot,
-    attrs: &Attrs,
-    faults: &mut Faults,
-) -> Result<(), Memory>
-    ensures { OnOk result (Adds (OfSome (found.OfAttr scene.now rule.now spot) attrs.now) faults.old faults.new) }
-{
-    for attr in attrs.as_slice() {
-        judge_attr(alloc, scene, rule, spot, attr, faults)?;
-    }
-    Ok(())
-}
-
-/// Adds the fault 2 of a required attribute.
-fn judge_name(
-    alloc: Global,
-    scene: &Scene,
-    spot: Spot,
-    attrs: &Attrs,
-    name: &Text,
-    faults: &mut Faults,
-) -> Result<(), Memory>
-    ensures { OnOk result (Adds (found.OfMust scene.now spot attrs.now name.now) faults.old faults.new) }
-{
-    let may_be_absent = scene.may_be_absent(attrs, name.as_str());
-    add_if(alloc, may_be_absent, 2, spot, name.as_str(), faults)
-}
-
-/// Adds the faults 2 of required attributes.
-fn judge_must(
-    alloc: Global,
-    scene: &Scene,
-    must: &Words,
-    spot: Spot,
-    attrs: &Attrs,
-    faults: &mut Faults,
-) -> Result<(), Memory>
-    ensures { OnOk result (Adds (OfSome (found.OfMust scene.now spot attrs.now) must.now) faults.old faults.new) }
-{
-    for name in must.as_slice() {
-        judge_name(alloc, scene, spot, attrs, name, faults)?;
-    }
-    Ok(())
-}
-
-impl<'a> Scene<'a> {
-    /// Adds the faults 4 and 5 of what may stand in an element.
-    fn judge_content(
-        &self,
-        alloc: Global,
-        rule: &Rule,
-        spot: Spot,
-        items: &Items,
-        faults: &mut Faults,
-    ) -> Result<(), Memory>
-        ensures { OnOk result
-            (Adds (content.OfContent spot rule.now.has rule.now.text self.now.tags
-            (λ c. gives self.now.tags self.now.node (λ m. at self.now.tops m c) c items.now) (length self.now.tags)) faults.old faults.new) }
-    {
-        judge_content(
-            alloc, self.tags, self.node, self.tops, &rule.has, rule.text, items, spot, faults,
-        )
-    }
-}
-
-/// Adds the faults of an element with this rule.
-fn judge_rule(
-    alloc: Global,
-    scene: &Scene,
-    rule: &Rule,
-    spot: Spot,
-    element: &Element,
-    faults: &mut Faults,
-) -> Result<(), Memory>
-    ensures { OnOk result (Adds (found.OfParts scene.now rule.now spot element.now.tag element.now.attrs element.now.items) faults.old faults.new) }
-{
-    let is_sure = scene.are_sure(true, &rule.needs, &element.attrs, &element.items);
-    judge_attrs(alloc, scene, rule, spot, &element.attrs, faults)?;
-    judge_must(alloc, scene, &rule.must, spot, &element.attrs, faults)?;
-    scene.judge_content(alloc, rule, spot, &element.items, faults)?;
-    add_if(alloc, !is_sure, 7, spot, element.tag.as_str(), faults)
-}
-
-fn judge_element(
-    alloc: Global,
-    scene: &Scene,
-    rules: &Rules,
-    spot: Spot,
-    element: &Element,
-    faults: &mut Faults,
-) -> Result<(), Memory>
-    ensures { OnOk result (Adds (found.OfElement scene.now rules.now spot element.now.tag element.now.attrs element.now.items) faults.old faults.new) }
-{
-    match rules.of(element.tag.as_str()) {
-        Some(rule) => judge_rule(alloc, scene, rule, spot, element, faults),
-        None => Ok(()),
-    }
-}
-
-/// Adds the faults of the elements among the items and in them, and answers how many elements stand up to there.
-#[tactic(auto, using(crate::proofs::Walks::walk_steps))]
-#[cycle(walk)]
-fn judge_items(
-    alloc: Global,
-    scene: &Scene,
-    rules: &Rules,
-    spot: Spot,
-    items: &Items,
-    faults: &mut Faults,
-) -> Result<u32, Memory>
-    requires { spot.place + elements items.now < 2 ^ 32 }
-    ensures place { IfOk result (λ n. n ≡ spot.place + elements items.now) }
-    ensures faults { OnOk result (Adds (found.OfForest (found.OfElement scene.now rules.now) spot items.now) faults.old faults.new) }
-{
-    let mut place = spot.place;
-    for item in items.as_slice() {
-        let at = Spot { place, ..spot };
-        place = judge_item(alloc, scene, rules, at, item, faults)?;
-    }
-    Ok(place)
-}
-
-#[tactic(auto, using(crate::proofs::Walks::walk_steps))]
-#[cycle(walk)]
-fn judge_item(
-    alloc: Global,
-    scene: &Scene,
-    rules: &Rules,
-    spot: Spot,
-    item: &Item,
-    faults: &mut Faults,
-) -> Result<u32, Memory>
-    requires { spot.place + elements (before item.now none) < 2 ^ 32 }
-    ensures place { IfOk result (λ n. n ≡ spot.place + elements (before item.now none)) }
-    ensures faults { OnOk result (Adds (found.OfForest (found.OfElement scene.now rules.now) spot (before item.now none)) faults.old faults.new) }
-{
-    match item {
-        Item::Element(element) => {
-            let place = spot.place + 1;
-            let at = Spot { place, ..spot };
-            judge_element(alloc, scene, rules, at, element, faults)?;
-            judge_items(alloc, scene, rules, at, &element.items, faults)
-        }
-        _ => Ok(spot.place),
-    }
-}
 
 /// Adds the fault 6 of the root element, where its tag isn't the schema's.
 fn judge_root(

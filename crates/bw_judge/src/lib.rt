@@ -1,7 +1,9 @@
 //! The faults of a page graph by a schema. Where there is none, every page is valid.
 #![tactic(auto)]
 
+mod attributes;
 mod content;
+mod elements;
 mod judging;
 pub mod laws;
 mod misses;

@@ -16,7 +16,8 @@ use Rattle.bw_lang.proofs.Forests.{size_at_read}
 pub pair_at_read : (xs : List Pair) (i : ℕ) (d : Pair) → i < length xs → (get_or xs i d ≡ get_or xs i d) × (deep-Pair (get_or xs i d) ≤ nodes_in (fillings xs))
 pair_at_read xs i d h = (refl, omega (arith, at_most (λ y. deep-Pair y) xs i d h, most_le-nodes_in xs))
 
-pub statement_at_read : (xs : List Stmt) (i : ℕ) (d : Stmt) → i < length xs → (get_or xs i d ≡ get_or xs i d) × (deep-Stmt (get_or xs i d) ≤ code_size (code xs))
+pub statement_at_read : (xs : List Stmt) (i : ℕ) (d : Stmt) → i < length xs → (get_or xs i d ≡ get_or xs i d)
+    × (deep-Stmt (get_or xs i d) ≤ code_size (code xs))
 statement_at_read xs i d h = (refl, omega (arith, at_most (λ y. deep-Stmt y) xs i d h, most_le-code_size xs))
 
 pub ruleset size_steps = (deep_le-nodes, pair_at_read, statement_at_read, size_at_read)

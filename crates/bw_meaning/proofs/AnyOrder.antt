@@ -242,7 +242,8 @@ module _ (service : Service) (at : ℕ) (l m : Values) (form : Form) (s t : Valu
   abbrev other : Rests → Answered
   other rests = record { at = at; locals = m; rests = rests; input = record { form = form; shared = t }; later = js }
 
-  behind_alike : (c : Code) (n around : ℕ) (rests : Rests) → AreOutcomesAlike (go_on_behind service c n around (one rests)) (go_on_behind service c n around (other rests))
+  behind_alike : (c : Code) (n around : ℕ) (rests : Rests)
+      → AreOutcomesAlike (go_on_behind service c n around (one rests)) (go_on_behind service c n around (other rests))
   behind_alike done n around rests = failed Spent 0
   behind_alike (declare kind w e rest) n around rests = behind_alike rest (n + 1) around rests
   behind_alike (assign w e rest) n around rests = behind_alike rest (n + 1) around rests

@@ -51,7 +51,8 @@ behind_law service (block c rest) n around a i =
     let p = λ (k : ℕ) (l : Values) (rs : Rests). leave (declared c) (go_on_behind service c n around (answered k l rs i)) in
     let later = λ (k : ℕ) (l : Values) (rs : Rests) (le : m ≤ k) (x : k < m + numbered rest).
     sym (if_above k m (then_do (p k l rs) next) (go_on_behind service rest m around (answered k l rs i)) le) in
-    law_if (nat_lt a.at m) i b (then_do (leave (declared c) (go_on_behind service c n around (longer i a))) next) (go_on_behind service rest m around (longer i a))
+    law_if (nat_lt a.at m) i b (then_do (leave (declared c) (go_on_behind service c n around (longer i a))) next)
+    (go_on_behind service rest m around (longer i a))
     (then_do (leave (declared c) (go_on_behind service c n around a)) next) (go_on_behind service rest m around a)
     (ap (λ o. then_do o next) (ap (leave (declared c)) (behind_law service c n around a i)
     ∙ law_leave (declared c) i (back service c n around i) (go_on_behind service c n around a))
@@ -69,7 +70,8 @@ behind_law service (if_then t y rest) n around a i =
     let p = λ (k : ℕ) (l : Values) (rs : Rests). leave (declared y) (go_on_behind service y (n + 1) around (answered k l rs i)) in
     let later = λ (k : ℕ) (l : Values) (rs : Rests) (le : m ≤ k) (x : k < m + numbered rest).
     sym (if_above k m (then_do (p k l rs) next) (go_on_behind service rest m around (answered k l rs i)) le) in
-    law_if (nat_lt a.at m) i b (then_do (leave (declared y) (go_on_behind service y (n + 1) around (longer i a))) next) (go_on_behind service rest m around (longer i a))
+    law_if (nat_lt a.at m) i b (then_do (leave (declared y) (go_on_behind service y (n + 1) around (longer i a))) next)
+    (go_on_behind service rest m around (longer i a))
     (then_do (leave (declared y) (go_on_behind service y (n + 1) around a)) next) (go_on_behind service rest m around a)
     (ap (λ o. then_do o next) (ap (leave (declared y)) (behind_law service y (n + 1) around a i)
     ∙ law_leave (declared y) i (back service y (n + 1) around i) (go_on_behind service y (n + 1) around a))
@@ -94,10 +96,12 @@ behind_law service (if_else t y z rest) n around a i =
     ∙ ap (λ o. if nat_lt k j then then_do (p k l rs) next else o)
     (sym (if_below k m (then_do (q k l rs) next) (go_on_behind service rest m around (answered k l rs i)) lt)) in
     let later = λ (k : ℕ) (l : Values) (rs : Rests) (le : m ≤ k) (x : k < m + numbered rest).
-    sym (if_above k j (then_do (p k l rs) next) (if nat_lt k m then then_do (q k l rs) next else go_on_behind service rest m around (answered k l rs i)) (omega arith)
+    sym (if_above k j (then_do (p k l rs) next) (if nat_lt k m then then_do (q k l rs) next else go_on_behind service rest m around (answered k l rs i))
+    (omega arith)
     ∙ if_above k m (then_do (q k l rs) next) (go_on_behind service rest m around (answered k l rs i)) le) in
     law_if (nat_lt a.at j) i b (then_do (leave (declared y) (go_on_behind service y (n + 1) around (longer i a))) next)
-    (if nat_lt a.at m then then_do (leave (declared z) (go_on_behind service z j around (longer i a))) next else go_on_behind service rest m around (longer i a))
+    (if nat_lt a.at m then then_do (leave (declared z) (go_on_behind service z j around (longer i a))) next else go_on_behind service rest m around
+    (longer i a))
     (then_do one next) (if nat_lt a.at m then then_do other next else go_on_behind service rest m around a)
     (ap (λ o. then_do o next) (ap (leave (declared y)) (behind_law service y (n + 1) around a i)
     ∙ law_leave (declared y) i (back service y (n + 1) around i) (go_on_behind service y (n + 1) around a)
@@ -105,9 +109,11 @@ behind_law service (if_else t y z rest) n around a i =
     (λ k l rs x lt. sym (if_below k j (p k l rs) (q k l rs) lt)))
     ∙ law_step n m (m + numbered rest) r i c b (back service rest m around i) one next
     (good_inner n m r (declared y) (go_on_behind service y (n + 1) around a)
-    (good_more (n + 1) j r (n + 1) m r (go_on_behind service y (n + 1) around a) (omega arith) (omega arith) (omega arith) (behind_good service y (n + 1) around a)))
+    (good_more (n + 1) j r (n + 1) m r (go_on_behind service y (n + 1) around a) (omega arith) (omega arith) (omega arith)
+    (behind_good service y (n + 1) around a)))
     (λ st1. exec_good service rest m around st1) (λ st1. exec_law service rest m around st1 i) here later)
-    (law_if (nat_lt a.at m) i b (then_do (leave (declared z) (go_on_behind service z j around (longer i a))) next) (go_on_behind service rest m around (longer i a))
+    (law_if (nat_lt a.at m) i b (then_do (leave (declared z) (go_on_behind service z j around (longer i a))) next)
+    (go_on_behind service rest m around (longer i a))
     (then_do other next) (go_on_behind service rest m around a)
     (ap (λ o. then_do o next) (ap (leave (declared z)) (behind_law service z j around a i)
     ∙ law_leave (declared z) i (back service z j around i) (go_on_behind service z j around a)
@@ -125,7 +131,8 @@ behind_law service (while_loop t c rest) n around a i =
     let loop = exec service (while_loop t c rest) n around in
     let b = back service (while_loop t c rest) n around i in
     let p = λ (k : ℕ) (l : Values) (rs : Rests). leave (declared c) (go_on_behind service c (n + 1) around (answered k l rs i)) in
-    law_if (nat_lt a.at m) i b (then_do (leave (declared c) (go_on_behind service c (n + 1) around (longer i a))) loop) (go_on_behind service rest m around (longer i a))
+    law_if (nat_lt a.at m) i b (then_do (leave (declared c) (go_on_behind service c (n + 1) around (longer i a))) loop)
+    (go_on_behind service rest m around (longer i a))
     (then_do (leave (declared c) (go_on_behind service c (n + 1) around a)) loop) (go_on_behind service rest m around a)
     (ap (λ o. then_do o loop) (ap (leave (declared c)) (behind_law service c (n + 1) around a i)
     ∙ law_leave (declared c) i (back service c (n + 1) around i) (go_on_behind service c (n + 1) around a))
@@ -148,7 +155,8 @@ behind_law service (for_each w e c rest) n around a i =
     let o = λ (vs : List (List ℕ)) (inner : Rests).
     then_do (leave names (add_rest vs (go_on_behind service c (n + 1) (around + list_weight vs) (record a { rests = inner })))) (each vs w names run) in
     let o' = λ (vs : List (List ℕ)) (inner : Rests).
-    then_do (leave names (add_rest vs (go_on_behind service c (n + 1) (around + list_weight vs) (longer i (record a { rests = inner }))))) (each vs w names run) in
+    then_do (leave names (add_rest vs (go_on_behind service c (n + 1) (around + list_weight vs) (longer i (record a { rests = inner })))))
+    (each vs w names run) in
     let later = λ (k : ℕ) (l : Values) (rs : Rests) (le : m ≤ k) (x : k < m + numbered rest).
     sym (if_above k m (then_do (p k l rs) next) (go_on_behind service rest m around (answered k l rs i)) le) in
     law_if (nat_lt a.at m) i b (then_do (with_rest a.rests o') next) (go_on_behind service rest m around (longer i a)) (then_do (with_rest a.rests o) next)
@@ -156,7 +164,8 @@ behind_law service (for_each w e c rest) n around a i =
     (ap (λ y. then_do y next) (law_with a.rests i p o' o (λ vs inner.
     ap (λ y. then_do (leave names (add_rest vs y)) (each vs w names run))
     (behind_law service c (n + 1) (around + list_weight vs) (record a { rests = inner }) i)
-    ∙ law_turn (n + 1) m r vs names i (inside vs) p (go_on_behind service c (n + 1) (around + list_weight vs) (record a { rests = inner })) (each vs w names run)
+    ∙ law_turn (n + 1) m r vs names i (inside vs) p (go_on_behind service c (n + 1) (around + list_weight vs) (record a { rests = inner }))
+    (each vs w names run)
     (behind_good service c (n + 1) (around + list_weight vs) (record a { rests = inner }))
     (λ st. law_each (n + 1) m w vs names run inside p i st
     (λ ws st2. exec_good service c (n + 1) (around + list_weight ws) st2)
@@ -168,7 +177,8 @@ behind_law service (for_each w e c rest) n around a i =
     good_then n m r (leave names (add_rest vs (go_on_behind service c (n + 1) (around + list_weight vs) (record a { rests = inner })))) (each vs w names run)
     (good_leave n m r names (add_rest vs (go_on_behind service c (n + 1) (around + list_weight vs) (record a { rests = inner })))
     (good_rest n m r vs (go_on_behind service c (n + 1) (around + list_weight vs) (record a { rests = inner }))
-    (good_more (n + 1) m r n m r (go_on_behind service c (n + 1) (around + list_weight vs) (record a { rests = inner })) (omega arith) (omega arith) (omega arith)
+    (good_more (n + 1) m r n m r (go_on_behind service c (n + 1) (around + list_weight vs) (record a { rests = inner })) (omega arith) (omega arith)
+    (omega arith)
     (behind_good service c (n + 1) (around + list_weight vs) (record a { rests = inner })))))
     (λ st le. good_each n m r vs w names run st le
     (λ ws st2. good_more (n + 1) m (room st2) n m (room st2) (exec service c (n + 1) (around + list_weight ws) st2) (omega arith) (omega arith) (omega arith)

@@ -169,13 +169,15 @@ behind_within service (show p rs rest) n around a =
     (behind_within service rest (n + 1) around a)
 behind_within service (block b rest) n around a =
     let m = n + numbered b in
-    within_if (nat_lt a.at m) (then_do (leave (declared b) (go_on_behind service b n around a)) (exec service rest m around)) (go_on_behind service rest m around a)
+    within_if (nat_lt a.at m) (then_do (leave (declared b) (go_on_behind service b n around a)) (exec service rest m around))
+    (go_on_behind service rest m around a)
     (within_then (leave (declared b) (go_on_behind service b n around a)) (exec service rest m around)
     (within_leave (declared b) (go_on_behind service b n around a) (behind_within service b n around a)) (exec_within service rest m around))
     (behind_within service rest m around a)
 behind_within service (if_then t y rest) n around a =
     let m = n + 1 + numbered y in
-    within_if (nat_lt a.at m) (then_do (leave (declared y) (go_on_behind service y (n + 1) around a)) (exec service rest m around)) (go_on_behind service rest m around a)
+    within_if (nat_lt a.at m) (then_do (leave (declared y) (go_on_behind service y (n + 1) around a)) (exec service rest m around))
+    (go_on_behind service rest m around a)
     (within_then (leave (declared y) (go_on_behind service y (n + 1) around a)) (exec service rest m around)
     (within_leave (declared y) (go_on_behind service y (n + 1) around a) (behind_within service y (n + 1) around a)) (exec_within service rest m around))
     (behind_within service rest m around a)

@@ -48,23 +48,27 @@ behind_good service (block b rest) n around a =
     let r = budget + refills a.later in
     let m = n + numbered b in
     let hi = n + (numbered b + numbered rest) in
-    good_if n hi r (nat_lt a.at m) (then_do (leave (declared b) (go_on_behind service b n around a)) (exec service rest m around)) (go_on_behind service rest m around a)
+    good_if n hi r (nat_lt a.at m) (then_do (leave (declared b) (go_on_behind service b n around a)) (exec service rest m around))
+    (go_on_behind service rest m around a)
     (good_step n m (m + numbered rest) hi r (leave (declared b) (go_on_behind service b n around a)) (exec service rest m around) (omega arith) (omega arith)
     (omega arith)
     (good_leave n m r (declared b) (go_on_behind service b n around a) (behind_good service b n around a))
     (λ st. exec_good service rest m around st))
-    (good_more m (m + numbered rest) r n hi r (go_on_behind service rest m around a) (omega arith) (omega arith) (omega arith) (behind_good service rest m around a))
+    (good_more m (m + numbered rest) r n hi r (go_on_behind service rest m around a) (omega arith) (omega arith) (omega arith)
+    (behind_good service rest m around a))
 behind_good service (if_then t y rest) n around a =
     let r = budget + refills a.later in
     let m = n + 1 + numbered y in
     let hi = n + (1 + numbered y + numbered rest) in
     good_if n hi r (nat_lt a.at m) (then_do (leave (declared y) (go_on_behind service y (n + 1) around a)) (exec service rest m around))
     (go_on_behind service rest m around a)
-    (good_step n m (m + numbered rest) hi r (leave (declared y) (go_on_behind service y (n + 1) around a)) (exec service rest m around) (omega arith) (omega arith)
+    (good_step n m (m + numbered rest) hi r (leave (declared y) (go_on_behind service y (n + 1) around a)) (exec service rest m around) (omega arith)
+    (omega arith)
     (omega arith)
     (good_inner n m r (declared y) (go_on_behind service y (n + 1) around a) (behind_good service y (n + 1) around a))
     (λ st. exec_good service rest m around st))
-    (good_more m (m + numbered rest) r n hi r (go_on_behind service rest m around a) (omega arith) (omega arith) (omega arith) (behind_good service rest m around a))
+    (good_more m (m + numbered rest) r n hi r (go_on_behind service rest m around a) (omega arith) (omega arith) (omega arith)
+    (behind_good service rest m around a))
 behind_good service (if_else t y z rest) n around a =
     let r = budget + refills a.later in
     let k = n + 1 + numbered y in
@@ -73,10 +77,12 @@ behind_good service (if_else t y z rest) n around a =
     let p = then_do (leave (declared y) (go_on_behind service y (n + 1) around a)) (exec service rest m around) in
     let q = then_do (leave (declared z) (go_on_behind service z k around a)) (exec service rest m around) in
     good_if n hi r (nat_lt a.at k) p (if nat_lt a.at m then q else go_on_behind service rest m around a)
-    (good_step n m (m + numbered rest) hi r (leave (declared y) (go_on_behind service y (n + 1) around a)) (exec service rest m around) (omega arith) (omega arith)
+    (good_step n m (m + numbered rest) hi r (leave (declared y) (go_on_behind service y (n + 1) around a)) (exec service rest m around) (omega arith)
+    (omega arith)
     (omega arith)
     (good_inner n m r (declared y) (go_on_behind service y (n + 1) around a)
-    (good_more (n + 1) k r (n + 1) m r (go_on_behind service y (n + 1) around a) (omega arith) (omega arith) (omega arith) (behind_good service y (n + 1) around a)))
+    (good_more (n + 1) k r (n + 1) m r (go_on_behind service y (n + 1) around a) (omega arith) (omega arith) (omega arith)
+    (behind_good service y (n + 1) around a)))
     (λ st. exec_good service rest m around st))
     (good_if n hi r (nat_lt a.at m) q (go_on_behind service rest m around a)
     (good_step n m (m + numbered rest) hi r (leave (declared z) (go_on_behind service z k around a)) (exec service rest m around) (omega arith) (omega arith)
@@ -84,7 +90,8 @@ behind_good service (if_else t y z rest) n around a =
     (good_leave n m r (declared z) (go_on_behind service z k around a)
     (good_more k m r n m r (go_on_behind service z k around a) (omega arith) (omega arith) (omega arith) (behind_good service z k around a)))
     (λ st. exec_good service rest m around st))
-    (good_more m (m + numbered rest) r n hi r (go_on_behind service rest m around a) (omega arith) (omega arith) (omega arith) (behind_good service rest m around a)))
+    (good_more m (m + numbered rest) r n hi r (go_on_behind service rest m around a) (omega arith) (omega arith) (omega arith)
+    (behind_good service rest m around a)))
 behind_good service (while_loop t b rest) n around a =
     let r = budget + refills a.later in
     let m = n + 1 + numbered b in
@@ -96,7 +103,8 @@ behind_good service (while_loop t b rest) n around a =
     (good_inner n m r (declared b) (go_on_behind service b (n + 1) around a) (behind_good service b (n + 1) around a)))
     (λ st le. good_more n hi (room st) n hi r (exec service (while_loop t b rest) n around st) (omega arith) (omega arith) le
     (exec_good service (while_loop t b rest) n around st)))
-    (good_more m (m + numbered rest) r n hi r (go_on_behind service rest m around a) (omega arith) (omega arith) (omega arith) (behind_good service rest m around a))
+    (good_more m (m + numbered rest) r n hi r (go_on_behind service rest m around a) (omega arith) (omega arith) (omega arith)
+    (behind_good service rest m around a))
 behind_good service (for_each w e b rest) n around a =
     let r = budget + refills a.later in
     let m = n + 1 + numbered b in
@@ -112,13 +120,15 @@ behind_good service (for_each w e b rest) n around a =
     (each vs w names (λ later. exec service b (n + 1) (around + list_weight later)))
     (good_leave n m r names (add_rest vs (go_on_behind service b (n + 1) (around + list_weight vs) (record a { rests = inner })))
     (good_rest n m r vs (go_on_behind service b (n + 1) (around + list_weight vs) (record a { rests = inner }))
-    (good_more (n + 1) m r n m r (go_on_behind service b (n + 1) (around + list_weight vs) (record a { rests = inner })) (omega arith) (omega arith) (omega arith)
+    (good_more (n + 1) m r n m r (go_on_behind service b (n + 1) (around + list_weight vs) (record a { rests = inner })) (omega arith) (omega arith)
+    (omega arith)
     (behind_good service b (n + 1) (around + list_weight vs) (record a { rests = inner })))))
     (λ st le. good_each n m r vs w names (λ later. exec service b (n + 1) (around + list_weight later)) st le
     (λ ws st2. good_more (n + 1) m (room st2) n m (room st2) (exec service b (n + 1) (around + list_weight ws) st2) (omega arith) (omega arith) (omega arith)
     (exec_good service b (n + 1) (around + list_weight ws) st2)))))
     (λ st. exec_good service rest m around st))
-    (good_more m (m + numbered rest) r n hi r (go_on_behind service rest m around a) (omega arith) (omega arith) (omega arith) (behind_good service rest m around a))
+    (good_more m (m + numbered rest) r n hi r (go_on_behind service rest m around a) (omega arith) (omega arith) (omega arith)
+    (behind_good service rest m around a))
 
 -- what comes behind a show of these statements that this input answers
 abbrev pub back : Service → Code → ℕ → ℕ → Input → Back
@@ -227,7 +237,8 @@ exec_law service (while_loop t b rest) n around st i =
     (λ st1. exec_good service rest m around st1) (λ st1. exec_law service rest m around st1 i)
     (λ k l rs x lt. then_then (body k l rs) loop next
     ∙ sym (if_below k m (then_do (body k l rs) (exec service (while_loop t b rest) n around)) (go_on_behind service rest m around (answered k l rs i)) lt))
-    (λ k l rs le x. sym (if_above k m (then_do (body k l rs) (exec service (while_loop t b rest) n around)) (go_on_behind service rest m around (answered k l rs i))
+    (λ k l rs le x. sym (if_above k m (then_do (body k l rs) (exec service (while_loop t b rest) n around))
+    (go_on_behind service rest m around (answered k l rs i))
     le))
 exec_law service (block b rest) n around st i =
     let m = n + numbered b in

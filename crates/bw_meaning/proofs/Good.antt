@@ -68,7 +68,8 @@ mutual
       leaves_then u (eval service l s e u) (λ v x.
       and_then (given (filled (names.name_number service.gaps g) v (document_of d)) x) (λ d1 y. fill service l s ps d1 y)) (eval_leaves service l s e u)
       (λ v x. leaves_then x (given (filled (names.name_number service.gaps g) v (document_of d)) x)
-      (λ d1 y. fill service l s ps d1 y) (leaves_given (filled (names.name_number service.gaps g) v (document_of d)) x) (λ d1 y. fill_leaves service l s ps d1 y))
+      (λ d1 y. fill service l s ps d1 y) (leaves_given (filled (names.name_number service.gaps g) v (document_of d)) x)
+      (λ d1 y. fill_leaves service l s ps d1 y))
 
 -- ---- outcomes
 

@@ -1,5 +1,14 @@
 //! Laws of the meaning. A law is the contract of an empty function.
-ghost use Rattle.bw_meaning.specs.NameLaws.{OrdersAgree, OrdersWeighTheSame, ExpressionsSeeNames, StoringIsOfOneName, DeclaringAddsOneName, LeavingTakesNames, BlocksLeave, AnsweredBlocksLeave};
+ghost use Rattle.bw_meaning.specs.NameLaws.{
+  OrdersAgree,
+  OrdersWeighTheSame,
+  ExpressionsSeeNames,
+  StoringIsOfOneName,
+  DeclaringAddsOneName,
+  LeavingTakesNames,
+  BlocksLeave,
+  AnsweredBlocksLeave,
+};
 ghost use Rattle.bw_meaning.specs.Orders.{OrdersAreReordered, StatementsSeeNoOrder, TurnsSeeNoOrder, GoingOnSeesNoOrder};
 ghost use Rattle.bw_meaning.specs.Laws.{TurnGoesOn, GoingOnGoesOn, TurnCosts, GoingOnCosts, LoopsAgain};
 

@@ -1,5 +1,35 @@
 -- Lists whose values become more.
-use Rattle.std.proofs.Common.{◌≡◌, ◌≢◌, ◌⊎◌, inl, inr, ℕ, ◌+◌, ◌<◌, ◌==◌, Bool, true, false, not, if◌then◌else◌, List, [], ◌∷◌, ◌++◌, length, set, take, get_or, append_assoc, refl, ap, sym, ◌∙◌, subst, arith}
+use Rattle.std.proofs.Common.{
+  ◌≡◌,
+  ◌≢◌,
+  ◌⊎◌,
+  inl,
+  inr,
+  ℕ,
+  ◌+◌,
+  ◌<◌,
+  ◌==◌,
+  Bool,
+  true,
+  false,
+  not,
+  if◌then◌else◌,
+  List,
+  [],
+  ◌∷◌,
+  ◌++◌,
+  length,
+  set,
+  take,
+  get_or,
+  append_assoc,
+  refl,
+  ap,
+  sym,
+  ◌∙◌,
+  subst,
+  arith,
+}
 use Rattle.std.proofs.lemmas.List.{get_or-set_same, get_or-set_other, length-set, take_more, append-nil}
 use Rattle.std.proofs.lemmas.Bool.{false≢true, cases_Bool}
 use borrow.Author.Tests.{eqb-true, eq-eqb}
@@ -26,7 +56,8 @@ set_grows {T = T} op d b c n x f l e is others = record {
   each = λ k m. ap (λ xs. get_or xs k d) e ∙ elim (cases_Bool (k == n)) [
     | inl it ↦
         let j = eqb-true k n it in
-        ap (λ i. get_or (set b n (op (get_or b n d) x)) i d) j ∙ get_or-set_same b n (op (get_or b n d) x) d l ∙ ap (op (get_or b n d)) (sym is) ∙ sym (ap (λ i. op (get_or b i d) (f i)) j)
+        ap (λ i. get_or (set b n (op (get_or b n d) x)) i d) j ∙ get_or-set_same b n (op (get_or b n d) x) d l ∙ ap (op (get_or b n d)) (sym is)
+        ∙ sym (ap (λ i. op (get_or b i d) (f i)) j)
     | inr isnt ↦
         let j : k ≢ n = λ q. false≢true (sym isnt ∙ eq-eqb k n q) in
         get_or-set_other b n k (op (get_or b n d) x) d j ∙ sym (others k j (get_or b k d))
@@ -65,7 +96,8 @@ if_not_cons false x all xs ys e = ap (λ l. x ∷ l) e
 
 wordy-append : (literals : List (List ℕ)) (xs ys : List (ℕ × StrSet)) → wordy_of literals (xs ++ ys) ≡ wordy_of literals xs ++ wordy_of literals ys
 wordy-append literals [] ys = refl
-wordy-append literals (l ∷ xs) ys = if_not_cons (blank literals l.1) l.0 (wordy_of literals (xs ++ ys)) (wordy_of literals xs) (wordy_of literals ys) (wordy-append literals xs ys)
+wordy-append literals (l ∷ xs) ys = if_not_cons (blank literals l.1) l.0 (wordy_of literals (xs ++ ys)) (wordy_of literals xs) (wordy_of literals ys)
+    (wordy-append literals xs ys)
 
 two : {X : Type 0} (a f g h : List X) → h ≡ f ++ g → (a ++ f) ++ g ≡ a ++ h
 two a f g h e = append_assoc a f g ∙ ap (λ k. a ++ k) (sym e)
@@ -74,30 +106,40 @@ nil_two : {X : Type 0} (a : List X) → (a ++ []) ++ [] ≡ a ++ []
 nil_two a = append-nil (a ++ [])
 
 -- one edge, one track, one label more
-pub edge_more : (xs : List (ℕ × ℕ × ℕ)) (i : ℕ) (x d : ℕ × ℕ × ℕ) (a b c : List Node) → x ≡ get_or xs i d → i < length xs → GrowsNodes a b (link_part (take i xs)) → GrowsNodes b c (link_part (x ∷ []))
+pub edge_more : (xs : List (ℕ × ℕ × ℕ)) (i : ℕ) (x d : ℕ × ℕ × ℕ) (a b c : List Node) → x ≡ get_or xs i d → i < length xs
+    → GrowsNodes a b (link_part (take i xs)) → GrowsNodes b c (link_part (x ∷ []))
     → GrowsNodes a c (link_part (take (i + 1) xs))
 edge_more xs i x d a b c e h p q =
     subst (λ ys. GrowsNodes a c (link_part ys)) (sym (take_more xs i d h ∙ ap (λ y. take i xs ++ y ∷ []) (sym e)))
-    (grows_then (link_part (take i xs ++ x ∷ [])) p q (λ n y. node_is (two y.links (links_of n (take i xs)) (links_of n (x ∷ [])) _ (links-append n (take i xs) (x ∷ []))) (nil_two y.open_gaps) (nil_two y.said) (nil_two y.wordy)))
+    (grows_then (link_part (take i xs ++ x ∷ [])) p q (λ n y.
+    node_is (two y.links (links_of n (take i xs)) (links_of n (x ∷ [])) _ (links-append n (take i xs) (x ∷ []))) (nil_two y.open_gaps)
+    (nil_two y.said) (nil_two y.wordy)))
 
-pub track_more : (xs : List (ℕ × ℕ)) (i : ℕ) (x d : ℕ × ℕ) (a b c : List Node) → x ≡ get_or xs i d → i < length xs → GrowsNodes a b (open_part (take i xs)) → GrowsNodes b c (open_part (x ∷ []))
+pub track_more : (xs : List (ℕ × ℕ)) (i : ℕ) (x d : ℕ × ℕ) (a b c : List Node) → x ≡ get_or xs i d → i < length xs
+    → GrowsNodes a b (open_part (take i xs)) → GrowsNodes b c (open_part (x ∷ []))
     → GrowsNodes a c (open_part (take (i + 1) xs))
 track_more xs i x d a b c e h p q =
     subst (λ ys. GrowsNodes a c (open_part ys)) (sym (take_more xs i d h ∙ ap (λ y. take i xs ++ y ∷ []) (sym e)))
-    (grows_then (open_part (take i xs ++ x ∷ [])) p q (λ n y. node_is (nil_two y.links) (two y.open_gaps (opens_of n (take i xs)) (opens_of n (x ∷ [])) _ (opens-append n (take i xs) (x ∷ []))) (nil_two y.said) (nil_two y.wordy)))
+    (grows_then (open_part (take i xs ++ x ∷ [])) p q (λ n y.
+    node_is (nil_two y.links) (two y.open_gaps (opens_of n (take i xs)) (opens_of n (x ∷ [])) _ (opens-append n (take i xs) (x ∷ [])))
+    (nil_two y.said) (nil_two y.wordy)))
 
-pub said_more : (literals : List (List ℕ)) (xs : List ((ℕ × ℕ) × StrSet)) (i : ℕ) (x d : (ℕ × ℕ) × StrSet) (a b c : List Node) → x ≡ get_or xs i d → i < length xs
+pub said_more : (literals : List (List ℕ)) (xs : List ((ℕ × ℕ) × StrSet)) (i : ℕ) (x d : (ℕ × ℕ) × StrSet) (a b c : List Node) → x ≡ get_or xs i d
+    → i < length xs
     → GrowsNodes a b (said_part literals (take i xs)) → GrowsNodes b c (said_part literals (x ∷ [])) → GrowsNodes a c (said_part literals (take (i + 1) xs))
 said_more literals xs i x d a b c e h p q =
     subst (λ ys. GrowsNodes a c (said_part literals ys)) (sym (take_more xs i d h ∙ ap (λ y. take i xs ++ y ∷ []) (sym e)))
     (grows_then (said_part literals (take i xs ++ x ∷ [])) p q (λ n y.
     let s = sayings-append n (take i xs) (x ∷ []) in
     node_is (nil_two y.links) (nil_two y.open_gaps)
-    (two y.said (gaps_of (sayings_of n (take i xs))) (gaps_of (sayings_of n (x ∷ []))) _ (ap gaps_of s ∙ gaps-append (sayings_of n (take i xs)) (sayings_of n (x ∷ []))))
-    (two y.wordy (wordy_of literals (sayings_of n (take i xs))) (wordy_of literals (sayings_of n (x ∷ []))) _ (ap (wordy_of literals) s ∙ wordy-append literals (sayings_of n (take i xs)) (sayings_of n (x ∷ []))))))
+    (two y.said (gaps_of (sayings_of n (take i xs))) (gaps_of (sayings_of n (x ∷ []))) _
+    (ap gaps_of s ∙ gaps-append (sayings_of n (take i xs)) (sayings_of n (x ∷ []))))
+    (two y.wordy (wordy_of literals (sayings_of n (take i xs))) (wordy_of literals (sayings_of n (x ∷ []))) _
+    (ap (wordy_of literals) s ∙ wordy-append literals (sayings_of n (take i xs)) (sayings_of n (x ∷ []))))))
 
 pub saying_more : (xs : List ((ℕ × ℕ) × StrSet)) (i : ℕ) (x d : (ℕ × ℕ) × StrSet) (a b c : List (List (ℕ × StrSet))) → x ≡ get_or xs i d → i < length xs
     → GrowsSaid a b (λ n. sayings_of n (take i xs)) → GrowsSaid b c (λ n. sayings_of n (x ∷ [])) → GrowsSaid a c (λ n. sayings_of n (take (i + 1) xs))
 saying_more xs i x d a b c e h p q =
     subst (λ ys. GrowsSaid a c (λ n. sayings_of n ys)) (sym (take_more xs i d h ∙ ap (λ y. take i xs ++ y ∷ []) (sym e)))
-    (grows_then (λ n. sayings_of n (take i xs ++ x ∷ [])) p q (λ n y. two y (sayings_of n (take i xs)) (sayings_of n (x ∷ [])) _ (sayings-append n (take i xs) (x ∷ []))))
+    (grows_then (λ n. sayings_of n (take i xs ++ x ∷ [])) p q
+    (λ n y. two y (sayings_of n (take i xs)) (sayings_of n (x ∷ [])) _ (sayings-append n (take i xs) (x ∷ []))))

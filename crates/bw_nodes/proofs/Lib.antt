@@ -1,4 +1,5 @@
 pub mod Bools
 pub mod Growing
 pub mod Members
+pub mod PastRows
 pub mod Wrapped

@@ -50,7 +50,12 @@ impl Node {
 
     /// One link more.
     pub(crate) fn add_link(&mut self, gap: GapId, to: TemplateId) -> Result<(), Memory>
-        ensures ok { OnOk result (self.new ≡ record { links = self.old.links ++ (gap, to) ∷ []; open_gaps = self.old.open_gaps; said = self.old.said; wordy = self.old.wordy }) }
+        ensures ok { OnOk result (self.new ≡ record {
+          links = self.old.links ++ (gap, to) ∷ [];
+          open_gaps = self.old.open_gaps;
+          said = self.old.said;
+          wordy = self.old.wordy;
+        }) }
     {
         self.links.push((gap, to))?;
         Ok(())
@@ -58,7 +63,12 @@ impl Node {
 
     /// One more gap that may be left open.
     pub(crate) fn add_open(&mut self, gap: GapId) -> Result<(), Memory>
-        ensures ok { OnOk result (self.new ≡ record { links = self.old.links; open_gaps = self.old.open_gaps ++ gap ∷ []; said = self.old.said; wordy = self.old.wordy }) }
+        ensures ok { OnOk result (self.new ≡ record {
+          links = self.old.links;
+          open_gaps = self.old.open_gaps ++ gap ∷ [];
+          said = self.old.said;
+          wordy = self.old.wordy;
+        }) }
     {
         self.open_gaps.push(gap)?;
         Ok(())
@@ -66,7 +76,12 @@ impl Node {
 
     /// One more gap that some string may fill, and whether one that isn't blank may.
     pub(crate) fn add_said(&mut self, gap: GapId, is_wordy: bool) -> Result<(), Memory>
-        ensures ok { OnOk result (self.new ≡ record { links = self.old.links; open_gaps = self.old.open_gaps; said = self.old.said ++ gap ∷ []; wordy = self.old.wordy ++ (if is_wordy then gap ∷ [] else []) }) }
+        ensures ok { OnOk result (self.new ≡ record {
+          links = self.old.links;
+          open_gaps = self.old.open_gaps;
+          said = self.old.said ++ gap ∷ [];
+          wordy = self.old.wordy ++ (if is_wordy then gap ∷ [] else []);
+        }) }
     {
         self.said.push(gap)?;
         if is_wordy {

@@ -18,7 +18,8 @@ fields-append (element t a i r) b =
     ∙ sym (append_assoc (field_of t a) (fields i ++ fields r) (fields b))
 
 -- one item more
-pub fields_at_read : (xs : List Item) (i : ℕ) (d : Item) → i < length xs → (get_or xs i d ≡ get_or xs i d) × (fields (forest (take (i + 1) xs)) ≡ fields (forest (take i xs)) ++ fields (before (get_or xs i d) none))
+pub fields_at_read : (xs : List Item) (i : ℕ) (d : Item) → i < length xs → (get_or xs i d ≡ get_or xs i d)
+    × (fields (forest (take (i + 1) xs)) ≡ fields (forest (take i xs)) ++ fields (before (get_or xs i d) none))
 fields_at_read xs i d h = (refl, ap fields (forest_at_read xs i d h).1 ∙ fields-append (forest (take i xs)) (before (get_or xs i d) none))
 
 pub ruleset field_steps = (append-nil, append_assoc, size_at_read, fields_at_read)

@@ -20,7 +20,8 @@ ExitLength = (title : List ℕ) (d : Forest) → AllPass is_word_byte title → 
 
 -- the length of a shown page with a target that is printed as it is
 abbrev pub ShowLength : Type 0
-ShowLength = (title target : List ℕ) (d : Forest) → AllPass is_word_byte title → AllPass is_plain target → length (print (show_page title target d)) ≡ 137 + length title + length target + length (print d)
+ShowLength = (title target : List ℕ) (d : Forest) → AllPass is_word_byte title → AllPass is_plain target
+    → length (print (show_page title target d)) ≡ 137 + length title + length target + length (print d)
 
 -- the target of a session's turn: /s/NUMBER-KEY/TURN
 abbrev pub turn_target : List ℕ → List ℕ → List ℕ → List ℕ
@@ -29,5 +30,6 @@ turn_target number key turn = codes "/s/" ++ (number ++ (codes "-" ++ (key ++ (c
 -- the length of a shown page with the target of a session's turn
 abbrev pub TurnLength : Type 0
 TurnLength =
-    (title number key turn : List ℕ) (d : Forest) → AllPass is_word_byte title → AllPass is_digit number → AllPass is_hex_digit key → length key ≡ 16 → AllPass is_digit turn
+    (title number key turn : List ℕ) (d : Forest) → AllPass is_word_byte title → AllPass is_digit number → AllPass is_hex_digit key → length key ≡ 16
+    → AllPass is_digit turn
     → length (print (show_page title (turn_target number key turn) d)) ≡ 158 + length title + length number + length turn + length (print d)

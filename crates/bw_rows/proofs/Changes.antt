@@ -67,7 +67,8 @@ sets_fresh w row new test e s k l =
     let m : k < length row = omega (arith, l, n) in
     s.each k m ∙ ap (λ b. b || test k) (ap (λ r. flag r k) e ∙ get_or-replicate w k false false l)
 
-pub rises_fresh : (w : ℕ) (old new : List ℕ) (by : ℕ → ℕ) → old ≡ replicate w 0 → Rises old new by → (k : ℕ) → k < w → nat_lt 1 (get_or new k 0) ≡ nat_lt 1 (by k)
+pub rises_fresh : (w : ℕ) (old new : List ℕ) (by : ℕ → ℕ) → old ≡ replicate w 0 → Rises old new by → (k : ℕ) → k < w
+    → nat_lt 1 (get_or new k 0) ≡ nat_lt 1 (by k)
 rises_fresh w old new by e s k l =
     let n : length old ≡ w = ap length e ∙ length-replicate w 0 in
     let m : k < length old = omega (arith, l, n) in

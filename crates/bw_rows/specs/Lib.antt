@@ -1,3 +1,4 @@
 pub mod Changes
 pub mod Least
+pub mod Rounds
 pub mod Rows

@@ -129,7 +129,8 @@ module _ (typed : Typed) (flow : Plan) (same : flow ≡ plan_of typed.service) (
   arrives : (q : ℕ) (new : Standing) → does typed.service x.act x mark s.rests (state s) ≡ Went (record (state new) { units = q }) →
       HasKindsAt typed.service flow.steps q new
   arrives q new e =
-      let told = comes_on typed.service steps (points_are_typed typed) (all_have_nexts typed.service) (goes_past typed.service) p x there s.rests (state s) fits in
+      let told = comes_on typed.service steps (points_are_typed typed) (all_have_nexts typed.service) (goes_past typed.service) p x there s.rests
+      (state s) fits in
       let a = subst (Told typed.service steps (λ st. Arrives typed.service steps st.units st)) e told in
       subst (λ (f : Plan). HasKindsAt typed.service f.steps q new) (sym same) (record { locals = a.there; shared = a.shared })
 

@@ -1,5 +1,32 @@
 -- Formulas that are spelled so are read, and loops over formulas.
-use Rattle.std.proofs.Common.{◌≡◌, ℕ, zero, suc, ◌+◌, ◌-◌, ◌<◌, ◌≤◌, max, Bool, true, false, not, ◌&&◌, ◌||◌, List, [], ◌∷◌, ◌++◌, length, take, drop, Option, Some, None, refl, ap, sym, ◌∙◌, arith}
+use Rattle.std.proofs.Common.{
+  ◌≡◌,
+  ℕ,
+  zero,
+  suc,
+  ◌+◌,
+  ◌-◌,
+  ◌≤◌,
+  Bool,
+  true,
+  false,
+  not,
+  ◌&&◌,
+  List,
+  [],
+  ◌∷◌,
+  ◌++◌,
+  length,
+  take,
+  drop,
+  Option,
+  Some,
+  None,
+  refl,
+  ap,
+  ◌∙◌,
+  arith,
+}
 use Rattle.std.specs.Prelude.{codes, if◌then◌else◌, ◌==◌}
 use Rattle.std.specs.List.{list_all}
 use Rattle.std.proofs.Math.Dec.{eqb-suc-zero}
@@ -7,17 +34,31 @@ use Rattle.std.proofs.lemmas.Bool.{false≢true}
 use Rattle.std.proofs.lemmas.List.{take_at, drop_at, length-append}
 use Rattle.bw_lang.specs.Table.Options.{◌>>=◌}
 use Rattle.bw_lang.specs.declared.pieces.NameClass.TheVariants as class
-use Rattle.bw_schema.proofs.NeedsLaws.{before_append}
-use Rattle.bw_schema.proofs.Spelled.{both, ended_there, formula_sound, name_there, IsSpelled}
+use Rattle.bw_schema.proofs.Spelled.{both, ended_there, name_there}
 use Rattle.bw_schema.specs.Forms.{are_formed, depth, is_name, is_nothing, is_paren, one, spell_needs}
-use Rattle.bw_schema.specs.Needs.{Needs, nothing, all_of, some_of, attr, one_value, content, order, append_needs}
-use Rattle.bw_schema.specs.NeedsView.{before_need, needs}
-use Rattle.bw_schema.specs.Steps.Reading.{attr_at, closed, content_at, count_values, ended, formula_at, formula_of, inside_at, name_at, needs_at, needs_next, opened, order_at, parts_at, simple_at, value_at}
+use Rattle.bw_schema.specs.Needs.{Needs, nothing, all_of, some_of, attr, one_value, content, order}
+use Rattle.bw_schema.specs.NeedsView.{before_need}
+use Rattle.bw_schema.specs.Steps.Reading.{
+  attr_at,
+  closed,
+  content_at,
+  count_values,
+  ended,
+  formula_at,
+  inside_at,
+  name_at,
+  needs_at,
+  needs_next,
+  order_at,
+  parts_at,
+  simple_at,
+  value_at,
+}
 use Rattle.bw_schema.specs.Words.{has_some}
 use Rattle.bw_schema.specs.declared.needs.Formula.{Formula}
 use Rattle.bw_schema.specs.declared.needs.Formula.TheVariants as formula
 
-abbrev Step : Type 0
+abbrev pub Step : Type 0
 Step = List (List ℕ) → Option (Formula × List (List ℕ))
 
 -- ---- formulas without parts
@@ -33,7 +74,8 @@ content_complete : (x : List ℕ) (r : List (List ℕ)) → is_name class.Tag x 
 unfolding content_at
 content_complete x r h = ap (λ o. o >>= λ n. ended (formula.Content n.0) n.1) (name_there class.Tag x (codes ")" ∷ r) h) ∙ ended_there (formula.Content x) r
 
-order_complete : (x y : List ℕ) (r : List (List ℕ)) → is_name class.Tag x ≡ true → is_name class.Tag y ≡ true → order_at (x ∷ y ∷ codes ")" ∷ r) ≡ Some (formula.Order x y, r)
+order_complete : (x y : List ℕ) (r : List (List ℕ)) → is_name class.Tag x ≡ true → is_name class.Tag y ≡ true
+    → order_at (x ∷ y ∷ codes ")" ∷ r) ≡ Some (formula.Order x y, r)
 unfolding order_at
 order_complete x y r h k =
     ap (λ o. o >>= λ n. name_at class.Tag n.1 >>= λ m. ended (formula.Order n.0 m.0) m.1) (name_there class.Tag x (y ∷ codes ")" ∷ r) h)
@@ -45,17 +87,20 @@ count_spelled (v ∷ vs) r h =
     let k = both (not (is_paren v)) (list_all (λ w. not (is_paren w)) vs) h in
     by_test (is_paren v) k.0 (count_spelled vs r k.1)
   where
-    by_test : (b : Bool) → not b ≡ true → count_values (vs ++ codes ")" ∷ r) ≡ length vs → (if b then 0 else suc (count_values (vs ++ codes ")" ∷ r))) ≡ suc (length vs)
+    by_test : (b : Bool) → not b ≡ true → count_values (vs ++ codes ")" ∷ r) ≡ length vs
+        → (if b then 0 else suc (count_values (vs ++ codes ")" ∷ r))) ≡ suc (length vs)
     by_test true e ih = absurd (false≢true e)
     by_test false e ih = ap suc ih
 
-value_complete : (x : List ℕ) (vs : List (List ℕ)) (r : List (List ℕ)) → is_name class.Attr x ≡ true → has_some vs ≡ true → list_all (λ v. not (is_paren v)) vs ≡ true
+value_complete : (x : List ℕ) (vs : List (List ℕ)) (r : List (List ℕ)) → is_name class.Attr x ≡ true → has_some vs ≡ true
+    → list_all (λ v. not (is_paren v)) vs ≡ true
     → value_at (x ∷ (vs ++ codes ")" ∷ r)) ≡ Some (formula.OneOf x vs, r)
 unfolding value_at
 value_complete x vs r h some k =
     let words = vs ++ codes ")" ∷ r in
     let at : ℕ → Option (Formula × List (List ℕ)) = λ n. if n == 0 then None else ended (formula.OneOf x (take n words)) (drop n words) in
-    ap (λ o. o >>= λ n. if count_values n.1 == 0 then None else ended (formula.OneOf n.0 (take (count_values n.1) n.1)) (drop (count_values n.1) n.1)) (name_there class.Attr x words h)
+    ap (λ o. o >>= λ n. if count_values n.1 == 0 then None else ended (formula.OneOf n.0 (take (count_values n.1) n.1)) (drop (count_values n.1) n.1))
+    (name_there class.Attr x words h)
     ∙ ap at (count_spelled vs r k) ∙ counted vs some
     ∙ ap (λ (t : List (List ℕ)). ended (formula.OneOf x t) (drop (length vs) words)) (take_at vs (codes ")" ∷ r) (length vs) refl)
     ∙ ap (λ (t : List (List ℕ)). ended (formula.OneOf x vs) t) (drop_at vs (codes ")" ∷ r) (length vs) refl) ∙ ended_there (formula.OneOf x vs) r
@@ -80,7 +125,7 @@ tops (content x rest) = suc (tops rest)
 tops (order x y rest) = suc (tops rest)
 
 -- no formula is spelled with no words
-longer : (ns : Needs) (r : List (List ℕ)) → length r + tops ns ≤ length (spell_needs ns r)
+pub longer : (ns : Needs) (r : List (List ℕ)) → length r + tops ns ≤ length (spell_needs ns r)
 longer nothing r = omega arith
 longer (all_of p rest) r = omega (arith, longer p (codes ")" ∷ spell_needs rest r), longer rest r)
 longer (some_of p rest) r = omega (arith, longer p (codes ")" ∷ spell_needs rest r), longer rest r)
@@ -89,14 +134,16 @@ longer (one_value x vs rest) r = omega (arith, length-append vs (codes ")" ∷ s
 longer (content x rest) r = omega (arith, longer rest r)
 longer (order x y rest) r = omega (arith, longer rest r)
 
-needs_more : (step : Step) (n : ℕ) (f : Formula) (rest : Needs) (k r : List (List ℕ)) → step (spell_needs (one f) k) ≡ Some (f, k) → needs_at step n k ≡ (rest, r)
+needs_more : (step : Step) (n : ℕ) (f : Formula) (rest : Needs) (k r : List (List ℕ)) → step (spell_needs (one f) k) ≡ Some (f, k)
+    → needs_at step n k ≡ (rest, r)
     → needs_at step (suc n) (spell_needs (one f) k) ≡ (before_need f rest, r)
 unfolding needs_at
 needs_more step n f rest k r e h =
     ap (λ o. needs_next o (spell_needs (one f) k) (needs_at step n)) e ∙ ap (λ (p : Needs × List (List ℕ)). (before_need f p.0, p.1)) h
 
 -- a formula and those behind it
-begun : (d : ℕ) (step : Step) → Complete d step → (n : ℕ) (f : Formula) (rest : Needs) (r : List (List ℕ)) → are_formed (one f) ≡ true → depth (one f) ≤ d → suc (tops rest) ≤ n
+begun : (d : ℕ) (step : Step) → Complete d step → (n : ℕ) (f : Formula) (rest : Needs) (r : List (List ℕ)) → are_formed (one f) ≡ true → depth (one f) ≤ d
+    → suc (tops rest) ≤ n
     → ((m : ℕ) → tops rest ≤ m → needs_at step m (spell_needs rest r) ≡ (rest, r))
     → needs_at step n (spell_needs (one f) (spell_needs rest r)) ≡ (before_need f rest, r)
 begun d step c zero f rest r h e t ih = absurd (omega (arith, t))
@@ -109,29 +156,36 @@ with_end false b h = h
 behind : (a b : Bool) → (a && b) ≡ true → b ≡ true
 behind a b h = (both a b h).1
 
-needs_complete : (d : ℕ) (step : Step) → Complete d step → (ns : Needs) (n : ℕ) (r : List (List ℕ)) → step r ≡ None → are_formed ns ≡ true → depth ns ≤ d → tops ns ≤ n
+needs_complete : (d : ℕ) (step : Step) → Complete d step → (ns : Needs) (n : ℕ) (r : List (List ℕ)) → step r ≡ None → are_formed ns ≡ true → depth ns ≤ d
+    → tops ns ≤ n
     → needs_at step n (spell_needs ns r) ≡ (ns, r)
 unfolding needs_at
 needs_complete d step c nothing zero r stop h e t = refl
 needs_complete d step c nothing (suc n) r stop h e t = ap (λ o. needs_next o r (needs_at step n)) stop
 needs_complete d step c (all_of p rest) n r stop h e t =
-    begun d step c n (formula.And p) rest r (with_end _ _ h) (omega (arith, e)) t (λ m l. needs_complete d step c rest m r stop (behind _ _ h) (omega (arith, e)) l)
+    begun d step c n (formula.And p) rest r (with_end _ _ h) (omega (arith, e)) t
+    (λ m l. needs_complete d step c rest m r stop (behind _ _ h) (omega (arith, e)) l)
 needs_complete d step c (some_of p rest) n r stop h e t =
-    begun d step c n (formula.Or p) rest r (with_end _ _ h) (omega (arith, e)) t (λ m l. needs_complete d step c rest m r stop (behind _ _ h) (omega (arith, e)) l)
+    begun d step c n (formula.Or p) rest r (with_end _ _ h) (omega (arith, e)) t
+    (λ m l. needs_complete d step c rest m r stop (behind _ _ h) (omega (arith, e)) l)
 needs_complete d step c (attr x rest) n r stop h e t =
-    begun d step c n (formula.Attr x) rest r (with_end _ _ h) (omega (arith, e)) t (λ m l. needs_complete d step c rest m r stop (behind _ _ h) (omega (arith, e)) l)
+    begun d step c n (formula.Attr x) rest r (with_end _ _ h) (omega (arith, e)) t
+    (λ m l. needs_complete d step c rest m r stop (behind _ _ h) (omega (arith, e)) l)
 needs_complete d step c (one_value x vs rest) n r stop h e t =
-    begun d step c n (formula.OneOf x vs) rest r (with_end _ _ h) (omega (arith, e)) t (λ m l. needs_complete d step c rest m r stop (behind _ _ h) (omega (arith, e)) l)
+    begun d step c n (formula.OneOf x vs) rest r (with_end _ _ h) (omega (arith, e)) t
+    (λ m l. needs_complete d step c rest m r stop (behind _ _ h) (omega (arith, e)) l)
 needs_complete d step c (content x rest) n r stop h e t =
-    begun d step c n (formula.Content x) rest r (with_end _ _ h) (omega (arith, e)) t (λ m l. needs_complete d step c rest m r stop (behind _ _ h) (omega (arith, e)) l)
+    begun d step c n (formula.Content x) rest r (with_end _ _ h) (omega (arith, e)) t
+    (λ m l. needs_complete d step c rest m r stop (behind _ _ h) (omega (arith, e)) l)
 needs_complete d step c (order x y rest) n r stop h e t =
-    begun d step c n (formula.Order x y) rest r (with_end _ _ h) (omega (arith, e)) t (λ m l. needs_complete d step c rest m r stop (behind _ _ h) (omega (arith, e)) l)
+    begun d step c n (formula.Order x y) rest r (with_end _ _ h) (omega (arith, e)) t
+    (λ m l. needs_complete d step c rest m r stop (behind _ _ h) (omega (arith, e)) l)
 
 -- what follows parts
-abbrev with_rest : Needs → List (List ℕ) → Option (Needs × List (List ℕ))
+abbrev pub with_rest : Needs → List (List ℕ) → Option (Needs × List (List ℕ))
 with_rest ns rest = Some (ns, rest)
 
-abbrev ended_parts : Needs × List (List ℕ) → Option (Needs × List (List ℕ))
+abbrev pub ended_parts : Needs × List (List ℕ) → Option (Needs × List (List ℕ))
 ended_parts p = if is_nothing p.0 then None else (closed p.1 >>= with_rest p.0)
 
 abbrev as_and : Needs × List (List ℕ) → Option (Formula × List (List ℕ))
@@ -140,7 +194,8 @@ as_and p = Some (formula.And p.0, p.1)
 abbrev as_or : Needs × List (List ℕ) → Option (Formula × List (List ℕ))
 as_or p = Some (formula.Or p.0, p.1)
 
-parts_complete : (d : ℕ) (step : Step) → Complete d step → (ns : Needs) (r : List (List ℕ)) → step (codes ")" ∷ r) ≡ None → (not (is_nothing ns) && are_formed ns) ≡ true → depth ns ≤ d
+parts_complete : (d : ℕ) (step : Step) → Complete d step → (ns : Needs) (r : List (List ℕ)) → step (codes ")" ∷ r) ≡ None
+    → (not (is_nothing ns) && are_formed ns) ≡ true → depth ns ≤ d
     → parts_at step (spell_needs ns (codes ")" ∷ r)) ≡ Some (ns, r)
 unfolding parts_at
 parts_complete d step c ns r stop h e =
@@ -186,119 +241,3 @@ some_depth (formula.Order x y) = omega arith
 pub formula_complete : (d : ℕ) → Complete d (formula_at d)
 formula_complete zero = record { one_read = λ f r h e. absurd (omega (arith, some_depth f, e)) }
 formula_complete (suc d) = record { one_read = open_complete d (formula_complete d) }
-
--- ---- a loop over formulas
-
-one_longer : (f : Formula) (r : List (List ℕ)) → length r < length (spell_needs (one f) r)
-one_longer (formula.And p) r = omega (arith, longer (all_of p nothing) r)
-one_longer (formula.Or p) r = omega (arith, longer (some_of p nothing) r)
-one_longer (formula.Attr x) r = omega (arith, longer (attr x nothing) r)
-one_longer (formula.OneOf x vs) r = omega (arith, longer (one_value x vs nothing) r)
-one_longer (formula.Content x) r = omega (arith, longer (content x nothing) r)
-one_longer (formula.Order x y) r = omega (arith, longer (order x y nothing) r)
-
--- what is read leaves fewer words
-pub formula_less : (d : ℕ) (ws : List (List ℕ)) (x : Formula × List (List ℕ)) → formula_at d ws ≡ Some x → length x.1 < length ws
-formula_less d ws x h = let s = (formula_sound d).one_is ws x h in omega (arith, ap length s.spelled, one_longer x.0 x.1)
-
--- enough is enough
-needs_fuel : (d m n : ℕ) (ws : List (List ℕ)) → length ws ≤ m → length ws ≤ n → needs_at (formula_at d) m ws ≡ needs_at (formula_at d) n ws
-unfolding needs_at
-needs_fuel d zero zero ws p q = refl
-needs_fuel d zero (suc n) ws p q = stops (formula_at d ws) refl
-  where
-    stops : (o : Option (Formula × List (List ℕ))) → formula_at d ws ≡ o → (nothing, ws) ≡ needs_next o ws (needs_at (formula_at d) n)
-    stops None e = refl
-    stops (Some x) e = absurd (omega (arith, formula_less d ws x e, p))
-needs_fuel d (suc m) zero ws p q = stops (formula_at d ws) refl
-  where
-    stops : (o : Option (Formula × List (List ℕ))) → formula_at d ws ≡ o → needs_next o ws (needs_at (formula_at d) m) ≡ (nothing, ws)
-    stops None e = refl
-    stops (Some x) e = absurd (omega (arith, formula_less d ws x e, q))
-needs_fuel d (suc m) (suc n) ws p q = step (formula_at d ws) refl (needs_fuel d m n)
-  where
-    step : (o : Option (Formula × List (List ℕ))) → formula_at d ws ≡ o
-        → ((vs : List (List ℕ)) → length vs ≤ m → length vs ≤ n → needs_at (formula_at d) m vs ≡ needs_at (formula_at d) n vs)
-        → needs_next o ws (needs_at (formula_at d) m) ≡ needs_next o ws (needs_at (formula_at d) n)
-    step None e ih = refl
-    step (Some x) e ih =
-        ap (λ (t : Needs × List (List ℕ)). (before_need x.0 t.0, t.1)) (ih x.1 (omega (arith, formula_less d ws x e, p)) (omega (arith, formula_less d ws x e, q)))
-
--- all that the words have
-abbrev pub all_needs : ℕ → List (List ℕ) → Needs × List (List ℕ)
-all_needs d ws = needs_at (formula_at d) (length ws) ws
-
--- behind formulas that were read before
-abbrev pub onto : Needs → Needs × List (List ℕ) → Needs × List (List ℕ)
-onto done p = (append_needs done p.0, p.1)
-
-at_once : (d n : ℕ) (ws : List (List ℕ)) (x : Formula × List (List ℕ)) → formula_at d ws ≡ Some x → length ws ≡ suc n → length x.1 ≤ n
-    → all_needs d ws ≡ (before_need x.0 (all_needs d x.1).0, (all_needs d x.1).1)
-unfolding needs_at
-at_once d n ws x e l m =
-    ap (λ k. needs_at (formula_at d) k ws) l ∙ ap (λ o. needs_next o ws (needs_at (formula_at d) n)) e
-    ∙ ap (λ (t : Needs × List (List ℕ)). (before_need x.0 t.0, t.1)) (needs_fuel d n (length x.1) x.1 m (omega arith))
-
-pub append_one : (done : Needs) (f : Formula) (b : Needs) → append_needs (append_needs done (before_need f nothing)) b ≡ append_needs done (before_need f b)
-append_one nothing f b = before_append f nothing b
-append_one (all_of p rest) f b = ap (all_of p) (append_one rest f b)
-append_one (some_of p rest) f b = ap (some_of p) (append_one rest f b)
-append_one (attr x rest) f b = ap (attr x) (append_one rest f b)
-append_one (one_value x vs rest) f b = ap (one_value x vs) (append_one rest f b)
-append_one (content x rest) f b = ap (content x) (append_one rest f b)
-append_one (order x y rest) f b = ap (order x y) (append_one rest f b)
-
--- one more
-pub onto_more : (d : ℕ) (done : Needs) (ws : List (List ℕ)) (x : Formula × List (List ℕ)) (all : Needs × List (List ℕ)) → formula_at d ws ≡ Some x → onto done (all_needs d ws) ≡ all
-    → onto (append_needs done (before_need x.0 nothing)) (all_needs d x.1) ≡ all
-onto_more d done ws x all e h = by_words ws refl
-  where
-    by_words : (vs : List (List ℕ)) → vs ≡ ws → onto (append_needs done (before_need x.0 nothing)) (all_needs d x.1) ≡ all
-    by_words [] l = absurd (omega (arith, formula_less d ws x e, ap length l))
-    by_words (v ∷ vs) l =
-        let once = at_once d (length vs) ws x e (sym (ap length l)) (omega (arith, formula_less d ws x e, ap length l)) in
-        (λ i. (append_one done x.0 (all_needs d x.1).0 i, (all_needs d x.1).1)) ∙ ap (onto done) (sym once) ∙ h
-
--- no more
-pub append-nothing : (a : Needs) → append_needs a nothing ≡ a
-append-nothing nothing = refl
-append-nothing (all_of p rest) = ap (all_of p) (append-nothing rest)
-append-nothing (some_of p rest) = ap (some_of p) (append-nothing rest)
-append-nothing (attr x rest) = ap (attr x) (append-nothing rest)
-append-nothing (one_value x vs rest) = ap (one_value x vs) (append-nothing rest)
-append-nothing (content x rest) = ap (content x) (append-nothing rest)
-append-nothing (order x y rest) = ap (order x y) (append-nothing rest)
-
-stopped : (d n : ℕ) (ws : List (List ℕ)) → formula_at d ws ≡ None → needs_at (formula_at d) n ws ≡ (nothing, ws)
-unfolding needs_at
-stopped d zero ws e = refl
-stopped d (suc n) ws e = ap (λ o. needs_next o ws (needs_at (formula_at d) n)) e
-
-pub onto_none : (d : ℕ) (done : Needs) (ws : List (List ℕ)) (all : Needs × List (List ℕ)) → formula_at d ws ≡ None → onto done (all_needs d ws) ≡ all → all ≡ (done, ws)
-onto_none d done ws all e h = sym h ∙ ap (onto done) (stopped d (length ws) ws e) ∙ (λ i. (append-nothing done i, ws))
-
--- a formula that may be deep is an opened one
-pub formula_again : (d : ℕ) (ws : List (List ℕ)) → 0 < d → formula_at d ws ≡ opened (inside_at (formula_at (d - 1))) ws
-unfolding formula_at
-formula_again zero ws h = absurd (omega (arith, h))
-formula_again (suc d) ws h = let e : d ≡ suc d - 1 = omega arith in ap (λ k. opened (inside_at (formula_at k)) ws) e
-
-pub no_depth : (d : ℕ) (ws : List (List ℕ)) → d ≡ 0 → formula_at d ws ≡ None
-unfolding formula_at
-no_depth d ws h = ap (λ k. formula_at k ws) h
-
--- parts that were found
-pub some_needs : (fs : List Formula) → (length fs == 0) ≡ false → is_nothing (needs fs) ≡ false
-some_needs [] h = absurd (false≢true (sym h))
-some_needs (formula.And p ∷ fs) h = refl
-some_needs (formula.Or p ∷ fs) h = refl
-some_needs (formula.Attr x ∷ fs) h = refl
-some_needs (formula.OneOf x vs ∷ fs) h = refl
-some_needs (formula.Content x ∷ fs) h = refl
-some_needs (formula.Order x y ∷ fs) h = refl
-
-pub parts_found : (step : Step) (ws : List (List ℕ)) (ns : Needs) (behind rest : List (List ℕ)) → needs_at step (length ws) ws ≡ (ns, behind) → is_nothing ns ≡ false
-    → closed behind ≡ Some rest → parts_at step ws ≡ Some (ns, rest)
-unfolding parts_at
-parts_found step ws ns behind rest h n c =
-    ap ended_parts h ∙ ap (λ b. if b then None else (closed behind >>= with_rest ns)) n ∙ ap (λ o. o >>= with_rest ns) c

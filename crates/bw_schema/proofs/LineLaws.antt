@@ -1,5 +1,31 @@
 -- Lines read as the words that they are written with, and as nothing else.
-use Rattle.std.proofs.Common.{◌≡◌, ℕ, ◌≤◌, Bool, true, false, not, ◌&&◌, ◌||◌, List, [], ◌∷◌, ◌++◌, length, map, drop, get_or, Option, Some, None, refl, ap, sym, subst, ◌∙◌}
+use Rattle.std.proofs.Common.{
+  ◌≡◌,
+  ℕ,
+  ◌≤◌,
+  Bool,
+  true,
+  false,
+  not,
+  ◌&&◌,
+  ◌||◌,
+  List,
+  [],
+  ◌∷◌,
+  ◌++◌,
+  length,
+  map,
+  drop,
+  get_or,
+  Option,
+  Some,
+  None,
+  refl,
+  ap,
+  sym,
+  subst,
+  ◌∙◌,
+}
 use Rattle.std.specs.Prelude.{codes, if◌then◌else◌, ◌==◌, nat_le}
 use Rattle.std.specs.List.{list_all}
 use Rattle.std.proofs.lemmas.Bool.{eqb-true, false≢true, leb-true, le-leb}
@@ -10,9 +36,23 @@ use Rattle.bw_lang.specs.Table.Options.{◌>>=◌}
 use Rattle.bw_lang.specs.declared.pieces.NameClass.{NameClass}
 use Rattle.bw_lang.specs.declared.pieces.NameClass.TheVariants as class
 use Rattle.bw_schema.proofs.Complete.{formula_complete}
-use Rattle.bw_schema.proofs.Spelled.{both, both_back, formula_sound, same_is}
+use Rattle.bw_schema.proofs.Spelled.{both, both_back, same_is}
+use Rattle.bw_schema.proofs.SpelledParts.{formula_sound}
 use Rattle.bw_schema.specs.Forms.{are_formed, are_names, depth, is_headed, is_line, is_name, one, spell_line, spell_needs}
-use Rattle.bw_schema.specs.Steps.Reading.{formula_at, formula_of, line_of, line_with, lines_of, names_line, names_of, rare_line, root_of, tag_of, text_of, value_line}
+use Rattle.bw_schema.specs.Steps.Reading.{
+  formula_at,
+  formula_of,
+  line_of,
+  line_with,
+  lines_of,
+  names_line,
+  names_of,
+  rare_line,
+  root_of,
+  tag_of,
+  text_of,
+  value_line,
+}
 use Rattle.bw_schema.specs.Words.{has_some}
 use Rattle.bw_schema.specs.declared.lines.Line.{Line}
 use Rattle.bw_schema.specs.declared.lines.Line.TheVariants.{Element, May, Must, Value, Has, Text, Need}
@@ -45,7 +85,8 @@ names_are c ws names h = let k = cond_some (are_names c ws) ws names h in (k.1, 
 value_is : (v : ℕ) (ws : List (List ℕ)) (line : Line) → value_line ws ≡ Some line → IsWritten v (codes "value" ∷ ws) line
 value_is v [] line h = absurd cc
 value_is v (w ∷ ws) line h =
-    let k = cond_some (is_name class.Attr w && has_some ws) (Value w ws) line h in written_as v _ (Value w ws) line k.1 (record { spelled = refl; formed = k.0 })
+    let k = cond_some (is_name class.Attr w && has_some ws) (Value w ws) line h in
+    written_as v _ (Value w ws) line k.1 (record { spelled = refl; formed = k.0 })
 
 formula_is : (v : ℕ) (ws : List (List ℕ)) (f : Formula) → (v == 2) ≡ true → formula_of ws ≡ Some f → IsWritten v (codes "need" ∷ ws) (Need f)
 unfolding formula_of
@@ -55,7 +96,8 @@ formula_is v ws f two h =
     let s = (formula_sound 16).one_is ws b.0 b.1 in
     let made : IsWritten v (codes "need" ∷ ws) (Need b.0.0) = record {
       spelled = ap (λ (t : List (List ℕ)). codes "need" ∷ t) (s.spelled ∙ ap (spell_needs (one b.0.0)) (no_words b.0.1 k.0));
-      formed = both_back (v == 2 && are_formed (one b.0.0)) (nat_le (depth (one b.0.0)) 16) (both_back (v == 2) (are_formed (one b.0.0)) two s.formed) (le-leb (depth (one b.0.0)) 16 s.deep);
+      formed = both_back (v == 2 && are_formed (one b.0.0)) (nat_le (depth (one b.0.0)) 16) (both_back (v == 2) (are_formed (one b.0.0)) two s.formed)
+          (le-leb (depth (one b.0.0)) 16 s.deep);
     } in
     written_as v _ (Need b.0.0) (Need f) (ap Need k.1) made
 
@@ -63,7 +105,8 @@ rare_is : (v : ℕ) (key : List ℕ) (ws : List (List ℕ)) (line : Line) → ra
 unfolding rare_line
 rare_is v key ws line h = first (same key (codes "text") && (length ws == 0)) refl h
   where
-    second : (b : Bool) → (same key (codes "need") && (v == 2)) ≡ b → (if b then (formula_of ws >>= λ f. Some (Need f)) else None) ≡ Some line → IsWritten v (key ∷ ws) line
+    second : (b : Bool) → (same key (codes "need") && (v == 2)) ≡ b → (if b then (formula_of ws >>= λ f. Some (Need f)) else None) ≡ Some line
+        → IsWritten v (key ∷ ws) line
     second true e h =
         let k = both (same key (codes "need")) (v == 2) e in
         let b = bind_some (formula_of ws) (λ f. Some (Need f)) line h in
@@ -72,11 +115,13 @@ rare_is v key ws line h = first (same key (codes "text") && (length ws == 0)) re
     second false e h = absurd cc
 
     first : (b : Bool) → (same key (codes "text") && (length ws == 0)) ≡ b
-        → (if b then Some Text else (if same key (codes "need") && (v == 2) then (formula_of ws >>= λ f. Some (Need f)) else None)) ≡ Some line → IsWritten v (key ∷ ws) line
+        → (if b then Some Text else (if same key (codes "need") && (v == 2) then (formula_of ws >>= λ f. Some (Need f)) else None)) ≡ Some line
+        → IsWritten v (key ∷ ws) line
     first true e h =
         let k = both (same key (codes "text")) (length ws == 0) e in
         let n : Text ≡ line = cc in
-        with_key v key (codes "text") ws line k.0 (written_as v _ Text line n (record { spelled = ap (λ (t : List (List ℕ)). codes "text" ∷ t) (no_words ws k.1); formed = refl }))
+        with_key v key (codes "text") ws line k.0 (written_as v _ Text line n
+        (record { spelled = ap (λ (t : List (List ℕ)). codes "text" ∷ t) (no_words ws k.1); formed = refl }))
     first false e h = second (same key (codes "need") && (v == 2)) refl h
 
 names_line_is : (v : ℕ) (key : List ℕ) (ws : List (List ℕ)) (line : Line) → names_line key ws ≡ Some line → IsWritten v (key ∷ ws) line
@@ -92,12 +137,14 @@ names_line_is v key ws line h = first (same key (codes "may")) refl h
         let a = names_are c ws b.0 b.1 in
         with_key v key k ws line e (written_as v _ (l b.0) line n (subst (λ (t : List (List ℕ)). IsWritten v (k ∷ t) (l b.0)) (sym a.0) (w b.0 a.1)))
 
-    third : (b : Bool) → same key (codes "has") ≡ b → (if b then (names_of class.Tag ws >>= λ tags. Some (Has tags)) else None) ≡ Some line → IsWritten v (key ∷ ws) line
+    third : (b : Bool) → same key (codes "has") ≡ b → (if b then (names_of class.Tag ws >>= λ tags. Some (Has tags)) else None) ≡ Some line
+        → IsWritten v (key ∷ ws) line
     third true e h = made (codes "has") class.Tag Has e (λ names a. record { spelled = refl; formed = a }) h
     third false e h = absurd cc
 
     second : (b : Bool) → same key (codes "must") ≡ b
-        → (if b then (names_of class.Attr ws >>= λ names. Some (Must names)) else (if same key (codes "has") then (names_of class.Tag ws >>= λ tags. Some (Has tags)) else None)) ≡ Some line
+        → (if b then (names_of class.Attr ws >>= λ names. Some (Must names)) else
+        (if same key (codes "has") then (names_of class.Tag ws >>= λ tags. Some (Has tags)) else None)) ≡ Some line
         → IsWritten v (key ∷ ws) line
     second true e h = made (codes "must") class.Attr Must e (λ names a. record { spelled = refl; formed = a }) h
     second false e h = third (same key (codes "has")) refl h
@@ -119,7 +166,8 @@ with_is v key ws line h = first (same key (codes "element")) refl h
     third false h = names_line_is v key ws line h
 
     second : (b : Bool) → same key (codes "value") ≡ b
-        → (if b then value_line ws else (if same key (codes "text") || same key (codes "need") then rare_line v key ws else names_line key ws)) ≡ Some line → IsWritten v (key ∷ ws) line
+        → (if b then value_line ws else (if same key (codes "text")
+        || same key (codes "need") then rare_line v key ws else names_line key ws)) ≡ Some line → IsWritten v (key ∷ ws) line
     second true e h = with_key v key (codes "value") ws line e (value_is v ws line h)
     second false e h = third (same key (codes "text") || same key (codes "need")) h
 
@@ -138,15 +186,18 @@ pub line_is : (v : ℕ) (ws : List (List ℕ)) (line : Line) → line_of v ws �
 line_is v [] line h = absurd cc
 line_is v (key ∷ ws) line h = with_is v key ws line h
 
-pub lines_are : (v : ℕ) (said : List (List (List ℕ))) (lines : List Line) → lines_of v said ≡ Some lines → (said ≡ map spell_line lines) × (list_all (is_line v) lines ≡ true)
+pub lines_are : (v : ℕ) (said : List (List (List ℕ))) (lines : List Line) → lines_of v said ≡ Some lines → (said ≡ map spell_line lines)
+    × (list_all (is_line v) lines ≡ true)
 lines_are v [] lines h = let n : [] ≡ lines = cc in (ap (map spell_line) n, ap (list_all (is_line v)) (sym n))
 lines_are v (ws ∷ said) lines h =
     let b = bind_some (line_of v ws) (λ line. lines_of v said >>= λ more. Some (line ∷ more)) lines h in
     let k = bind_some (lines_of v said) (λ more. Some (b.0 ∷ more)) lines b.2 in
     let n : b.0 ∷ k.0 ≡ lines = cc in
     let w = line_is v ws b.0 b.1 in
-    let rest = lines_are v said k.0 k.1 in
-    ((λ i. w.spelled i ∷ rest.0 i) ∙ ap (map spell_line) n, ap (list_all (is_line v)) (sym n) ∙ both_back (is_line v b.0) (list_all (is_line v) k.0) w.formed rest.1)
+    let rest = lines_are v said k.0 k.1 in (
+      (λ i. w.spelled i ∷ rest.0 i) ∙ ap (map spell_line) n,
+      ap (list_all (is_line v)) (sym n) ∙ both_back (is_line v b.0) (list_all (is_line v) k.0) w.formed rest.1,
+    )
 
 -- ---- what is written so is read
 

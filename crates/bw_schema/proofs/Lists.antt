@@ -1,5 +1,33 @@
 -- Lists of lists, and the words of a line.
-use Rattle.std.proofs.Common.{◌≡◌, ℕ, ◌+◌, ◌-◌, ◌<◌, ◌≤◌, Bool, true, false, cond, not, ◌||◌, List, [], ◌∷◌, ◌++◌, length, get_or, take, drop, map, refl, ap, sym, ◌∙◌, append_assoc, arith}
+use Rattle.std.proofs.Common.{
+  ◌≡◌,
+  ℕ,
+  ◌+◌,
+  ◌-◌,
+  ◌<◌,
+  ◌≤◌,
+  Bool,
+  true,
+  false,
+  cond,
+  not,
+  ◌||◌,
+  List,
+  [],
+  ◌∷◌,
+  ◌++◌,
+  length,
+  get_or,
+  take,
+  drop,
+  map,
+  refl,
+  ap,
+  sym,
+  ◌∙◌,
+  append_assoc,
+  arith,
+}
 use Rattle.std.specs.Prelude.{flat_map, filter, ◌==◌, if◌then◌else◌}
 use Rattle.std.specs.List.{slice_split, onto_first}
 use Rattle.std.specs.Str.Lines.{lines}
@@ -86,7 +114,8 @@ pub kept_all : (ws : List (List ℕ)) → flat_map kept ws ≡ filter has_some w
 kept_all [] = refl
 kept_all (w ∷ ws) = by_test (has_some w) (kept_all ws)
   where
-    by_test : (b : Bool) → flat_map kept ws ≡ filter has_some ws → (if b then w ∷ [] else []) ++ flat_map kept ws ≡ cond b (w ∷ filter has_some ws) (filter has_some ws)
+    by_test : (b : Bool) → flat_map kept ws ≡ filter has_some ws → (if b then w ∷ [] else [])
+        ++ flat_map kept ws ≡ cond b (w ∷ filter has_some ws) (filter has_some ws)
     by_test true h = ap (λ r. w ∷ r) h
     by_test false h = h
 
@@ -102,7 +131,8 @@ said_each [] = refl
 said_each (l ∷ ls) = by_test (not (is_skipped l)) (said_each ls)
   where
     by_test : (b : Bool) → flat_map said_by ls ≡ map words_of (filter (λ line. not (is_skipped line)) ls)
-        → (if b then words_of l ∷ [] else []) ++ flat_map said_by ls ≡ map words_of (cond b (l ∷ filter (λ line. not (is_skipped line)) ls) (filter (λ line. not (is_skipped line)) ls))
+        → (if b then words_of l ∷ [] else []) ++ flat_map said_by ls ≡ map words_of
+        (cond b (l ∷ filter (λ line. not (is_skipped line)) ls) (filter (λ line. not (is_skipped line)) ls))
     by_test true h = ap (λ r. words_of l ∷ r) h
     by_test false h = h
 

@@ -1,5 +1,33 @@
 -- Loops over lines, marks and formulas.
-use Rattle.std.proofs.Common.{◌≡◌, ℕ, ◌+◌, ◌<◌, ◌≤◌, Bool, true, false, ◌||◌, List, [], ◌∷◌, ◌++◌, length, get_or, take, drop, map, Option, Some, None, refl, ap, sym, ◌∙◌, arith, append_assoc}
+use Rattle.std.proofs.Common.{
+  ◌≡◌,
+  ℕ,
+  ◌+◌,
+  ◌<◌,
+  ◌≤◌,
+  Bool,
+  true,
+  false,
+  ◌||◌,
+  List,
+  [],
+  ◌∷◌,
+  ◌++◌,
+  length,
+  get_or,
+  take,
+  drop,
+  map,
+  Option,
+  Some,
+  None,
+  refl,
+  ap,
+  sym,
+  ◌∙◌,
+  arith,
+  append_assoc,
+}
 use Rattle.std.specs.Prelude.{flat_map, if◌then◌else◌}
 use Rattle.std.specs.List.{list_any}
 use Rattle.std.proofs.lemmas.List.{take_more, drop_more, append-nil}
@@ -19,7 +47,7 @@ use Rattle.bw_schema.specs.declared.marks.Mark.{Mark as Held}
 use Rattle.bw_schema.specs.declared.needs.Formula.{Formula}
 use Rattle.bw_schema.specs.declared.needs.Formula.TheVariants as formula
 use Rattle.bw_schema.specs.declared.rules.Rule.{Rule}
-use Rattle.bw_schema.proofs.Complete.{append-nothing, append_one}
+use Rattle.bw_schema.proofs.FormulaLoops.{append-nothing, append_one}
 use Rattle.bw_schema.proofs.Lists.{drop_past}
 use Rattle.bw_schema.proofs.NeedsLaws.{needs_more}
 
@@ -36,7 +64,8 @@ take_read xs i x e h = take_more xs i x h ∙ ap (λ y. take i xs ++ y ∷ []) (
 abbrev pub in_front : List Line → Option (List Line) → Option (List Line)
 in_front done o = o >>= λ lines. Some (done ++ lines)
 
-pub front_more : (v : ℕ) (said : List (List (List ℕ))) (i : ℕ) (ws : List (List ℕ)) (done : List Line) (line : Line) → ws ≡ get_or said i ws → i < length said → line_of v ws ≡ Some line
+pub front_more : (v : ℕ) (said : List (List (List ℕ))) (i : ℕ) (ws : List (List ℕ)) (done : List Line) (line : Line) → ws ≡ get_or said i ws
+    → i < length said → line_of v ws ≡ Some line
     → in_front done (lines_of v (drop i said)) ≡ in_front (done ++ line ∷ []) (lines_of v (drop (i + 1) said))
 front_more v said i ws done line e h k =
     ap (λ t. in_front done (lines_of v t)) (drop_read said i ws e h)
@@ -46,14 +75,17 @@ front_more v said i ws done line e h k =
     behind None = refl
     behind (Some ls) = ap Some (sym (append_assoc done (line ∷ []) ls))
 
-pub front_none : (v : ℕ) (said : List (List (List ℕ))) (i : ℕ) (ws : List (List ℕ)) (done : List Line) → ws ≡ get_or said i ws → i < length said → line_of v ws ≡ None
+pub front_none : (v : ℕ) (said : List (List (List ℕ))) (i : ℕ) (ws : List (List ℕ)) (done : List Line) → ws ≡ get_or said i ws → i < length said
+    → line_of v ws ≡ None
     → in_front done (lines_of v (drop i said)) ≡ None
 front_none v said i ws done e h k =
-    ap (λ t. in_front done (lines_of v t)) (drop_read said i ws e h) ∙ ap (λ o. in_front done (o >>= λ l. lines_of v (drop (i + 1) said) >>= λ ls. Some (l ∷ ls))) k
+    ap (λ t. in_front done (lines_of v t)) (drop_read said i ws e h)
+    ∙ ap (λ o. in_front done (o >>= λ l. lines_of v (drop (i + 1) said) >>= λ ls. Some (l ∷ ls))) k
 
 -- ---- marks
 
-pub line_more : (says : ℕ → Line → List Mark) (n : ℕ) (lines : List Line) (i : ℕ) (line : Line) (done all : List Mark) → line ≡ get_or lines i line → i < length lines
+pub line_more : (says : ℕ → Line → List Mark) (n : ℕ) (lines : List Line) (i : ℕ) (line : Line) (done all : List Mark) → line ≡ get_or lines i line
+    → i < length lines
     → done ++ each_line says n (drop i lines) ≡ all
     → (done ++ says (rule_at n line) line) ++ each_line says (rule_at n line) (drop (i + 1) lines) ≡ all
 line_more says n lines i line done all e h k =
@@ -85,25 +117,29 @@ used_more n fs i f old e h =
     ap (λ t. old ++ used_in n (needs t)) (take_read fs i f e h) ∙ ap (λ t. old ++ used_in n t) (needs_more (take i fs) f)
     ∙ ap (λ t. old ++ t) (used-append n (needs (take i fs)) (one f)) ∙ sym (append_assoc old (used_in n (needs (take i fs))) (used_in n (one f)))
 
-pub repeated_here : (set : List Mark) (marks : List Held) (i : ℕ) (m : Held) → m ≡ get_or marks i m → i < length marks → list_any (same_mark (mark_of m)) set ≡ true
+pub repeated_here : (set : List Mark) (marks : List Held) (i : ℕ) (m : Held) → m ≡ get_or marks i m → i < length marks
+    → list_any (same_mark (mark_of m)) set ≡ true
     → first_repeated set (marks_of (drop i marks)) ≡ Some (mark_of m).name
 repeated_here set marks i m e h k =
     ap (λ t. first_repeated set (marks_of t)) (drop_read marks i m e h)
     ∙ ap (λ b. if b then Some (mark_of m).name else first_repeated (set ++ mark_of m ∷ []) (marks_of (drop (i + 1) marks))) k
 
-pub repeated_later : (set : List Mark) (marks : List Held) (i : ℕ) (m : Held) → m ≡ get_or marks i m → i < length marks → list_any (same_mark (mark_of m)) set ≡ false
+pub repeated_later : (set : List Mark) (marks : List Held) (i : ℕ) (m : Held) → m ≡ get_or marks i m → i < length marks
+    → list_any (same_mark (mark_of m)) set ≡ false
     → first_repeated set (marks_of (drop i marks)) ≡ first_repeated (set ++ mark_of m ∷ []) (marks_of (drop (i + 1) marks))
 repeated_later set marks i m e h k =
     ap (λ t. first_repeated set (marks_of t)) (drop_read marks i m e h)
     ∙ ap (λ b. if b then Some (mark_of m).name else first_repeated (set ++ mark_of m ∷ []) (marks_of (drop (i + 1) marks))) k
 
-pub missing_here : (there : List Mark) (marks : List Held) (i : ℕ) (m : Held) → m ≡ get_or marks i m → i < length marks → list_any (same_mark (mark_of m)) there ≡ false
+pub missing_here : (there : List Mark) (marks : List Held) (i : ℕ) (m : Held) → m ≡ get_or marks i m → i < length marks
+    → list_any (same_mark (mark_of m)) there ≡ false
     → first_missing there (marks_of (drop i marks)) ≡ Some (mark_of m).name
 missing_here there marks i m e h k =
     ap (λ t. first_missing there (marks_of t)) (drop_read marks i m e h)
     ∙ ap (λ b. if b then first_missing there (marks_of (drop (i + 1) marks)) else Some (mark_of m).name) k
 
-pub missing_later : (there : List Mark) (marks : List Held) (i : ℕ) (m : Held) → m ≡ get_or marks i m → i < length marks → list_any (same_mark (mark_of m)) there ≡ true
+pub missing_later : (there : List Mark) (marks : List Held) (i : ℕ) (m : Held) → m ≡ get_or marks i m → i < length marks
+    → list_any (same_mark (mark_of m)) there ≡ true
     → first_missing there (marks_of (drop i marks)) ≡ first_missing there (marks_of (drop (i + 1) marks))
 missing_later there marks i m e h k =
     ap (λ t. first_missing there (marks_of t)) (drop_read marks i m e h)
@@ -163,7 +199,8 @@ rule_more r lines i line e h other = ap (λ t. filled r (own t)) (drop_read line
 
 pub rule_ends : (r : Rule) (lines : List Line) (i : ℕ) (line : Line) (tag : List ℕ) → line ≡ get_or lines i line → i < length lines → line ≡ Element tag
     → filled r (own (drop i lines)) ≡ r
-rule_ends r lines i line tag e h is = ap (λ t. filled r (own t)) (drop_read lines i line e h) ∙ ap (λ l. filled r (own (l ∷ drop (i + 1) lines))) is ∙ filled_none r
+rule_ends r lines i line tag e h is = ap (λ t. filled r (own t)) (drop_read lines i line e h) ∙ ap (λ l. filled r (own (l ∷ drop (i + 1) lines))) is
+    ∙ filled_none r
 
 pub rules_skip : (line : Line) (lines : List Line) → IsOther line → rules_of (line ∷ lines) ≡ rules_of lines
 rules_skip (Element tag) lines h = absurd (h tag refl)
@@ -176,7 +213,8 @@ rules_skip (Need f) lines h = refl
 
 -- ---- formulas
 
-pub needs_read : (fs : List Formula) (i : ℕ) (f : Formula) → f ≡ get_or fs i f → i < length fs → needs (take (i + 1) fs) ≡ append_needs (needs (take i fs)) (before_need f nothing)
+pub needs_read : (fs : List Formula) (i : ℕ) (f : Formula) → f ≡ get_or fs i f → i < length fs
+    → needs (take (i + 1) fs) ≡ append_needs (needs (take i fs)) (before_need f nothing)
 needs_read fs i f e h = ap needs (take_read fs i f e h) ∙ needs_more (take i fs) f
 
 pub filled_end : (r : Rule) (lines : List Line) (i : ℕ) → length lines ≤ i → filled r (own (drop i lines)) ≡ r

@@ -16,5 +16,6 @@ pub any_marks : (m : Held) (ks : List Held) → list_any (alike m) ks ≡ list_a
 any_marks m [] = refl
 any_marks m (k ∷ ks) = ap (λ b. alike m k || b) (any_marks m ks)
 
-pub insert_fresh : (m : Held) (ks : List Held) → list_any (same_mark (mark_of m)) (map mark_of ks) ≡ false → map mark_of (insert_key alike ks m) ≡ map mark_of ks ++ mark_of m ∷ []
+pub insert_fresh : (m : Held) (ks : List Held) → list_any (same_mark (mark_of m)) (map mark_of ks) ≡ false
+    → map mark_of (insert_key alike ks m) ≡ map mark_of ks ++ mark_of m ∷ []
 insert_fresh m ks h = ap (λ b. map mark_of (if b then ks else ks ++ m ∷ [])) (any_marks m ks ∙ h) ∙ map-append mark_of ks (m ∷ [])

@@ -1,5 +1,32 @@
 -- What is read of a text is what reads as it, and what refuses it.
-use Rattle.std.proofs.Common.{◌≡◌, ◌≢◌, ℕ, ◌<◌, ◌≤◌, Bool, true, false, ◌&&◌, ◌||◌, ◌⊎◌, inl, inr, List, [], ◌∷◌, length, map, Option, Some, None, Result, Ok, Err, refl, ap, sym, subst, ◌∙◌, arith}
+use Rattle.std.proofs.Common.{
+  ◌≡◌,
+  ◌≢◌,
+  ℕ,
+  ◌<◌,
+  Bool,
+  true,
+  false,
+  ◌&&◌,
+  ◌⊎◌,
+  inl,
+  inr,
+  List,
+  [],
+  ◌∷◌,
+  length,
+  Option,
+  Some,
+  None,
+  Result,
+  Ok,
+  Err,
+  refl,
+  ap,
+  sym,
+  subst,
+  ◌∙◌,
+}
 use Rattle.std.specs.Prelude.{codes, if◌then◌else◌, nat_lt, is_some}
 use Rattle.std.specs.Str.{IsUtf8, is_utf8}
 use Rattle.std.specs.Str.Parse.{digits_value}
@@ -9,24 +36,18 @@ use Rattle.bw_lang.proofs.Options.{cond_some}
 use Rattle.bw_lang.specs.Table.Names.{same}
 use Rattle.bw_schema.proofs.LineLaws.{text_is, text_there, IsBehind}
 use Rattle.bw_schema.proofs.Spelled.{both, same_is}
-use Rattle.bw_schema.specs.Forms.{is_number, is_read, spell_line}
-use Rattle.bw_schema.specs.Laws.{OneSchema, NotBoth, OneReason, ReadOrRefused}
+use Rattle.bw_schema.specs.Forms.{is_number, is_read}
 use Rattle.bw_schema.specs.Marks.{repeated, unknown}
 use Rattle.bw_schema.specs.Steps.Reading.{judged, judged_repeated, judged_text, judged_unknown, read, read_said, read_version, text_of, version_of, with_root}
-use Rattle.bw_schema.specs.Reads.{Reads, IsSchemaRefused, IsText, HasVersion, IsMalformed, HasOtherVersion, Repeats, Misses, IsShort}
-use Rattle.bw_schema.specs.RulesOf.{rules_of}
+use Rattle.bw_schema.specs.Reads.{Reads, IsSchemaRefused, IsText, HasVersion, HasOtherVersion, Repeats, Misses, IsShort}
 use Rattle.bw_schema.specs.Words.{said}
 use Rattle.bw_schema.specs.declared.fault.SchemaFault.{SchemaFault}
 use Rattle.bw_schema.specs.declared.fault.SchemaFault.TheVariants as fault
 use Rattle.bw_schema.specs.declared.lines.Line.{Line}
 use Rattle.bw_schema.specs.declared.rules.Rule.{Rule}
 
-abbrev Answer : Type 0
+abbrev pub Answer : Type 0
 Answer = Result (List ℕ × List Rule) SchemaFault
-
-is_ok : Answer → Bool
-is_ok (Ok t) = true
-is_ok (Err e) = false
 
 -- ---- the first line
 
@@ -81,23 +102,24 @@ reads_there bytes root rules r =
     ∙ ap (with_root root) (once_step root r.lines r.once ∙ ap (λ o. judged_unknown o r.lines) r.known)
     ∙ ap (λ (rs : List Rule). Ok (root, rs)) (sym r.give)
 
-repeats_there : (bytes name : List ℕ) → Repeats bytes name → read bytes ≡ Err (fault.Repeated name)
+pub repeats_there : (bytes name : List ℕ) → Repeats bytes name → read bytes ≡ Err (fault.Repeated name)
 repeats_there bytes name r =
     text_step bytes r.root r.lines r.short r.text ∙ ap (with_root r.root) (ap (λ o. judged_repeated o r.root r.lines) r.twice)
 
-misses_there : (bytes name : List ℕ) → Misses bytes name → read bytes ≡ Err (fault.Unknown name)
+pub misses_there : (bytes name : List ℕ) → Misses bytes name → read bytes ≡ Err (fault.Unknown name)
 misses_there bytes name r =
     text_step bytes r.root r.lines r.short r.text
     ∙ ap (with_root r.root) (once_step r.root r.lines r.once ∙ ap (λ o. judged_unknown o r.lines) r.missing)
 
-other_there : (bytes : List ℕ) (v : ℕ) → HasOtherVersion bytes v → read bytes ≡ Err (fault.Version v)
+pub other_there : (bytes : List ℕ) (v : ℕ) → HasOtherVersion bytes v → read bytes ≡ Err (fault.Version v)
 other_there bytes v r =
     version_step bytes v r.short r.has_version
     ∙ ap (λ b. if b then judged_text (text_of v r.has_version.behind) else Err (fault.Version v)) r.other
 
-long_there : (bytes : List ℕ) → 1048576 < length bytes → read bytes ≡ Err fault.TooLong
+pub long_there : (bytes : List ℕ) → 1048576 < length bytes → read bytes ≡ Err fault.TooLong
 unfolding read
-long_there bytes h = ap (λ b. if b then Err fault.TooLong else (if is_utf8 bytes then read_said (said bytes) else Err fault.Malformed)) (lt-ltb 1048576 (length bytes) h)
+long_there bytes h = ap (λ b. if b then Err fault.TooLong else (if is_utf8 bytes then read_said (said bytes) else Err fault.Malformed))
+    (lt-ltb 1048576 (length bytes) h)
 
 -- ---- what is read
 
@@ -159,7 +181,8 @@ record Agrees (more : List (List (List ℕ))) (v : ℕ) (behind : List (List (Li
   version : w ≡ v
   rest : behind ≡ more
 
-agree : (bytes : List ℕ) (ws : List (List ℕ)) (more : List (List (List ℕ))) (v w : ℕ) → Says bytes ws more v → (h : HasVersion bytes w) → Agrees more v h.behind w
+agree : (bytes : List ℕ) (ws : List (List ℕ)) (more : List (List (List ℕ))) (v w : ℕ) → Says bytes ws more v → (h : HasVersion bytes w)
+    → Agrees more v h.behind w
 agree bytes ws more v w s h =
     let e : ws ∷ more ≡ (codes "schema" ∷ h.number ∷ []) ∷ h.behind = sym s.says ∙ h.says in
     let first : ws ≡ codes "schema" ∷ h.number ∷ [] = cc in
@@ -168,12 +191,20 @@ agree bytes ws more v w s h =
     let n : v ≡ w = cc in
     record { version = sym n; rest = sym rest }
 
-text_verdict : (bytes : List ℕ) (ws : List (List ℕ)) (more : List (List (List ℕ))) (v : ℕ) → IsShort bytes → IsUtf8 bytes → Says bytes ws more v → is_read v ≡ true
+text_verdict : (bytes : List ℕ) (ws : List (List ℕ)) (more : List (List (List ℕ))) (v : ℕ) → IsShort bytes → IsUtf8 bytes → Says bytes ws more v
+    → is_read v ≡ true
     → (o : Option (List ℕ × List Line)) → text_of v more ≡ o → Verdict bytes (judged_text o)
 text_verdict bytes ws more v short u s good (Some t) e =
     let f = version_is ws v s.version in
     let b = text_is v more t e in
-    let h : HasVersion bytes v = record { utf8 = u; number = f.number; is_number = f.is_number; value = f.value; behind = more; says = s.says ∙ ap (λ (x : List (List ℕ)). x ∷ more) f.says } in
+    let h : HasVersion bytes v = record {
+      utf8 = u;
+      number = f.number;
+      is_number = f.is_number;
+      value = f.value;
+      behind = more;
+      says = s.says ∙ ap (λ (x : List (List ℕ)). x ∷ more) f.says;
+    } in
     rules_verdict bytes t.0 t.1 short (record {
       version = v;
       has_version = h;
@@ -214,7 +245,14 @@ version_verdict bytes ws more short u says (Some v) e = by_test (is_read v) refl
           differs (fault.Version v) (other_is v),
           record {
             short = short;
-            has_version = record { utf8 = u; number = f.number; is_number = f.is_number; value = f.value; behind = more; says = says ∙ ap (λ (x : List (List ℕ)). x ∷ more) f.says };
+            has_version = record {
+              utf8 = u;
+              number = f.number;
+              is_number = f.is_number;
+              value = f.value;
+              behind = more;
+              says = says ∙ ap (λ (x : List (List ℕ)). x ∷ more) f.says;
+            };
             other = other;
           },
         )
@@ -250,47 +288,9 @@ says_refused bytes e (inr h) = refused_is bytes e h
 pub not_utf8 : (bytes : List ℕ) → IsShort bytes → (IsUtf8 bytes → ⊥) → read bytes ≡ Err fault.Malformed
 unfolding read
 not_utf8 bytes h u =
-    ap (λ b. if b then Err fault.TooLong else (if is_utf8 bytes then read_said (said bytes) else Err fault.Malformed)) (le-ltb 1048576 (length bytes) h) ∙ by_test (is_utf8 bytes) refl
+    ap (λ b. if b then Err fault.TooLong else (if is_utf8 bytes then read_said (said bytes) else Err fault.Malformed)) (le-ltb 1048576 (length bytes) h)
+    ∙ by_test (is_utf8 bytes) refl
   where
     by_test : (b : Bool) → is_utf8 bytes ≡ b → (if b then read_said (said bytes) else Err fault.Malformed) ≡ Err fault.Malformed
     by_test true e = absurd (u (IsUtf8-from_is_utf8 bytes e))
     by_test false e = refl
-
--- ---- laws
-
-malformed_there : (bytes : List ℕ) → IsMalformed bytes → (r : Answer) → Verdict bytes r → r ≡ Err fault.Malformed
-malformed_there bytes m (Ok t) v = absurd (m.text t.0 v.lines v.text)
-malformed_there bytes m (Err fault.Malformed) v = refl
-malformed_there bytes m (Err (fault.Version w)) v = absurd (false≢true (sym v.1.other ∙ m.version w v.1.has_version))
-malformed_there bytes m (Err (fault.Repeated n)) v = absurd (m.text v.1.root v.1.lines v.1.text)
-malformed_there bytes m (Err (fault.Unknown n)) v = absurd (m.text v.1.root v.1.lines v.1.text)
-malformed_there bytes m (Err fault.TooLong) v = absurd (omega (arith, m.short, v.1))
-malformed_there bytes m (Err fault.Memory) v = absurd (v.0 refl)
-
-refused_there : (bytes : List ℕ) (e : SchemaFault) → e ≢ fault.Memory → IsSchemaRefused bytes e → read bytes ≡ Err e
-refused_there bytes fault.Malformed n h = malformed_there bytes h (read bytes) (decide bytes)
-refused_there bytes (fault.Version v) n h = other_there bytes v h
-refused_there bytes (fault.Repeated name) n h = repeats_there bytes name h
-refused_there bytes (fault.Unknown name) n h = misses_there bytes name h
-refused_there bytes fault.TooLong n h = long_there bytes h
-refused_there bytes fault.Memory n h = absurd (n refl)
-
-pub one_schema : OneSchema
-one_schema bytes r s q t h k =
-    let e : Ok (r, q) ≡ Ok (s, t) = sym (reads_there bytes r q h) ∙ reads_there bytes s t k in
-    let p : (r, q) ≡ (s, t) = cc in
-    (ap (λ (x : List ℕ × List Rule). x.0) p, ap (λ (x : List ℕ × List Rule). x.1) p)
-
-pub not_both : NotBoth
-unfolding is_ok
-not_both bytes r q e h n k = false≢true (sym (ap is_ok (sym (reads_there bytes r q h) ∙ refused_there bytes e n k)))
-
-pub one_reason : OneReason
-one_reason bytes d e m n h k = let c : Err d ≡ Err e = sym (refused_there bytes d m h) ∙ refused_there bytes e n k in cc
-
-read_or_refused_of : (bytes : List ℕ) (r : Answer) → Verdict bytes r → ((root : List ℕ) × (rules : List Rule) × Reads bytes root rules) ⊎ ((e : SchemaFault) × (e ≢ fault.Memory) × IsSchemaRefused bytes e)
-read_or_refused_of bytes (Ok t) v = inl (t.0, t.1, v)
-read_or_refused_of bytes (Err e) v = inr (e, v.0, v.1)
-
-pub read_or_refused : ReadOrRefused
-read_or_refused bytes = read_or_refused_of bytes (read bytes) (decide bytes)

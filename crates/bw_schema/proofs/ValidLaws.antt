@@ -15,7 +15,8 @@ use Rattle.bw_schema.specs.Needs.{Needs, nothing, all_of, some_of, attr, one_val
 use Rattle.bw_schema.specs.Validity as v
 use Rattle.bw_schema.specs.Laws.{ValidClosed}
 
-keep_each : (p : List ℕ → List ℕ → Bool) (a : Attr) (w : AttrValue) (rest : List Attr) → a.value ≡ w → v.each_fixed p (keep_fixed a w rest) ≡ (v.on_fixed p a.name a.value && v.each_fixed p rest)
+keep_each : (p : List ℕ → List ℕ → Bool) (a : Attr) (w : AttrValue) (rest : List Attr) → a.value ≡ w
+    → v.each_fixed p (keep_fixed a w rest) ≡ (v.on_fixed p a.name a.value && v.each_fixed p rest)
 keep_each p a (Fixed s) rest e = refl
 keep_each p a (Hole g) rest e = ap (λ u. v.on_fixed p a.name u && v.each_fixed p rest) (sym e)
 
@@ -27,9 +28,11 @@ and_false : (b : Bool) → (b && false) ≡ false
 and_false true = refl
 and_false false = refl
 
-keep_has : (a : Attr) (w : AttrValue) (rest : List Attr) (x : List ℕ) → a.value ≡ w → v.has_fixed (keep_fixed a w rest) x ≡ ((same a.name x && v.is_fixed a.value) || v.has_fixed rest x)
+keep_has : (a : Attr) (w : AttrValue) (rest : List Attr) (x : List ℕ) → a.value ≡ w
+    → v.has_fixed (keep_fixed a w rest) x ≡ ((same a.name x && v.is_fixed a.value) || v.has_fixed rest x)
 keep_has a (Fixed s) rest x e = refl
-keep_has a (Hole g) rest x e = sym (ap (λ u. (same a.name x && v.is_fixed u) || v.has_fixed rest x) e ∙ ap (λ b. b || v.has_fixed rest x) (and_false (same a.name x)))
+keep_has a (Hole g) rest x e = sym (ap (λ u. (same a.name x && v.is_fixed u) || v.has_fixed rest x) e
+    ∙ ap (λ b. b || v.has_fixed rest x) (and_false (same a.name x)))
 
 pub closed_has : (a : List Attr) (x : List ℕ) → v.has_fixed (closed_attrs a) x ≡ v.has_fixed a x
 closed_has [] x = refl
@@ -51,20 +54,24 @@ closed_text p (text s r) = ap (λ b. p s && b) (closed_text p r)
 closed_text p (gap g r) = closed_text p r
 closed_text p (element tag a i r) = closed_text p r
 
-keep_value : (vs : List (List ℕ)) (a : Attr) (w : AttrValue) (rest : List Attr) (x : List ℕ) → a.value ≡ w → v.has_value (keep_fixed a w rest) x vs ≡ ((same a.name x && v.value_in vs a.value) || v.has_value rest x vs)
+keep_value : (vs : List (List ℕ)) (a : Attr) (w : AttrValue) (rest : List Attr) (x : List ℕ) → a.value ≡ w
+    → v.has_value (keep_fixed a w rest) x vs ≡ ((same a.name x && v.value_in vs a.value) || v.has_value rest x vs)
 keep_value vs a (Fixed s) rest x e = refl
-keep_value vs a (Hole g) rest x e = sym (ap (λ u. (same a.name x && v.value_in vs u) || v.has_value rest x vs) e ∙ ap (λ b. b || v.has_value rest x vs) (and_false (same a.name x)))
+keep_value vs a (Hole g) rest x e = sym (ap (λ u. (same a.name x && v.value_in vs u) || v.has_value rest x vs) e
+    ∙ ap (λ b. b || v.has_value rest x vs) (and_false (same a.name x)))
 
 closed_value : (vs : List (List ℕ)) (a : List Attr) (x : List ℕ) → v.has_value (closed_attrs a) x vs ≡ v.has_value a x vs
 closed_value vs [] x = refl
-closed_value vs (a ∷ rest) x = keep_value vs a a.value (closed_attrs rest) x refl ∙ ap (λ b. (same a.name x && v.value_in vs a.value) || b) (closed_value vs rest x)
+closed_value vs (a ∷ rest) x = keep_value vs a a.value (closed_attrs rest) x refl
+    ∙ ap (λ b. (same a.name x && v.value_in vs a.value) || b) (closed_value vs rest x)
 
 closed_order : (x y : List ℕ) (t : Forest) → v.ordered x y (close t) ≡ v.ordered x y t
 closed_order x y none = refl
 closed_order x y (text s r) = closed_order x y r
 closed_order x y (gap g r) = closed_order x y r
 closed_order x y (element tag a i r) =
-    ap (λ b. (v.is_other y tag || b) && v.ordered x y (close r)) (closed_child (v.is_other x) r) ∙ ap (λ b. (v.is_other y tag || v.each_child (v.is_other x) r) && b) (closed_order x y r)
+    ap (λ b. (v.is_other y tag || b) && v.ordered x y (close r)) (closed_child (v.is_other x) r)
+    ∙ ap (λ b. (v.is_other y tag || v.each_child (v.is_other x) r) && b) (closed_order x y r)
 
 joined_two : (b : Bool) {p q r s : Bool} → p ≡ q → r ≡ s → v.joined b p r ≡ v.joined b q s
 joined_two b {p = p} {q = q} {r = r} {s = s} e f = ap (λ k. v.joined b k r) e ∙ ap (λ k. v.joined b q k) f

@@ -68,7 +68,8 @@ built_in_rules =
     rule "img" (spaced "class id title width height") (spaced "src alt") [] [] false ∷
     rule "br" common [] [] [] false ∷
     rule "hr" common [] [] [] false ∷
-    rule "input" (spaced "class id title name type value size maxlength checked") [] (values "type" "text password hidden radio checkbox submit reset button" ∷ []) [] false ∷
+    rule "input" (spaced "class id title name type value size maxlength checked") []
+    (values "type" "text password hidden radio checkbox submit reset button" ∷ []) [] false ∷
     rule "textarea" (spaced "class id title name rows cols") [] [] [] true ∷
     rule "select" (spaced "class id title name size multiple") [] [] (spaced "option") false ∷
     rule "option" (spaced "value selected") [] [] [] true ∷ []

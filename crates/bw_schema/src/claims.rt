@@ -120,7 +120,8 @@ fn once(alloc: Global, marks: &[Mark]) -> Result<MarkSet, SchemaFault>
 
 /// Refuses marks of which one isn't in the set.
 fn known(alloc: Global, there: &MarkSet, marks: &[Mark]) -> Result<(), SchemaFault>
-    ensures { MatchResult result (λ _. spec.first_missing there.now (marks_of marks.now) ≡ None) (SaysUnknown (spec.first_missing there.now (marks_of marks.now))) }
+    ensures { MatchResult result (λ _. spec.first_missing there.now (marks_of marks.now) ≡ None)
+        (SaysUnknown (spec.first_missing there.now (marks_of marks.now))) }
 {
     for mark in marks {
         if !there.has(mark) {

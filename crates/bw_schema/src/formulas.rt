@@ -211,7 +211,7 @@ fn opened_at(alloc: Global, depth: usize, words: &[Text]) -> Result<(Formula, &[
 }
 
 /// The formula at the front, at most `depth` formulas inside one another, and the words behind it.
-#[tactic(auto, using(crate::proofs::Complete::formula_again))]
+#[tactic(auto, using(crate::proofs::FormulaLoops::formula_again))]
 #[cycle(formulas)]
 fn formula_at(
     alloc: Global,

@@ -69,7 +69,8 @@ fn is_remark(words: &Words) -> bool
 
 /// The words of a line, unless it is skipped.
 fn unskipped(alloc: Global, line: &str) -> Result<Option<Words>, Memory>
-    ensures { IfOk result (λ o. MatchOption o (spec.is_skipped line.now ≡ true) (λ words. (spec.is_skipped line.now ≡ false) × (words ≡ spec.words_of line.now))) }
+    ensures { IfOk result (λ o. MatchOption o (spec.is_skipped line.now ≡ true)
+        (λ words. (spec.is_skipped line.now ≡ false) × (words ≡ spec.words_of line.now))) }
 {
     if is_blank_text(line) {
         return Ok(None);

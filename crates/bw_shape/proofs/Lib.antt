@@ -10,3 +10,4 @@ pub mod Stays
 pub mod PairsNamed
 pub mod Shapes
 pub mod Placing
+pub mod Spreading

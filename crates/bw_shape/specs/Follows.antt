@@ -5,6 +5,18 @@ use Rattle.bw_nodes.specs.Nodes.{Node, node_at, linked}
 use Rattle.bw_nodes.specs.Templates.{template_at}
 use Rattle.bw_shape.specs.Tests.{gives, stands, lacks, places, misses, crosses}
 
+-- what each template has itself, or by one that a link leads to
+abbrev pub spread_follows : List Node → (ℕ → ℕ → Bool) → (ℕ → ℕ → Bool) → ℕ → ℕ → Bool
+spread_follows nodes own known n c = own n c || linked (node_at nodes n) (λ m. known m c)
+
+-- a control of the field stands in the template
+abbrev pub stands_in : List Forest → List (List ℕ) → ℕ → ℕ → Bool
+stands_in templates names n f = stands names f (template_at templates n)
+
+-- two controls of the field may stand in it
+abbrev pub doubled_in : List Forest → List Node → List (List ℕ) → (ℕ → ℕ → Bool) → ℕ → ℕ → Bool
+doubled_in templates nodes names have n f = nat_lt 1 (places names (node_at nodes n) (λ m. have m f) f (template_at templates n))
+
 abbrev pub have_follows : List Forest → List Node → List (List ℕ) → (ℕ → ℕ → Bool) → ℕ → ℕ → Bool
 have_follows templates nodes names known n f = stands names f (template_at templates n) || linked (node_at nodes n) (λ m. known m f)
 

@@ -3,6 +3,7 @@ pub mod Exact
 pub mod Follows
 pub mod Formulas
 pub mod Outlines
+pub mod Reading
 pub mod Reach
 pub mod Shape
 pub mod Tests

@@ -7,9 +7,10 @@ ghost use Rattle.bw_lang.specs.Document.View.{before};
 ghost use Rattle.bw_shape.specs.Tests as test;
 ghost use Rattle.bw_rows.specs.Changes.{Sets};
 
+use crate::gaps::links_at;
 use crate::tags::Tags;
 use crate::tops::item_gives;
-use bw_lang::{Item, Items, Memory};
+use bw_lang::{GapId, Item, Items, Memory, TemplateId};
 use bw_nodes::{Node, TemplateItems};
 use bw_rows::{Row, Rule, Table};
 use std::alloc::Global;
@@ -104,12 +105,21 @@ pub struct Crosses<'a, 'b> {
 impl<'a, 'b> Rule for Crosses<'a, 'b> {
     ghost use Rattle.std.specs.Prelude.{length};
     ghost use Rattle.bw_shape.specs.Follows.{cross_follows};
+    ghost use Rattle.bw_shape.specs.Reading.{links_of, cross_reads};
 
     ghost width = { λ r. length r.pairs.now };
 
     ghost rows = { λ r. length r.templates.now };
 
+    ghost links = { λ r. links_of r.nodes.now };
+
     ghost follows = { λ r. cross_follows r.templates.now r.nodes.now r.tags.now (at r.tops.now) r.pairs.now };
+
+    ghost reads = { λ r. cross_reads r.templates.now r.nodes.now r.tags.now (at r.tops.now) r.pairs.now };
+
+    fn links(&self, n: usize) -> &[(GapId, TemplateId)] {
+        links_at(self.nodes, n)
+    }
 
     fn row(&self, alloc: Global, n: usize, known: &Table) -> Result<Row, Memory> {
         let mut row = Row::of(alloc, self.pairs.len(), false)?;

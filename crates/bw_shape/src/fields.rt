@@ -8,8 +8,8 @@ ghost use Rattle.bw_rows.specs.Changes.{Sets, Clears, Rises};
 ghost use Rattle.bw_shape.specs.Tests as test;
 ghost use Rattle.bw_lang.specs.Document.Documents.{one_if};
 
-use crate::gaps::gap_lacks;
-use bw_lang::{Element, FieldNames, GapId, Item, Items, Memory};
+use crate::gaps::{gap_lacks, links_at};
+use bw_lang::{Element, FieldNames, GapId, Item, Items, Memory, TemplateId};
 use bw_nodes::{Node, TemplateItems};
 use bw_rows::{Row, Rule, Table, Tally};
 use std::alloc::Global;
@@ -152,29 +152,34 @@ fn item_counts(
     }
 }
 
-/// That a template may have a control of a field.
+/// That a control of a field stands in a template.
 #[derive(Clone, Copy)]
-pub struct MayHave<'a> {
+pub struct Stands<'a> {
     pub templates: &'a TemplateItems<'a>,
-    pub nodes: &'a [Node],
     pub names: &'a FieldNames,
-    ghost both: { length nodes.now ≡ length templates.now },
 }
 
-impl<'a> Rule for MayHave<'a> {
-    ghost use Rattle.std.specs.Prelude.{length};
-    ghost use Rattle.bw_shape.specs.Follows.{have_follows};
+impl<'a> Rule for Stands<'a> {
+    ghost use Rattle.std.specs.Prelude.{length, [], refl};
+    ghost use Rattle.bw_shape.specs.Follows.{stands_in};
 
     ghost width = { λ r. length r.names.now };
 
     ghost rows = { λ r. length r.templates.now };
 
-    ghost follows = { λ r. have_follows r.templates.now r.nodes.now r.names.now };
+    ghost links = { λ r n. [] };
 
-    fn row(&self, alloc: Global, n: usize, known: &Table) -> Result<Row, Memory> {
+    ghost follows = { λ r known. stands_in r.templates.now r.names.now };
+
+    ghost reads = { λ r n c f g same. refl };
+
+    fn links(&self, _: usize) -> &[(GapId, TemplateId)] {
+        &[]
+    }
+
+    fn row(&self, alloc: Global, n: usize, _: &Table) -> Result<Row, Memory> {
         let mut row = Row::of(alloc, self.names.len(), false)?;
         items_stand(self.names, self.templates.at(n), &mut row);
-        self.nodes[n].join_linked(known, &mut row);
         Ok(row)
     }
 }
@@ -191,12 +196,21 @@ pub struct MayLack<'a> {
 impl<'a> Rule for MayLack<'a> {
     ghost use Rattle.std.specs.Prelude.{length};
     ghost use Rattle.bw_shape.specs.Follows.{lack_follows};
+    ghost use Rattle.bw_shape.specs.Reading.{links_of, lack_reads};
 
     ghost width = { λ r. length r.names.now };
 
     ghost rows = { λ r. length r.templates.now };
 
+    ghost links = { λ r. links_of r.nodes.now };
+
     ghost follows = { λ r. lack_follows r.templates.now r.nodes.now r.names.now };
+
+    ghost reads = { λ r. lack_reads r.templates.now r.nodes.now r.names.now };
+
+    fn links(&self, n: usize) -> &[(GapId, TemplateId)] {
+        links_at(self.nodes, n)
+    }
 
     fn row(&self, alloc: Global, n: usize, known: &Table) -> Result<Row, Memory> {
         let mut row = Row::of(alloc, self.names.len(), true)?;
@@ -212,9 +226,9 @@ impl<'a> Rule for MayLack<'a> {
     }
 }
 
-/// That a template may have two controls of a field, where it is known which templates may have one.
+/// That two controls of a field may stand in a template, where it is known which templates may have one.
 #[derive(Clone, Copy)]
-pub struct Twice<'a, 'b> {
+pub struct Doubled<'a, 'b> {
     pub templates: &'a TemplateItems<'a>,
     pub nodes: &'a [Node],
     pub names: &'a FieldNames,
@@ -222,29 +236,69 @@ pub struct Twice<'a, 'b> {
     ghost both: { length nodes.now ≡ length templates.now },
 }
 
-impl<'a, 'b> Rule for Twice<'a, 'b> {
-    ghost use Rattle.std.specs.Prelude.{length};
-    ghost use Rattle.bw_shape.specs.Follows.{twice_follows};
+impl<'a, 'b> Rule for Doubled<'a, 'b> {
+    ghost use Rattle.std.specs.Prelude.{length, [], refl};
+    ghost use Rattle.bw_shape.specs.Follows.{doubled_in};
 
     ghost width = { λ r. length r.names.now };
 
     ghost rows = { λ r. length r.templates.now };
 
-    ghost follows = { λ r. twice_follows r.templates.now r.nodes.now r.names.now (at r.have.now) };
+    ghost links = { λ r n. [] };
 
-    fn row(&self, alloc: Global, n: usize, known: &Table) -> Result<Row, Memory> {
-        let node = &self.nodes[n];
+    ghost follows = { λ r known. doubled_in r.templates.now r.nodes.now r.names.now (at r.have.now) };
+
+    ghost reads = { λ r n c f g same. refl };
+
+    fn links(&self, _: usize) -> &[(GapId, TemplateId)] {
+        &[]
+    }
+
+    fn row(&self, alloc: Global, n: usize, _: &Table) -> Result<Row, Memory> {
         let mut tally = Tally::of(alloc, self.names.len())?;
         items_count(
             alloc,
             self.names,
-            node,
+            &self.nodes[n],
             self.have,
             self.templates.at(n),
             &mut tally,
         )?;
-        let mut row = tally.twos(alloc)?;
-        node.join_linked(known, &mut row);
+        tally.twos(alloc)
+    }
+}
+
+/// What a template has itself, or may have in a template that a link leads to.
+#[derive(Clone, Copy)]
+pub struct Spread<'a, 'b> {
+    pub nodes: &'a [Node],
+    pub own: &'b Table,
+    pub width: usize,
+}
+
+impl<'a, 'b> Rule for Spread<'a, 'b> {
+    ghost use Rattle.std.specs.Prelude.{length};
+    ghost use Rattle.bw_shape.specs.Follows.{spread_follows};
+    ghost use Rattle.bw_shape.specs.Reading.{links_of, spread_reads};
+
+    ghost width = { λ r. r.width };
+
+    ghost rows = { λ r. length r.nodes.now };
+
+    ghost links = { λ r. links_of r.nodes.now };
+
+    ghost follows = { λ r. spread_follows r.nodes.now (at r.own.now) };
+
+    ghost reads = { λ r. spread_reads r.nodes.now (at r.own.now) };
+
+    fn links(&self, n: usize) -> &[(GapId, TemplateId)] {
+        links_at(self.nodes, n)
+    }
+
+    fn row(&self, alloc: Global, n: usize, known: &Table) -> Result<Row, Memory> {
+        let mut row = Row::of(alloc, self.width, false)?;
+        self.own.join_row(n, &mut row);
+        self.nodes[n].join_linked(known, &mut row);
         Ok(row)
     }
 }

@@ -1,10 +1,11 @@
-//! What a gap has, however it is filled.
-ghost use Rattle.std.specs.Prelude.{◌||◌, OnOk};
+//! What a gap has, however it is filled, and where the gaps of a template lead to.
+ghost use Rattle.std.specs.Prelude.{◌≡◌, ◌<◌, ◌||◌, OnOk, length};
 ghost use Rattle.bw_rows.specs.Rows.{at};
 ghost use Rattle.bw_nodes.specs.Nodes as nodes;
 ghost use Rattle.bw_rows.specs.Changes.{Clears};
+ghost use Rattle.bw_shape.specs.Reading.{links_of};
 
-use bw_lang::{GapId, Memory};
+use bw_lang::{GapId, Memory, TemplateId};
 use bw_nodes::Node;
 use bw_rows::{Row, Table};
 use std::alloc::Global;
@@ -25,4 +26,12 @@ pub(crate) fn gap_lacks(
     let led = node.led(alloc, gap, known, row.len())?;
     row.meet(&led);
     Ok(())
+}
+
+/// The links of the template n, each a gap and a template that may stand there.
+pub(crate) fn links_at(nodes: &[Node], n: usize) -> &[(GapId, TemplateId)]
+    requires { n < length nodes.now }
+    ensures { result.now ≡ links_of nodes.now n }
+{
+    nodes[n].links()
 }

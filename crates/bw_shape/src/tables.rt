@@ -16,7 +16,7 @@ ghost use Rattle.bw_shape.specs.Follows.{have_follows, lack_follows, twice_follo
 
 use crate::arranging::arranged;
 use crate::cross::Crosses;
-use crate::fields::{MayHave, MayLack, Twice};
+use crate::fields::{Doubled, MayLack, Spread, Stands};
 use crate::reach::reached;
 use crate::tags::Tags;
 use crate::tops::{MayMiss, Tops};
@@ -117,10 +117,11 @@ fn have_of<'a>(
     requires order { All (λ n. n < length nodes.now) back.now }
     ensures { IfOk result (λ t. IsLeast (length names.now) (have_follows templates.now nodes.now names.now) back.now t) }
 {
-    let rule = MayHave {
-        templates,
+    let own = least(alloc, &Stands { templates, names }, nodes.len(), back)?;
+    let rule = Spread {
         nodes,
-        names,
+        own: &own,
+        width: names.len(),
     };
     least(alloc, &rule, nodes.len(), back)
 }
@@ -158,11 +159,17 @@ fn twice_of<'a>(
     requires order { All (λ n. n < length nodes.now) back.now }
     ensures { IfOk result (λ t. IsLeast (length names.now) (twice_follows templates.now nodes.now names.now (at have.now)) back.now t) }
 {
-    let rule = Twice {
+    let doubled = Doubled {
         templates,
         nodes,
         names,
         have,
+    };
+    let own = least(alloc, &doubled, nodes.len(), back)?;
+    let rule = Spread {
+        nodes,
+        own: &own,
+        width: names.len(),
     };
     least(alloc, &rule, nodes.len(), back)
 }

@@ -8,9 +8,9 @@ ghost use Rattle.bw_schema.specs.Words as words;
 ghost use Rattle.bw_rows.specs.Changes.{Sets, Clears};
 ghost use Rattle.bw_shape.specs.Tests as test;
 
-use crate::gaps::gap_lacks;
+use crate::gaps::{gap_lacks, links_at};
 use crate::tags::Tags;
-use bw_lang::{Item, Items, Memory, is_blank};
+use bw_lang::{GapId, Item, Items, Memory, TemplateId, is_blank};
 use bw_nodes::{Node, TemplateItems};
 use bw_rows::{Row, Rule, Table};
 use std::alloc::Global;
@@ -102,12 +102,21 @@ pub struct Tops<'a, 'b> {
 impl<'a, 'b> Rule for Tops<'a, 'b> {
     ghost use Rattle.std.specs.Prelude.{◌+◌, length};
     ghost use Rattle.bw_shape.specs.Follows.{top_follows};
+    ghost use Rattle.bw_shape.specs.Reading.{links_of, top_reads};
 
     ghost width = { λ r. length r.tags.now + 1 };
 
     ghost rows = { λ r. length r.templates.now };
 
+    ghost links = { λ r. links_of r.nodes.now };
+
     ghost follows = { λ r. top_follows r.templates.now r.nodes.now r.tags.now };
+
+    ghost reads = { λ r. top_reads r.templates.now r.nodes.now r.tags.now };
+
+    fn links(&self, n: usize) -> &[(GapId, TemplateId)] {
+        links_at(self.nodes, n)
+    }
 
     fn row(&self, alloc: Global, n: usize, known: &Table) -> Result<Row, Memory> {
         let mut row = Row::of(alloc, self.tags.len() + 1, false)?;
@@ -135,12 +144,21 @@ pub struct MayMiss<'a, 'b> {
 impl<'a, 'b> Rule for MayMiss<'a, 'b> {
     ghost use Rattle.std.specs.Prelude.{length};
     ghost use Rattle.bw_shape.specs.Follows.{miss_follows};
+    ghost use Rattle.bw_shape.specs.Reading.{links_of, miss_reads};
 
     ghost width = { λ r. r.first };
 
     ghost rows = { λ r. length r.templates.now };
 
+    ghost links = { λ r. links_of r.nodes.now };
+
     ghost follows = { λ r. miss_follows r.templates.now r.nodes.now r.tags.now };
+
+    ghost reads = { λ r. miss_reads r.templates.now r.nodes.now r.tags.now };
+
+    fn links(&self, n: usize) -> &[(GapId, TemplateId)] {
+        links_at(self.nodes, n)
+    }
 
     fn row(&self, alloc: Global, n: usize, known: &Table) -> Result<Row, Memory> {
         let mut row = Row::of(alloc, self.first, true)?;

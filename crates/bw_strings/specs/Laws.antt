@@ -24,4 +24,5 @@ BlankByStrings = (literals : List (List ℕ)) (a : StrSet) → blank literals a 
 
 -- each literal has one number
 abbrev pub LiteralsDiffer : Type 0
-LiteralsDiffer = (strings : List (List ℕ)) (n : ℕ) → n < length (with_names [] strings) → name_number (with_names [] strings) (text_of (with_names [] strings) n) ≡ n
+LiteralsDiffer = (strings : List (List ℕ)) (n : ℕ) → n < length (with_names [] strings)
+    → name_number (with_names [] strings) (text_of (with_names [] strings) n) ≡ n

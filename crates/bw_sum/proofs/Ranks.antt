@@ -18,7 +18,8 @@ use Rattle.bw_sum.specs.Small.{IsSmall1, IsSmall2, IsSmall3, IsSmallLabel}
 use Rattle.bw_sum.specs.declared.summary.Summary.{Summary}
 
 -- a set is no longer than the numbers that its members are coded by
-few_by : {T : Type 0} {cmp : T → T → Ordering} (P : T → Type 0) (code : T → ℕ) (n : ℕ) → ((x y : T) → P x → P y → cmp x y ≡ Less → code x < code y) → ((x : T) → P x → code x < n)
+few_by : {T : Type 0} {cmp : T → T → Ordering} (P : T → Type 0) (code : T → ℕ) (n : ℕ) → ((x y : T) → P x → P y → cmp x y ≡ Less → code x < code y)
+    → ((x : T) → P x → code x < n)
     → (low : ℕ) (xs : List T) → AllByRecursion (λ x. low ≤ code x) xs → IsSet cmp xs → AllByRecursion P xs → length xs ≤ n - low
 few_by P code n f t low [] l s p = omega arith
 few_by {cmp = cmp} P code n f t low (x ∷ xs) l s p =
@@ -41,16 +42,19 @@ less1 a b e = let r : a < b = ranked a b Less (sym e) in r
 no_greater : Greater ≡ Less → ⊥
 no_greater q = subst (λ o. elim o as (λ _. Type 0) [ Less ↦ ⊥ | Equal ↦ ⊥ | Greater ↦ Unit {0} ]) q tt
 
-less2 : (a b c d : ℕ) → b < 2 ^ 32 → d < 2 ^ 32 → (o p : Ordering) → nat_cmp a c ≡ o → nat_cmp b d ≡ p → ordering_then o p ≡ Less → a * 4294967296 + b < c * 4294967296 + d
+less2 : (a b c d : ℕ) → b < 2 ^ 32 → d < 2 ^ 32 → (o p : Ordering) → nat_cmp a c ≡ o → nat_cmp b d ≡ p → ordering_then o p ≡ Less
+    → a * 4294967296 + b < c * 4294967296 + d
 less2 a b c d h k Less p e f l = let r = less1 a c e in omega arith
 less2 a b c d h k Equal p e f l = let r : a ≡ c = ranked a c Equal (sym e) in let s = less1 b d (f ∙ l) in omega arith
 less2 a b c d h k Greater p e f l = absurd (no_greater l)
 
-less3 : (a b c d e f : ℕ) → b < 2 ^ 32 → e < 2 ^ 32 → c < 2 ^ 32 → f < 2 ^ 32 → (o p q : Ordering) → nat_cmp a d ≡ o → nat_cmp b e ≡ p → nat_cmp c f ≡ q → ordering_then (ordering_then o p) q ≡ Less
+less3 : (a b c d e f : ℕ) → b < 2 ^ 32 → e < 2 ^ 32 → c < 2 ^ 32 → f < 2 ^ 32 → (o p q : Ordering) → nat_cmp a d ≡ o → nat_cmp b e ≡ p → nat_cmp c f ≡ q
+    → ordering_then (ordering_then o p) q ≡ Less
     → a * 18446744073709551616 + (b * 4294967296 + c) < d * 18446744073709551616 + (e * 4294967296 + f)
 less3 a b c d e f h i j k Less p q x y z l = let r = less1 a d x in omega arith
 less3 a b c d e f h i j k Equal Less q x y z l = let r : a ≡ d = ranked a d Equal (sym x) in let s = less1 b e y in omega arith
-less3 a b c d e f h i j k Equal Equal q x y z l = let r : a ≡ d = ranked a d Equal (sym x) in let s : b ≡ e = ranked b e Equal (sym y) in let t = less1 c f (z ∙ l) in omega arith
+less3 a b c d e f h i j k Equal Equal q x y z l = let r : a ≡ d = ranked a d Equal (sym x) in let s : b ≡ e = ranked b e Equal (sym y) in let t =
+    less1 c f (z ∙ l) in omega arith
 less3 a b c d e f h i j k Equal Greater q x y z l = absurd (no_greater l)
 less3 a b c d e f h i j k Greater p q x y z l = absurd (no_greater l)
 
@@ -60,13 +64,15 @@ few1 xs s p = let r = few_by IsSmall1 (λ x. x) 4294967296 (λ x y h k e. less1 
 few2 : (xs : List (ℕ × ℕ)) → IsSet pair_cmp xs → AllByRecursion IsSmall2 xs → length xs ≤ 18446744073709551616
 few2 xs s p =
     let r = few_by IsSmall2 (λ t. t.0 * 4294967296 + t.1) 18446744073709551616
-    (λ x y h k e. less2 x.0 x.1 y.0 y.1 h.1 k.1 (nat_cmp x.0 y.0) (nat_cmp x.1 y.1) refl refl e) (λ x h. let a = h.0 in let b = h.1 in omega arith) 0 xs (zero_on (λ t. t.0 * 4294967296 + t.1) xs) s p in
+    (λ x y h k e. less2 x.0 x.1 y.0 y.1 h.1 k.1 (nat_cmp x.0 y.0) (nat_cmp x.1 y.1) refl refl e) (λ x h. let a = h.0 in let b = h.1 in omega arith) 0 xs
+    (zero_on (λ t. t.0 * 4294967296 + t.1) xs) s p in
     omega arith
 
 few3 : (xs : List (ℕ × ℕ × ℕ)) → IsSet edge_cmp xs → AllByRecursion IsSmall3 xs → length xs ≤ 79228162514264337593543950336
 few3 xs s p =
     let r = few_by IsSmall3 (λ t. t.0 * 18446744073709551616 + (t.1 * 4294967296 + t.2)) 79228162514264337593543950336
-    (λ x y h k e. less3 x.0 x.1 x.2 y.0 y.1 y.2 h.1 k.1 h.2 k.2 (nat_cmp x.0 y.0) (nat_cmp x.1 y.1) (nat_cmp x.2 y.2) refl refl refl e) (λ x h. let a = h.0 in let b = h.1 in let c = h.2 in omega arith)
+    (λ x y h k e. less3 x.0 x.1 x.2 y.0 y.1 y.2 h.1 k.1 h.2 k.2 (nat_cmp x.0 y.0) (nat_cmp x.1 y.1) (nat_cmp x.2 y.2) refl refl refl e)
+    (λ x h. let a = h.0 in let b = h.1 in let c = h.2 in omega arith)
     0 xs (zero_on (λ t. t.0 * 18446744073709551616 + (t.1 * 4294967296 + t.2)) xs) s p in
     omega arith
 
@@ -80,7 +86,8 @@ keys_set (e ∷ es) s = (s.0, keys_set es s.1.1)
 few_labels : (es : List ((ℕ × ℕ) × StrSet)) → AreLabels es → AllByRecursion IsSmallLabel es → length es ≤ 18446744073709551616
 few_labels es s p =
     let r = few_by {cmp = by_key} IsSmallLabel (λ t. t.0.0 * 4294967296 + t.0.1) 18446744073709551616
-    (λ x y h k e. less2 x.0.0 x.0.1 y.0.0 y.0.1 h.1 k.1 (nat_cmp x.0.0 y.0.0) (nat_cmp x.0.1 y.0.1) refl refl e) (λ x h. let a = h.0 in let b = h.1 in omega arith) 0 es (zero_on (λ t. t.0.0 * 4294967296 + t.0.1) es) (keys_set es s) p in
+    (λ x y h k e. less2 x.0.0 x.0.1 y.0.0 y.0.1 h.1 k.1 (nat_cmp x.0.0 y.0.0) (nat_cmp x.0.1 y.0.1) refl refl e)
+    (λ x h. let a = h.0 in let b = h.1 in omega arith) 0 es (zero_on (λ t. t.0.0 * 4294967296 + t.0.1) es) (keys_set es s) p in
     omega arith
 
 strings_few : (s : StrSet) → strings.IsWellFormed s → strings.rank_of s ≤ 4294967297

@@ -91,13 +91,16 @@ module _ (names : List (List ℕ)) where
           × Known names (gap_names next))
           → Within (length names) (λ g. holes g attrs || (opens g inner || opens g f)) × Known names (gap_names rest)
       by_alt (inl (e, i)) go into =
-          let k = all_parts (λ (n : List ℕ). name_number names n < length names) (attr_gaps t.attrs) (gap_names qs) (subst (λ x. Known names (gap_names x)) e h) in
+          let k = all_parts (λ (n : List ℕ). name_number names n < length names) (attr_gaps t.attrs) (gap_names qs)
+          (subst (λ x. Known names (gap_names x)) e h) in
           whole k.0 (subst (λ x. Within (length names) (λ g. opens g x)) (sym i) (λ g o. absurd (false≢true o))) k.1 go
       by_alt (inr (inl (e, v, i))) go into =
-          let k = all_parts (λ (n : List ℕ). name_number names n < length names) (attr_gaps t.attrs) (gap_names qs) (subst (λ x. Known names (gap_names x)) e h) in
+          let k = all_parts (λ (n : List ℕ). name_number names n < length names) (attr_gaps t.attrs) (gap_names qs)
+          (subst (λ x. Known names (gap_names x)) e h) in
           whole k.0 (subst (λ x. Within (length names) (λ g. opens g x)) (sym i) (λ g o. absurd (false≢true o))) k.1 go
       by_alt (inr (inr (mid, e, v, ri))) go into =
-          let k = all_parts (λ (n : List ℕ). name_number names n < length names) (attr_gaps t.attrs) (gap_names mid) (subst (λ x. Known names (gap_names x)) e h) in
+          let k = all_parts (λ (n : List ℕ). name_number names n < length names) (attr_gaps t.attrs) (gap_names mid)
+          (subst (λ x. Known names (gap_names x)) e h) in
           let q = into mid (piece.End t.name ∷ qs) ri k.1 in
           whole k.0 q.0 q.1 go
 

@@ -18,11 +18,14 @@ use Rattle.bw_sum.specs.SummaryLaws.{edge_cmp_total}
 use Rattle.bw_sum.specs.Summaries as summaries
 use Rattle.bw_sum.specs.declared.summary.Summary.{Summary}
 
-edges_from_all : (edges : List (ℕ × ℕ × ℕ)) (n g : ℕ) (ms : List ℕ) → n < 2 ^ 32 → g < 2 ^ 32 → AllByRecursion IsSmall3 edges → AllByRecursion IsSmall1 ms → AllByRecursion IsSmall3 (edges_from edges n g ms)
+edges_from_all : (edges : List (ℕ × ℕ × ℕ)) (n g : ℕ) (ms : List ℕ) → n < 2 ^ 32 → g < 2 ^ 32 → AllByRecursion IsSmall3 edges → AllByRecursion IsSmall1 ms
+    → AllByRecursion IsSmall3 (edges_from edges n g ms)
 edges_from_all edges n g [] h k e m = e
-edges_from_all edges n g (x ∷ xs) h k e m = edges_from_all (merge edge_cmp edges ((n, g, x) ∷ [])) n g xs h k (merge_all edge_cmp_total IsSmall3 edges ((n, g, x) ∷ []) e ((h, k, m.0), tt)) m.1
+edges_from_all edges n g (x ∷ xs) h k e m = edges_from_all (merge edge_cmp edges ((n, g, x) ∷ [])) n g xs h k
+    (merge_all edge_cmp_total IsSmall3 edges ((n, g, x) ∷ []) e ((h, k, m.0), tt)) m.1
 
-edges_at_all : (edges : List (ℕ × ℕ × ℕ)) (ts : List (ℕ × ℕ)) (g : ℕ) (ms : List ℕ) → g < 2 ^ 32 → AllByRecursion IsSmall3 edges → AllByRecursion IsSmall2 ts → AllByRecursion IsSmall1 ms → AllByRecursion IsSmall3 (edges_at edges ts g ms)
+edges_at_all : (edges : List (ℕ × ℕ × ℕ)) (ts : List (ℕ × ℕ)) (g : ℕ) (ms : List ℕ) → g < 2 ^ 32 → AllByRecursion IsSmall3 edges
+    → AllByRecursion IsSmall2 ts → AllByRecursion IsSmall1 ms → AllByRecursion IsSmall3 (edges_at edges ts g ms)
 edges_at_all edges [] g ms k e t m = e
 edges_at_all edges (x ∷ xs) g ms k e t m = edges_at_all (if x.0 == g then edges_from edges x.1 g ms else edges) xs g ms k (one (x.0 == g)) t.1 m
   where
@@ -30,7 +33,8 @@ edges_at_all edges (x ∷ xs) g ms k e t m = edges_at_all (if x.0 == g then edge
     one true = edges_from_all edges x.1 g ms t.0.1 k e m
     one false = e
 
-sifted_all : {T : Type 0} {cmp : T → T → Ordering} (o : IsTotalOrder cmp) (P : T → Type 0) (keep : T → Bool) (all xs : List T) → AllByRecursion P all → AllByRecursion P xs → AllByRecursion P (sifted cmp keep all xs)
+sifted_all : {T : Type 0} {cmp : T → T → Ordering} (o : IsTotalOrder cmp) (P : T → Type 0) (keep : T → Bool) (all xs : List T) → AllByRecursion P all
+    → AllByRecursion P xs → AllByRecursion P (sifted cmp keep all xs)
 sifted_all o P keep all [] p q = p
 sifted_all {cmp = cmp} o P keep all (x ∷ xs) p q = sifted_all o P keep (cond (keep x) (merge cmp all (x ∷ [])) all) xs (one (keep x)) q.1
   where
@@ -38,13 +42,17 @@ sifted_all {cmp = cmp} o P keep all (x ∷ xs) p q = sifted_all o P keep (cond (
     one true = merge_all o P all (x ∷ []) p (q.0, tt)
     one false = p
 
-into_keys : (x : (ℕ × ℕ) × StrSet) (xs : List ((ℕ × ℕ) × StrSet)) (rest : List ((ℕ × ℕ) × StrSet) → List ((ℕ × ℕ) × StrSet)) → IsSmallLabel x → AllByRecursion IsSmallLabel xs
-    → ((ys : List ((ℕ × ℕ) × StrSet)) → AllByRecursion IsSmallLabel ys → AllByRecursion IsSmallLabel (rest ys)) → (ys : List ((ℕ × ℕ) × StrSet)) → AllByRecursion IsSmallLabel ys → AllByRecursion IsSmallLabel (table_join_into pair_cmp both x xs rest ys)
+into_keys : (x : (ℕ × ℕ) × StrSet) (xs : List ((ℕ × ℕ) × StrSet)) (rest : List ((ℕ × ℕ) × StrSet) → List ((ℕ × ℕ) × StrSet)) → IsSmallLabel x
+    → AllByRecursion IsSmallLabel xs
+    → ((ys : List ((ℕ × ℕ) × StrSet)) → AllByRecursion IsSmallLabel ys → AllByRecursion IsSmallLabel (rest ys)) → (ys : List ((ℕ × ℕ) × StrSet))
+    → AllByRecursion IsSmallLabel ys → AllByRecursion IsSmallLabel (table_join_into pair_cmp both x xs rest ys)
 into_keys x xs rest px pxs h [] q = (px, pxs)
-into_keys x xs rest px pxs h (y ∷ ys) q = by_order (AllByRecursion IsSmallLabel) (pair_cmp x.0 y.0) (x ∷ rest (y ∷ ys)) ((x.0, both x.1 y.1) ∷ rest ys) (y ∷ table_join_into pair_cmp both x xs rest ys)
+into_keys x xs rest px pxs h (y ∷ ys) q = by_order (AllByRecursion IsSmallLabel) (pair_cmp x.0 y.0) (x ∷ rest (y ∷ ys)) ((x.0, both x.1 y.1) ∷ rest ys)
+    (y ∷ table_join_into pair_cmp both x xs rest ys)
     (λ e. (px, h (y ∷ ys) q)) (λ e. (px, h ys q.1)) (λ e. (q.0, into_keys x xs rest px pxs h ys q.1))
 
-labels_all : (xs ys : List ((ℕ × ℕ) × StrSet)) → AllByRecursion IsSmallLabel xs → AllByRecursion IsSmallLabel ys → AllByRecursion IsSmallLabel (both_labels xs ys)
+labels_all : (xs ys : List ((ℕ × ℕ) × StrSet)) → AllByRecursion IsSmallLabel xs → AllByRecursion IsSmallLabel ys
+    → AllByRecursion IsSmallLabel (both_labels xs ys)
 labels_all [] ys p q = q
 labels_all (x ∷ xs) ys p q = into_keys x xs (both_labels xs) p.0 p.1 (λ zs r. labels_all xs zs p.1 r) ys q
 
@@ -52,7 +60,8 @@ labels_at_all : (ts : List (ℕ × ℕ)) (g : ℕ) (s : StrSet) → g < 2 ^ 32 �
 labels_at_all [] g s h t = tt
 labels_at_all (x ∷ xs) g s h t = go (labels_at_all xs g s h t.1) (x.0 == g)
   where
-    go : AllByRecursion IsSmallLabel (labels_at xs g s) → (b : Bool) → AllByRecursion IsSmallLabel (if b then ((x.1, g), s) ∷ labels_at xs g s else labels_at xs g s)
+    go : AllByRecursion IsSmallLabel (labels_at xs g s) → (b : Bool)
+        → AllByRecursion IsSmallLabel (if b then ((x.1, g), s) ∷ labels_at xs g s else labels_at xs g s)
     go r true = ((t.0.1, h), r)
     go r false = r
 
@@ -68,9 +77,11 @@ joined_small a b p q = record {
 pub plugged_small : (b : Summary) (g : ℕ) (a : Summary) → g < 2 ^ 32 → IsSmall b → IsSmall a → IsSmall (summaries.plugged b g a)
 plugged_small b g a h p q = record {
   roots = p.roots;
-  edges = merge_all edge_cmp_total IsSmall3 (merge edge_cmp b.edges a.edges) (edges_at [] b.tracks g a.roots) (merge_all edge_cmp_total IsSmall3 b.edges a.edges p.edges q.edges) (edges_at_all [] b.tracks g a.roots h tt p.tracks q.roots);
+  edges = merge_all edge_cmp_total IsSmall3 (merge edge_cmp b.edges a.edges) (edges_at [] b.tracks g a.roots)
+      (merge_all edge_cmp_total IsSmall3 b.edges a.edges p.edges q.edges) (edges_at_all [] b.tracks g a.roots h tt p.tracks q.roots);
   texts = labels_all b.texts a.texts p.texts q.texts;
-  tracks = merge_all pair_cmp_total IsSmall2 (sifted pair_cmp (λ t. not (t.0 == g)) [] b.tracks) a.tracks (sifted_all pair_cmp_total IsSmall2 (λ t. not (t.0 == g)) [] b.tracks tt p.tracks) q.tracks;
+  tracks = merge_all pair_cmp_total IsSmall2 (sifted pair_cmp (λ t. not (t.0 == g)) [] b.tracks) a.tracks
+      (sifted_all pair_cmp_total IsSmall2 (λ t. not (t.0 == g)) [] b.tracks tt p.tracks) q.tracks;
   lacks = sifted_all nat_cmp_total IsSmall1 (λ k. (k == g) || has nat_cmp b.lacks k) [] a.lacks tt q.lacks;
 }
 

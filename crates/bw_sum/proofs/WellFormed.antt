@@ -41,7 +41,8 @@ edges_at_set edges (t ∷ ts) g ms s = edges_at_set (if t.0 == g then edges_from
     one true = edges_from_set edges t.1 g ms s
     one false = s
 
-sifted_set : {T : Type 0} {cmp : T → T → Ordering} (o : IsTotalOrder cmp) (keep : T → Bool) (all xs : List T) → IsSet cmp all → IsSet cmp (sifted cmp keep all xs)
+sifted_set : {T : Type 0} {cmp : T → T → Ordering} (o : IsTotalOrder cmp) (keep : T → Bool) (all xs : List T) → IsSet cmp all
+    → IsSet cmp (sifted cmp keep all xs)
 sifted_set o keep all [] s = s
 sifted_set {cmp = cmp} o keep all (x ∷ xs) s = sifted_set o keep (cond (keep x) (merge cmp all (x ∷ [])) all) xs (one (keep x))
   where

@@ -40,7 +40,8 @@ InsideAnswer before inside =
 
 -- the table that the template's pieces give
 by_table : (before : List (List ℕ)) (inside : List ℕ) (ps : List Piece) → SpellsPieces ps inside →
-    ((items : Forest) × IsTemplate (with_names before (gap_names ps)) 64 inside items) ⊎ ((e : TmplFault) × (e ≢ reasons.Memory) × IsTemplateRefused 64 inside e) →
+    ((items : Forest) × IsTemplate (with_names before (gap_names ps)) 64 inside items)
+    ⊎ ((e : TmplFault) × (e ≢ reasons.Memory) × IsTemplateRefused 64 inside e) →
     InsideAnswer before inside
 by_table before inside ps s (inl r) =
     let same = spelled_once ps r.1.pieces inside s r.1.spelled in

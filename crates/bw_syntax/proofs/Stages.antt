@@ -42,7 +42,8 @@ untold_refuses bytes (faults.Lex f) u = u
 untold_refuses bytes faults.Memory u = tt
 untold_refuses bytes fault u = absurd u
 
-pub unparsed_refuses : (bytes : List ℕ) (ls : List Lexeme) (fault : SyntaxFault) → IsText bytes ls → IsUnparsed ls (length bytes) fault → IsServiceRefused bytes fault
+pub unparsed_refuses : (bytes : List ℕ) (ls : List Lexeme) (fault : SyntaxFault) → IsText bytes ls → IsUnparsed ls (length bytes) fault
+    → IsServiceRefused bytes fault
 unparsed_refuses bytes ls (faults.TooMany limit n) t u = inl (record { lexemes = ls; text = t; passed = u })
 unparsed_refuses bytes ls (faults.Syntax at) t u = record { lexemes = ls; text = t; shallow = u.0; nothing = u.1; place = u.2 }
 unparsed_refuses bytes ls faults.Memory t u = tt
@@ -51,7 +52,8 @@ unparsed_refuses bytes ls fault t u = absurd u
 pub drafted : (bytes : List ℕ) (ls : List Lexeme) (name : List ℕ) (ds : List Draft) → IsText bytes ls → IsParsed ls name ds → IsDraft bytes name ds
 drafted bytes ls name ds t p = record { lexemes = ls; text = t; shallow = p.shallow; named = p.named; formed = p.formed; spelled = p.spelled }
 
-pub draft_refuses : (bytes name : List ℕ) (ds : List Draft) (fault : SyntaxFault) → IsDraft bytes name ds → IsRefusedDraft name ds fault → IsServiceRefused bytes fault
+pub draft_refuses : (bytes name : List ℕ) (ds : List Draft) (fault : SyntaxFault) → IsDraft bytes name ds → IsRefusedDraft name ds fault
+    → IsServiceRefused bytes fault
 draft_refuses bytes name ds (faults.Template n f) d u = record { name = name; drafts = ds; drafted = d; unread = u }
 draft_refuses bytes name ds (faults.TooMany limit n) d u =
     inr (record { name = name; drafts = ds; drafted = d; declarations = u.0; gaps = u.1; read = u.2; passed = u.3 })

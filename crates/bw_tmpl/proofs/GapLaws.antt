@@ -38,7 +38,8 @@ pub ruleset taking_in = (with_more, extends_refl, extends_trans, extends_with_na
 abbrev numbers : List (List ℕ) → ℕ → List (List ℕ) → ℕ
 numbers names g ns = count_by (λ n. name_number names n == g) ns
 
-numbers_cons : (names : List (List ℕ)) (g : ℕ) (n : List ℕ) (ns : List (List ℕ)) → numbers names g (n ∷ ns) ≡ one_if (name_number names n == g) + numbers names g ns
+numbers_cons : (names : List (List ℕ)) (g : ℕ) (n : List ℕ) (ns : List (List ℕ))
+    → numbers names g (n ∷ ns) ≡ one_if (name_number names n == g) + numbers names g ns
 numbers_cons names g n ns = sum_by-cons (λ (m : List ℕ). cond (name_number names m == g) 1 0) n ns
 
 numbers_append : (names : List (List ℕ)) (g : ℕ) (a b : List (List ℕ)) → numbers names g (a ++ b) ≡ numbers names g a + numbers names g b
@@ -96,7 +97,8 @@ reads_counted names g (element tag attrs inner f) ps rest h =
 
 -- ---- no gap is open that the table doesn't have
 
-none_beyond : (names : List (List ℕ)) (g : ℕ) (ns : List (List ℕ)) → length names ≤ g → All (λ n. name_number names n < length names) ns → numbers names g ns ≡ 0
+none_beyond : (names : List (List ℕ)) (g : ℕ) (ns : List (List ℕ)) → length names ≤ g → All (λ n. name_number names n < length names) ns
+    → numbers names g ns ≡ 0
 none_beyond names g [] le all = refl
 none_beyond names g (n ∷ ns) le all =
     let first : name_number names n < length names = all 0 [] (omega arith) in

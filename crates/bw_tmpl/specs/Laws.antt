@@ -29,12 +29,14 @@ OneTemplate = (names : List (List ℕ)) (most : ℕ) (bytes : List ℕ) (f g : F
 -- what is a template is refused for want of memory alone
 abbrev pub NotBoth : Type 0
 NotBoth =
-    (names : List (List ℕ)) (most : ℕ) (bytes : List ℕ) (f : Forest) (e : TmplFault) → IsTemplate names most bytes f → IsTemplateRefused most bytes e → e ≡ fault.Memory
+    (names : List (List ℕ)) (most : ℕ) (bytes : List ℕ) (f : Forest) (e : TmplFault) → IsTemplate names most bytes f → IsTemplateRefused most bytes e
+    → e ≡ fault.Memory
 
 -- there is one reason at most, beside want of memory
 abbrev pub OneReason : Type 0
 OneReason =
-    (most : ℕ) (bytes : List ℕ) (d e : TmplFault) → IsTemplateRefused most bytes d → IsTemplateRefused most bytes e → (d ≡ fault.Memory → ⊥) → (e ≡ fault.Memory → ⊥) → d ≡ e
+    (most : ℕ) (bytes : List ℕ) (d e : TmplFault) → IsTemplateRefused most bytes d → IsTemplateRefused most bytes e → (d ≡ fault.Memory → ⊥)
+    → (e ≡ fault.Memory → ⊥) → d ≡ e
 
 -- bytes are a template, or there is a reason beside want of memory
 abbrev pub ReadOrRefused : Type 0

@@ -87,8 +87,11 @@ module _ (s : Service) where
   apart k (declare t w e c) more h = (apart_now k (declare t w e c) more h, apart (with_local k w t) c more (one_local k w t (local_names c ++ more) h))
   apart k (assign w e c) more h = (apart_now k (assign w e c) more h, apart k c more h)
   apart k (if_then e y c) more h =
-      let g = same_names k _ (local_names y ++ (local_names c ++ more)) (append_assoc (local_names y) (local_names c) more) h in
-      (apart_now k (if_then e y c) more h, apart k y (local_names c ++ more) g, apart (scope_behind k y) c more (gone k (local_names y) (local_names c ++ more) g))
+      let g = same_names k _ (local_names y ++ (local_names c ++ more)) (append_assoc (local_names y) (local_names c) more) h in (
+        apart_now k (if_then e y c) more h,
+        apart k y (local_names c ++ more) g,
+        apart (scope_behind k y) c more (gone k (local_names y) (local_names c ++ more) g),
+      )
   apart k (if_else e y n c) more h =
       let g =
       same_names k _ (local_names y ++ (local_names n ++ (local_names c ++ more)))
@@ -101,8 +104,11 @@ module _ (s : Service) where
         apart (scope_behind (scope_behind k y) n) c more (gone (scope_behind k y) (local_names n) (local_names c ++ more) m),
       )
   apart k (while_loop e y c) more h =
-      let g = same_names k _ (local_names y ++ (local_names c ++ more)) (append_assoc (local_names y) (local_names c) more) h in
-      (apart_now k (while_loop e y c) more h, apart k y (local_names c ++ more) g, apart (scope_behind k y) c more (gone k (local_names y) (local_names c ++ more) g))
+      let g = same_names k _ (local_names y ++ (local_names c ++ more)) (append_assoc (local_names y) (local_names c) more) h in (
+        apart_now k (while_loop e y c) more h,
+        apart k y (local_names c ++ more) g,
+        apart (scope_behind k y) c more (gone k (local_names y) (local_names c ++ more) g),
+      )
   apart k (block y c) more h =
       let g = same_names k _ (local_names y ++ (local_names c ++ more)) (append_assoc (local_names y) (local_names c) more) h in
       (apart_now k (block y c) more h, apart k y (local_names c ++ more) g, apart (scope_behind k y) c more (gone k (local_names y) (local_names c ++ more) g))

@@ -23,7 +23,12 @@ meets s k done h = tt
 meets s k (declare kind w e c) h = (kind_is_one s k e kind h.1, meets s (with_local k w kind) c h.2)
 meets s k (assign w e c) h = ((h.0.0, h.0.1, kind_is_one s k e h.0.0 h.0.2), meets s k c h.1)
 meets s k (if_then e y c) h = (kind_is_one s k e Truth h.0, meets s k y h.1, meets s (scope_behind k y) c h.2)
-meets s k (if_else e y n c) h = (kind_is_one s k e Truth h.0, meets s k y h.1, meets s (scope_behind k y) n h.2, meets s (scope_behind (scope_behind k y) n) c h.3)
+meets s k (if_else e y n c) h = (
+  kind_is_one s k e Truth h.0,
+  meets s k y h.1,
+  meets s (scope_behind k y) n h.2,
+  meets s (scope_behind (scope_behind k y) n) c h.3,
+)
 meets s k (while_loop e y c) h = (kind_is_one s k e Truth h.0, meets s k y h.1, meets s (scope_behind k y) c h.2)
 meets s k (block y c) h = (meets s k y h.0, meets s (scope_behind k y) c h.1)
 meets s k (for_each w e y c) h = (kind_is_one s k e Strs h.1, meets s (with_local k w Str) y h.2, meets s (behind_each k w y) c h.3)

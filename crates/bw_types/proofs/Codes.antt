@@ -1,5 +1,30 @@
 -- The statements of a block, one after the other.
-use Rattle.std.proofs.Common.{◌≡◌, ℕ, zero, suc, ◌+◌, ◌-◌, ◌<◌, false, List, [], ◌∷◌, ◌++◌, length, get_or, drop, refl, ap, sym, ◌∙◌, arith, append_assoc, append-nil, Some, None}
+use Rattle.std.proofs.Common.{
+  ◌≡◌,
+  ℕ,
+  zero,
+  suc,
+  ◌+◌,
+  ◌-◌,
+  ◌<◌,
+  false,
+  List,
+  [],
+  ◌∷◌,
+  ◌++◌,
+  length,
+  get_or,
+  drop,
+  refl,
+  ap,
+  sym,
+  ◌∙◌,
+  arith,
+  append_assoc,
+  append-nil,
+  Some,
+  None,
+}
 use Rattle.std.proofs.lemmas.List.{length-append}
 use Rattle.std.proofs.Math.Seq.{drop-append_seam}
 use Rattle.bw_lang.specs.declared.service.Service.{Service}
@@ -21,7 +46,8 @@ use Rattle.bw_types.proofs.First.{drop_more}
 
 -- ---- one statement more
 
-faults_before : (s : Service) (k : Scope) (x : Stmt) (c : Code) → code_faults s k (before x c) ≡ code_faults s k (before x done) ++ code_faults s (after k (before x done)) c
+faults_before : (s : Service) (k : Scope) (x : Stmt) (c : Code) → code_faults s k (before x c) ≡ code_faults s k (before x done)
+    ++ code_faults s (after k (before x done)) c
 faults_before s k (Declare t w e) c = simp append-nil
 faults_before s k (Assign w e) c = simp (append_assoc, append-nil)
 faults_before s k (If t y None) c = simp (append_assoc, append-nil)
@@ -44,12 +70,14 @@ after_before k (Show p rs) c = refl
 after_before k (Exit p) c = refl
 
 -- the faults from a statement on, where there is none in front
-pub faults_here : (s : Service) (k : Scope) (xs : List Stmt) (i : ℕ) (x : Stmt) (whole : List TypeFault) → whole ≡ code_faults s k (code (drop i xs)) → x ≡ get_or xs i x → i < length xs
+pub faults_here : (s : Service) (k : Scope) (xs : List Stmt) (i : ℕ) (x : Stmt) (whole : List TypeFault) → whole ≡ code_faults s k (code (drop i xs))
+    → x ≡ get_or xs i x → i < length xs
     → whole ≡ code_faults s k (before x done) ++ code_faults s (after k (before x done)) (code (drop (i + 1) xs))
 faults_here s k xs i x whole w e h = w ∙ ap (λ l. code_faults s k (code l)) (drop_more xs i x e h) ∙ faults_before s k x (code (drop (i + 1) xs))
 
 -- the scope behind all statements, from behind one statement on
-pub after_here : (k : Scope) (xs : List Stmt) (i : ℕ) (x : Stmt) → x ≡ get_or xs i x → i < length xs → after k (code (drop i xs)) ≡ after (after k (before x done)) (code (drop (i + 1) xs))
+pub after_here : (k : Scope) (xs : List Stmt) (i : ℕ) (x : Stmt) → x ≡ get_or xs i x → i < length xs
+    → after k (code (drop i xs)) ≡ after (after k (before x done)) (code (drop (i + 1) xs))
 after_here k xs i x e h = ap (λ l. after k (code l)) (drop_more xs i x e h) ∙ after_before k x (code (drop (i + 1) xs))
 
 -- ---- the end of a block
@@ -85,7 +113,8 @@ taken_after k (declare t w e a) = taken_after (with_local k w t) a ∙ append_as
 taken_after k (assign w e a) = taken_after k a
 taken_after k (if_then t y a) = taken_after (scope_behind k y) a ∙ append_assoc k.taken (local_names y) (local_names a)
 taken_after k (if_else t y n a) =
-    taken_after (scope_behind (scope_behind k y) n) a ∙ append_assoc (k.taken ++ local_names y) (local_names n) (local_names a) ∙ append_assoc k.taken (local_names y) (local_names n ++ local_names a)
+    taken_after (scope_behind (scope_behind k y) n) a ∙ append_assoc (k.taken ++ local_names y) (local_names n) (local_names a)
+    ∙ append_assoc k.taken (local_names y) (local_names n ++ local_names a)
 taken_after k (while_loop t y a) = taken_after (scope_behind k y) a ∙ append_assoc k.taken (local_names y) (local_names a)
 taken_after k (block y a) = taken_after (scope_behind k y) a ∙ append_assoc k.taken (local_names y) (local_names a)
 taken_after k (for_each w e y a) = taken_after (behind_each k w y) a ∙ append_assoc k.taken (w ∷ local_names y) (local_names a)
@@ -97,7 +126,8 @@ pub outside-after : (k : Scope) (a : Code) → outside (length k.locals) (after 
 outside-after k a =
     let m = after k a in
     let n : length m.locals - length k.locals ≡ length (added a) = omega (arith, ap length (locals_after k a), length-append (added a) k.locals) in
-    let l : drop (length m.locals - length k.locals) m.locals ≡ k.locals = ap (λ i. drop i m.locals) n ∙ ap (drop (length (added a))) (locals_after k a) ∙ drop-append_seam (added a) k.locals in
+    let l : drop (length m.locals - length k.locals) m.locals ≡ k.locals = ap (λ i. drop i m.locals) n ∙ ap (drop (length (added a))) (locals_after k a)
+    ∙ drop-append_seam (added a) k.locals in
     ap (λ x. record { locals = x; taken = m.taken }) l ∙ ap (λ x. record { locals = k.locals; taken = x }) (taken_after k a)
 
 -- leaving a foreach: its local goes too
@@ -136,7 +166,8 @@ pub last_decides : (xs : List Stmt) (x : Stmt) → slice_get xs (length xs - 1) 
 last_decides [] x h = absurd (cc)
 last_decides (y ∷ []) x h = let e : y ≡ x = cc in ap (λ s. ends_in_exit (before s done)) e
 last_decides (y ∷ z ∷ zs) x h =
-    let e : suc (length (z ∷ zs) - 1) ≡ length (y ∷ z ∷ zs) - 1 = omega arith in skips y z (code zs) ∙ last_decides (z ∷ zs) x (ap (slice_get (y ∷ z ∷ zs)) e ∙ h)
+    let e : suc (length (z ∷ zs) - 1) ≡ length (y ∷ z ∷ zs) - 1 = omega arith in skips y z (code zs)
+    ∙ last_decides (z ∷ zs) x (ap (slice_get (y ∷ z ∷ zs)) e ∙ h)
 
 pub none_ends : (xs : List Stmt) → slice_get xs (length xs - 1) ≡ None → ends_in_exit (code xs) ≡ false
 none_ends [] h = refl

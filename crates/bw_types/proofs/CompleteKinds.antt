@@ -13,7 +13,29 @@ use Rattle.bw_lang.specs.Service.Term.{Term, Fillings, no_more, filling}
 use Rattle.bw_types.specs.declared.fault.GapKind.{GapKind}
 use Rattle.bw_types.specs.declared.fault.GapKind.TheVariants.{Content, Attribute}
 use Rattle.bw_types.specs.declared.fault.TypeFault.TheVariants as faults
-use Rattle.bw_types.specs.ExpressionFaults.{OpSort, joins_truths, tests_equality, compares, adds, computes, op_sort, op_kind, fun_takes, kind_of, demand, demand_same, demand_sum, left_demand, right_demand, gap_demand, gap_unknown, name_unknown, faults_in, faults_in_pairs, wanted}
+use Rattle.bw_types.specs.ExpressionFaults.{
+  OpSort,
+  joins_truths,
+  tests_equality,
+  compares,
+  adds,
+  computes,
+  op_sort,
+  op_kind,
+  fun_takes,
+  kind_of,
+  demand,
+  demand_same,
+  demand_sum,
+  left_demand,
+  right_demand,
+  gap_demand,
+  gap_unknown,
+  name_unknown,
+  faults_in,
+  faults_in_pairs,
+  wanted,
+}
 use Rattle.bw_types.specs.Faults.{code_faults, receive_fault, demand_received, local_repeated, local_faults}
 use Rattle.bw_types.specs.Gaps.{kind_of_gap}
 use Rattle.bw_types.specs.Scopes.{Scope, is_among, declared_names, name_kind, variable_kind, with_local, scope_behind, behind_each}
@@ -71,10 +93,12 @@ abbrev Passes : Service → Scope → Term → Kind → Type 0
 Passes s k e kind = (faults_in s k e ≡ []) × (kind_of s k e ≡ Some kind)
 
 binary_passes : (s : Service) (k : Scope) (sort : OpSort) (l r : Term) (side kind : Kind) → Passes s k l side → Passes s k r side → Takes sort side kind
-    → (faults_in s k l ++ (left_demand sort (kind_of s k l) ++ (faults_in s k r ++ right_demand sort (kind_of s k l) (kind_of s k r))) ≡ []) × (op_kind sort (kind_of s k l) ≡ Some kind)
+    → (faults_in s k l ++ (left_demand sort (kind_of s k l) ++ (faults_in s k r ++ right_demand sort (kind_of s k l) (kind_of s k r))) ≡ [])
+    × (op_kind sort (kind_of s k l) ≡ Some kind)
 binary_passes s k sort l r side kind p q h = (
   none_of_both (faults_in s k l) _ p.0 (none_of_both (left_demand sort (kind_of s k l)) _ (ap (left_demand sort) p.1 ∙ left_met sort side kind h)
-      (none_of_both (faults_in s k r) _ q.0 (ap (λ o. right_demand sort o (kind_of s k r)) p.1 ∙ ap (right_demand sort (Some side)) q.1 ∙ right_met sort side kind h))),
+      (none_of_both (faults_in s k r) _ q.0 (ap (λ o. right_demand sort o (kind_of s k r)) p.1 ∙ ap (right_demand sort (Some side)) q.1
+      ∙ right_met sort side kind h))),
   ap (op_kind sort) p.1 ∙ gives sort side kind h,
 )
 
@@ -86,21 +110,26 @@ mutual
   kind_passes s k t.nothing kind h = (refl, ap Some (sym h))
   kind_passes s k (t.name w) kind h = (known w (name_kind s k w) kind h, h)
   kind_passes s k (t.paren e) kind h = kind_passes s k e kind h
-  kind_passes s k (t.not e) kind h = let p = kind_passes s k e Truth h.0 in (none_of_both (faults_in s k e) _ p.0 (demand_met Truth (kind_of s k e) p.1), ap Some (sym h.1))
-  kind_passes s k (t.neg e) kind h = let p = kind_passes s k e Int h.0 in (none_of_both (faults_in s k e) _ p.0 (demand_met Int (kind_of s k e) p.1), ap Some (sym h.1))
+  kind_passes s k (t.not e) kind h = let p = kind_passes s k e Truth h.0 in
+      (none_of_both (faults_in s k e) _ p.0 (demand_met Truth (kind_of s k e) p.1), ap Some (sym h.1))
+  kind_passes s k (t.neg e) kind h = let p = kind_passes s k e Int h.0 in
+      (none_of_both (faults_in s k e) _ p.0 (demand_met Int (kind_of s k e) p.1), ap Some (sym h.1))
   kind_passes s k (t.binary op l r) kind h = binary_passes s k (op_sort op) l r h.0 kind (kind_passes s k l h.0 h.1) (kind_passes s k r h.0 h.2) h.3
   kind_passes s k (t.call f e) kind h =
       let p = kind_passes s k e (fun_takes f) h.0 in (none_of_both (faults_in s k e) _ p.0 (demand_met (fun_takes f) (kind_of s k e) p.1), ap Some (sym h.1))
   kind_passes s k (t.plug b ps) kind h =
-      let p = kind_passes s k b Html h.0 in
-      (none_of_both (faults_in s k b) _ p.0 (none_of_both (demand Html (kind_of s k b)) _ (demand_met Html (kind_of s k b) p.1) (pairs_pass s k ps h.1)), ap Some (sym h.2))
+      let p = kind_passes s k b Html h.0 in (
+        none_of_both (faults_in s k b) _ p.0 (none_of_both (demand Html (kind_of s k b)) _ (demand_met Html (kind_of s k b) p.1) (pairs_pass s k ps h.1)),
+        ap Some (sym h.2),
+      )
 
   pub pairs_pass : (s : Service) (k : Scope) (ps : Fillings) → AreTyped s k ps → faults_in_pairs s k ps ≡ []
   pairs_pass s k no_more h = refl
   pairs_pass s k (filling w e ps) h =
       let p = kind_passes s k e h.0.1 h.0.3 in let g = kind_of_gap s w in
       none_of_both (gap_unknown w g) _ (ap (gap_unknown w) h.0.2)
-      (none_of_both (faults_in s k e) _ p.0 (none_of_both (gap_demand g (kind_of s k e)) _ (ap (λ o. gap_demand o (kind_of s k e)) h.0.2 ∙ ap (gap_demand (Some h.0.0)) p.1 ∙ fit_met h.0.0 h.0.1 h.0.4) (pairs_pass s k ps h.1)))
+      (none_of_both (faults_in s k e) _ p.0 (none_of_both (gap_demand g (kind_of s k e)) _
+      (ap (λ o. gap_demand o (kind_of s k e)) h.0.2 ∙ ap (gap_demand (Some h.0.0)) p.1 ∙ fit_met h.0.0 h.0.1 h.0.4) (pairs_pass s k ps h.1)))
 
 wanted_passes : (s : Service) (k : Scope) (kind : Kind) (e : Term) → HasKind s k e kind → wanted s k kind e ≡ []
 wanted_passes s k kind e h = let p = kind_passes s k e kind h in none_of_both (faults_in s k e) _ p.0 (demand_met kind (kind_of s k e) p.1)
@@ -117,7 +146,8 @@ received_passes w o h = elim h [ inl e ↦ ap (λ o. name_unknown w o ++ demand_
 receives_pass : (s : Service) (k : Scope) (rs : List Receive) → All (IsReceived s k) rs → flat_map (receive_fault s k) rs ≡ []
 receives_pass s k [] h = refl
 receives_pass s k (r ∷ rs) h =
-    none_of_both (receive_fault s k r) _ (received_passes r.target (variable_kind s k r.target) (All-head (IsReceived s k) r rs h)) (receives_pass s k rs (All-tail (IsReceived s k) r rs h))
+    none_of_both (receive_fault s k r) _ (received_passes r.target (variable_kind s k r.target) (All-head (IsReceived s k) r rs h))
+    (receives_pass s k rs (All-tail (IsReceived s k) r rs h))
 
 local_passes : (s : Service) (k : Scope) (w : List ℕ) (kind : Kind) (e : Term) → IsNew s k w → HasKind s k e kind → local_faults s k w kind e ≡ []
 local_passes s k w kind e n h = none_of_both (local_repeated s k w) _ (new_passes s k w n) (wanted_passes s k kind e h)
@@ -129,18 +159,24 @@ code_passes s k (declare kind w e a) h =
 code_passes s k (assign w e a) h =
     let p = kind_passes s k e h.0.0 h.0.2 in let v = variable_kind s k w in
     none_of_both (name_unknown w v) _ (known w v h.0.0 h.0.1)
-    (none_of_both (faults_in s k e) _ p.0 (none_of_both (demand_same v (kind_of s k e)) _ (ap (λ o. demand_same o (kind_of s k e)) h.0.1 ∙ demand_met h.0.0 (kind_of s k e) p.1) (code_passes s k a h.1)))
+    (none_of_both (faults_in s k e) _ p.0 (none_of_both (demand_same v (kind_of s k e)) _
+    (ap (λ o. demand_same o (kind_of s k e)) h.0.1 ∙ demand_met h.0.0 (kind_of s k e) p.1) (code_passes s k a h.1)))
 code_passes s k (if_then e y a) h =
-    none_of_both (wanted s k Truth e) _ (wanted_passes s k Truth e h.0) (none_of_both (code_faults s k y) _ (code_passes s k y h.1) (code_passes s (scope_behind k y) a h.2))
+    none_of_both (wanted s k Truth e) _ (wanted_passes s k Truth e h.0)
+    (none_of_both (code_faults s k y) _ (code_passes s k y h.1) (code_passes s (scope_behind k y) a h.2))
 code_passes s k (if_else e y n a) h =
     none_of_both (wanted s k Truth e) _ (wanted_passes s k Truth e h.0)
-    (none_of_both (code_faults s k y) _ (code_passes s k y h.1) (none_of_both (code_faults s (scope_behind k y) n) _ (code_passes s (scope_behind k y) n h.2) (code_passes s (scope_behind (scope_behind k y) n) a h.3)))
+    (none_of_both (code_faults s k y) _ (code_passes s k y h.1)
+    (none_of_both (code_faults s (scope_behind k y) n) _ (code_passes s (scope_behind k y) n h.2)
+    (code_passes s (scope_behind (scope_behind k y) n) a h.3)))
 code_passes s k (while_loop e y a) h =
-    none_of_both (wanted s k Truth e) _ (wanted_passes s k Truth e h.0) (none_of_both (code_faults s k y) _ (code_passes s k y h.1) (code_passes s (scope_behind k y) a h.2))
+    none_of_both (wanted s k Truth e) _ (wanted_passes s k Truth e h.0)
+    (none_of_both (code_faults s k y) _ (code_passes s k y h.1) (code_passes s (scope_behind k y) a h.2))
 code_passes s k (block y a) h = none_of_both (code_faults s k y) _ (code_passes s k y h.0) (code_passes s (scope_behind k y) a h.1)
 code_passes s k (for_each w e y a) h =
     none_of_both (local_faults s k w Strs e) _ (local_passes s k w Strs e h.0 h.1)
     (none_of_both (code_faults s (with_local k w Str) y) _ (code_passes s (with_local k w Str) y h.2) (code_passes s (behind_each k w y) a h.3))
 code_passes s k (show p rs a) h =
-    none_of_both (wanted s k Html p) _ (wanted_passes s k Html p h.0) (none_of_both (flat_map (receive_fault s k) rs) _ (receives_pass s k rs h.1) (code_passes s k a h.2))
+    none_of_both (wanted s k Html p) _ (wanted_passes s k Html p h.0)
+    (none_of_both (flat_map (receive_fault s k) rs) _ (receives_pass s k rs h.1) (code_passes s k a h.2))
 code_passes s k (exit p a) h = none_of_both (wanted s k Html p) _ (wanted_passes s k Html p h.0) (code_passes s k a h.1)

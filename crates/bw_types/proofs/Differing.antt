@@ -1,5 +1,33 @@
 -- Names that differ.
-use Rattle.std.proofs.Common.{◌≡◌, ◌≢◌, ℕ, ◌<◌, Bool, true, false, List, [], ◌∷◌, ◌++◌, length, get_or, zero, suc, map, Option, Some, None, refl, ap, sym, subst, ◌∙◌, append_assoc, append-nil, arith}
+use Rattle.std.proofs.Common.{
+  ◌≡◌,
+  ◌≢◌,
+  ℕ,
+  ◌<◌,
+  Bool,
+  true,
+  false,
+  List,
+  [],
+  ◌∷◌,
+  ◌++◌,
+  length,
+  get_or,
+  zero,
+  suc,
+  map,
+  Option,
+  Some,
+  None,
+  refl,
+  ap,
+  sym,
+  subst,
+  ◌∙◌,
+  append_assoc,
+  append-nil,
+  arith,
+}
 use Rattle.std.specs.Prelude.{◌||◌, if◌then◌else◌}
 use Rattle.std.specs.List.{All, AllPairs, Contains, filter_map, cons_option}
 use Rattle.std.proofs.lemmas.Cmp.{nat_list_eq_equiv}
@@ -76,7 +104,8 @@ next_name E w rest h = subst Differ (sym (append_assoc E (w ∷ []) rest)) h
 distinct_behind : (E names : List (List ℕ)) → Differ (E ++ names) → with_names E names ≡ E ++ names
 distinct_behind E [] h = sym (append-nil E)
 distinct_behind E (n ∷ names) h =
-    ap (λ (b : Bool). with_names (if b then E else E ++ n ∷ []) names) (free E n names h) ∙ distinct_behind (E ++ n ∷ []) names (next_name E n names h) ∙ append_assoc E (n ∷ []) names
+    ap (λ (b : Bool). with_names (if b then E else E ++ n ∷ []) names) (free E n names h) ∙ distinct_behind (E ++ n ∷ []) names (next_name E n names h)
+    ∙ append_assoc E (n ∷ []) names
 
 pub distinct : (names : List (List ℕ)) → Differ names → with_names [] names ≡ names
 distinct names h = distinct_behind [] names h
@@ -84,7 +113,8 @@ distinct names h = distinct_behind [] names h
 -- ---- the declarations of a sort
 
 module _ {X : Type 0} (sort : Declaration → Option X) where
-  pub all_sorted : (P : Declaration → Type 0) (Q : X → Type 0) → ((d : Declaration) (x : X) → sort d ≡ Some x → P d → Q x) → (ds : List Declaration) → All P ds → All Q (filter_map sort ds)
+  pub all_sorted : (P : Declaration → Type 0) (Q : X → Type 0) → ((d : Declaration) (x : X) → sort d ≡ Some x → P d → Q x) → (ds : List Declaration)
+      → All P ds → All Q (filter_map sort ds)
   all_sorted P Q f [] a = All-nil Q
   all_sorted P Q f (d ∷ ds) a = by_sort (sort d) refl (All-head P d ds a) (all_sorted P Q f ds (All-tail P d ds a))
     where

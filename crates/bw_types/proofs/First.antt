@@ -1,5 +1,30 @@
 -- The first of several faults.
-use Rattle.std.proofs.Common.{◌≡◌, ◌⊎◌, ℕ, suc, ◌+◌, ◌<◌, List, [], ◌∷◌, ◌++◌, length, get_or, drop, Some, Result, Ok, Err, ap, sym, ◌∙◌, inl, inr, add-one, drop-cons}
+use Rattle.std.proofs.Common.{
+  ◌≡◌,
+  ◌⊎◌,
+  ℕ,
+  suc,
+  ◌+◌,
+  ◌<◌,
+  List,
+  [],
+  ◌∷◌,
+  ◌++◌,
+  length,
+  get_or,
+  drop,
+  Some,
+  Result,
+  Ok,
+  Err,
+  ap,
+  sym,
+  ◌∙◌,
+  inl,
+  inr,
+  add-one,
+  drop-cons,
+}
 use Rattle.std.specs.Result.{IsErrAnd, IfErr}
 use Rattle.bw_types.specs.declared.fault.TypeFault.{TypeFault}
 use Rattle.bw_types.specs.declared.fault.TypeFault.TheVariants.{Memory}
@@ -15,11 +40,13 @@ first_of : (e : TypeFault) (here rest whole : List TypeFault) → IsFirst e here
 first_of e here rest whole h w = record { why = elim h.why [ inl m ↦ inl m | inr f ↦ inr (ap first_member w ∙ first_in here rest e f) ] }
 
 -- the fault that is answered
-pub told : {X : Type 0} (r : Result X TypeFault) (e : TypeFault) (all : List TypeFault) → IsErrAnd r (λ y. y ≡ e) → IsFirst e all → IfErr r (λ y. (y ≡ Memory) ⊎ (first_member all ≡ Some y))
+pub told : {X : Type 0} (r : Result X TypeFault) (e : TypeFault) (all : List TypeFault) → IsErrAnd r (λ y. y ≡ e) → IsFirst e all
+    → IfErr r (λ y. (y ≡ Memory) ⊎ (first_member all ≡ Some y))
 told (Ok x) e all q h = tt
 told (Err y) e all q h = rw q h.why
 
-pub told_memory : {X : Type 0} (r : Result X TypeFault) (all : List TypeFault) → IsErrAnd r (λ y. y ≡ Memory) → IfErr r (λ y. (y ≡ Memory) ⊎ (first_member all ≡ Some y))
+pub told_memory : {X : Type 0} (r : Result X TypeFault) (all : List TypeFault) → IsErrAnd r (λ y. y ≡ Memory)
+    → IfErr r (λ y. (y ≡ Memory) ⊎ (first_member all ≡ Some y))
 told_memory (Ok x) all q = tt
 told_memory (Err y) all q = inl q
 
@@ -40,5 +67,6 @@ drop_more xs i x e h = rw (add-one, drop-cons xs i x h) (ap (λ y. y ∷ drop (s
 -- A walk over a list, whose faults are those of the first element and then those of the others.
 module _ {X : Type 0} (F : List X → List TypeFault) (f : X → List TypeFault) (step : (x : X) (xs : List X) → F (x ∷ xs) ≡ f x ++ F xs) where
   -- at an element in front of which there is none
-  pub at_element : (xs : List X) (i : ℕ) (x : X) (whole : List TypeFault) → whole ≡ F (drop i xs) → x ≡ get_or xs i x → i < length xs → whole ≡ f x ++ F (drop (i + 1) xs)
+  pub at_element : (xs : List X) (i : ℕ) (x : X) (whole : List TypeFault) → whole ≡ F (drop i xs) → x ≡ get_or xs i x → i < length xs → whole ≡ f x
+      ++ F (drop (i + 1) xs)
   at_element xs i x whole w e h = w ∙ ap F (drop_more xs i x e h) ∙ step x (drop (i + 1) xs)

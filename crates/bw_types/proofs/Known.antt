@@ -66,19 +66,26 @@ among_declared : (w : List ℕ) (ds : List Declaration)
     → is_among w (map name_of ds) ≡ (is_among w (map (λ t. t.name) (templates_of ds)) || (among_shared w ds || is_among w (map (λ s. s.name) (sessions_of ds))))
 among_declared w [] = refl
 among_declared w (declarations.Template t ∷ ds) =
-    ap (λ b. same w t.name || b) (among_declared w ds) ∙ first_of_three (same w t.name) (is_among w (map (λ t. t.name) (templates_of ds))) (among_shared w ds) (is_among w (map (λ s. s.name) (sessions_of ds)))
+    ap (λ b. same w t.name || b) (among_declared w ds)
+    ∙ first_of_three (same w t.name) (is_among w (map (λ t. t.name) (templates_of ds))) (among_shared w ds)
+    (is_among w (map (λ s. s.name) (sessions_of ds)))
 among_declared w (declarations.Shared v ∷ ds) =
     let x = is_among w (map (λ t. t.name) (templates_of ds)) in let z = is_among w (map (λ s. s.name) (sessions_of ds)) in
     ap (λ b. same w v.name || b) (among_declared w ds) ∙ second_of_three (same w v.name) x (among_shared w ds) z
     ∙ ap (λ b. x || (b || z)) (sym (first_or w v.name v.kind (map (λ v. (v.name, v.kind)) (shared_of ds))))
 among_declared w (declarations.Session s ∷ ds) =
-    ap (λ b. same w s.name || b) (among_declared w ds) ∙ third_of_three (same w s.name) (is_among w (map (λ t. t.name) (templates_of ds))) (among_shared w ds) (is_among w (map (λ s. s.name) (sessions_of ds)))
+    ap (λ b. same w s.name || b) (among_declared w ds)
+    ∙ third_of_three (same w s.name) (is_among w (map (λ t. t.name) (templates_of ds))) (among_shared w ds)
+    (is_among w (map (λ s. s.name) (sessions_of ds)))
 
 -- a name is a declaration's where it is a template's, a shared variable's or a session's
-among_three : (s : Service) → IsWoven s → (w : List ℕ) → is_among w (declared_names s) ≡ (is_among w (template_names s) || (is_some (shared_kind s w) || is_among w (session_names s)))
+among_three : (s : Service) → IsWoven s → (w : List ℕ)
+    → is_among w (declared_names s) ≡ (is_among w (template_names s) || (is_some (shared_kind s w) || is_among w (session_names s)))
 among_three s h w =
-    among_declared w (declarations_of s) ∙ ap (λ ts. is_among w (map (λ t. t.name) ts) || (among_shared w (declarations_of s) || is_among w (map (λ s. s.name) (sessions_of (declarations_of s))))) h.templates
-    ∙ ap (λ vs. is_among w (template_names s) || (is_some (beside w (map (λ v. (v.name, v.kind)) vs)) || is_among w (map (λ s. s.name) (sessions_of (declarations_of s))))) h.shared
+    among_declared w (declarations_of s) ∙ ap (λ ts. is_among w (map (λ t. t.name) ts)
+    || (among_shared w (declarations_of s) || is_among w (map (λ s. s.name) (sessions_of (declarations_of s))))) h.templates
+    ∙ ap (λ vs. is_among w (template_names s) || (is_some (beside w (map (λ v. (v.name, v.kind)) vs))
+    || is_among w (map (λ s. s.name) (sessions_of (declarations_of s))))) h.shared
     ∙ ap (λ ss. is_among w (template_names s) || (is_some (shared_kind s w) || is_among w (map (λ s. s.name) ss))) h.sessions
 
 -- by the tables

@@ -1,5 +1,29 @@
 -- The locals in scope, the newest first.
-use Rattle.std.proofs.Common.{◌≡◌, ℕ, ◌-◌, Bool, true, false, cond, List, [], ◌∷◌, ◌++◌, map, length, take, drop, Option, Some, refl, ap, sym, ◌∙◌, arith, length-drop}
+use Rattle.std.proofs.Common.{
+  ◌≡◌,
+  ℕ,
+  ◌-◌,
+  Bool,
+  true,
+  false,
+  cond,
+  List,
+  [],
+  ◌∷◌,
+  ◌++◌,
+  map,
+  length,
+  take,
+  drop,
+  Option,
+  Some,
+  refl,
+  ap,
+  sym,
+  ◌∙◌,
+  arith,
+  length-drop,
+}
 use Rattle.std.specs.Prelude.{reverse, find, option_map}
 use Rattle.std.proofs.lemmas.List.{reverse-append, length-reverse, take-append-drop, take-map}
 use Rattle.std.proofs.Math.Seq.{drop-append_seam}
@@ -18,12 +42,14 @@ beside-named w [] = refl
 beside-named w (x ∷ xs) = by_test (same w x.name) (beside-named w xs)
   where
     by_test : (b : Bool) → beside w (map named xs) ≡ option_map (λ (x : Local). x.kind) (find (λ x. same w x.name) xs)
-        → option_map (λ (p : List ℕ × Kind). p.1) (cond b (Some (named x)) (find (λ p. same w p.0) (map named xs))) ≡ option_map (λ (x : Local). x.kind) (cond b (Some x) (find (λ x. same w x.name) xs))
+        → option_map (λ (p : List ℕ × Kind). p.1) (cond b (Some (named x)) (find (λ p. same w p.0) (map named xs))) ≡ option_map (λ (x : Local). x.kind)
+        (cond b (Some x) (find (λ x. same w x.name) xs))
     by_test true ih = refl
     by_test false ih = ih
 
 -- the kind of the newest local of that name
-pub newest : (w : List ℕ) (xs : List Local) (scope : Scope) (found : Option Local) → found ≡ find (λ x. same w x.name) (reverse xs) → reverse (map named xs) ≡ scope.locals
+pub newest : (w : List ℕ) (xs : List Local) (scope : Scope) (found : Option Local) → found ≡ find (λ x. same w x.name) (reverse xs)
+    → reverse (map named xs) ≡ scope.locals
     → option_map (λ (x : Local). x.kind) found ≡ beside w scope.locals
 newest w xs scope found f l =
     ap (option_map (λ (x : Local). x.kind)) f ∙ sym (beside-named w (reverse xs)) ∙ ap (beside w) (map-reverse named xs ∙ l)

@@ -32,15 +32,23 @@ fields-append (gap g r) b = fields-append r b
 fields-append (element t xs i r) b = rw (fields-append r b) (simp append_assoc)
 
 pub uses_at_read : (t : List (ℕ × GapKind)) (xs : List Item) (i : ℕ) (d : Item) → i < length xs
-    → (get_or xs i d ≡ get_or xs i d) × (with_uses t (gap_uses (forest (take (i + 1) xs))) ≡ with_uses (with_uses t (gap_uses (forest (take i xs)))) (gap_uses (before (get_or xs i d) none)))
+    → (get_or xs i d ≡ get_or xs i d) × (with_uses t (gap_uses (forest (take (i + 1) xs))) ≡ with_uses (with_uses t (gap_uses (forest (take i xs))))
+    (gap_uses (before (get_or xs i d) none)))
 uses_at_read t xs i d h =
-    let first = forest (take i xs) in let last = before (get_or xs i d) none in
-    (refl, ap (λ f. with_uses t (gap_uses f)) (forest_at_read xs i d h).1 ∙ ap (with_uses t) (gap_uses-append first last) ∙ with_uses-append t (gap_uses first) (gap_uses last))
+    let first = forest (take i xs) in let last = before (get_or xs i d) none in (
+      refl,
+      ap (λ f. with_uses t (gap_uses f)) (forest_at_read xs i d h).1 ∙ ap (with_uses t) (gap_uses-append first last)
+          ∙ with_uses-append t (gap_uses first) (gap_uses last),
+    )
 
 pub fields_at_read : (t : List (List ℕ × FieldKind)) (xs : List Item) (i : ℕ) (d : Item) → i < length xs
-    → (get_or xs i d ≡ get_or xs i d) × (with_kinds t (fields (forest (take (i + 1) xs))) ≡ with_kinds (with_kinds t (fields (forest (take i xs)))) (fields (before (get_or xs i d) none)))
+    → (get_or xs i d ≡ get_or xs i d) × (with_kinds t (fields (forest (take (i + 1) xs))) ≡ with_kinds (with_kinds t (fields (forest (take i xs))))
+    (fields (before (get_or xs i d) none)))
 fields_at_read t xs i d h =
-    let first = forest (take i xs) in let last = before (get_or xs i d) none in
-    (refl, ap (λ f. with_kinds t (fields f)) (forest_at_read xs i d h).1 ∙ ap (with_kinds t) (fields-append first last) ∙ with_kinds-append t (fields first) (fields last))
+    let first = forest (take i xs) in let last = before (get_or xs i d) none in (
+      refl,
+      ap (λ f. with_kinds t (fields f)) (forest_at_read xs i d h).1 ∙ ap (with_kinds t) (fields-append first last)
+          ∙ with_kinds-append t (fields first) (fields last),
+    )
 
 pub ruleset note_steps = (with_uses-append, with_kinds-append, uses_at_read, fields_at_read)

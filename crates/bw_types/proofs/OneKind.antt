@@ -55,7 +55,8 @@ module _ {K V : Type 0} (test : K → K → Bool) (is_other : Option V → V →
   agree_fits [] a = All-nil (Fits [])
   agree_fits (x ∷ xs) a =
       let behind = agree_fits xs (λ i j d l m. a (suc i) (suc j) d (omega (arith, l)) (omega (arith, m))) in
-      All-cons (Fits (x ∷ xs)) x xs (ap (λ o. is_other o x.1) (seek-cons test x.0 x xs ∙ ap (λ (b : Bool). if b then Some x.1 else seek test x.0 xs) (self x.0)) ∙ no_other x.1)
+      All-cons (Fits (x ∷ xs)) x xs (ap (λ o. is_other o x.1)
+      (seek-cons test x.0 x xs ∙ ap (λ (b : Bool). if b then Some x.1 else seek test x.0 xs) (self x.0)) ∙ no_other x.1)
       (λ i d l. one_more x xs (get_or xs i d) (a 0 (suc i) d (omega arith) (omega (arith, l))) (behind i d l))
 
 -- ---- gaps and fields

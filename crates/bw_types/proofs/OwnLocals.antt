@@ -23,30 +23,40 @@ pub record Own (s : Service) (names : List (List ℕ)) : Type 0 where
 local_taken : (s : Service) (k : Scope) (w : List ℕ) → local_repeated s k w ≡ [] → Own s k.taken → Own s (k.taken ++ w ∷ [])
 local_taken s k w h o =
     let e = either_false (is_among w (declared_names s)) (is_among w k.taken) (passes _ _ h) in
-    record { differ = one_more k.taken w o.differ e.1; apart = All-push (λ w. ¬ (Contains (declared_names s) w)) k.taken w o.apart (not_among w (declared_names s) e.0) }
+    record {
+      differ = one_more k.taken w o.differ e.1;
+      apart = All-push (λ w. ¬ (Contains (declared_names s) w)) k.taken w o.apart (not_among w (declared_names s) e.0);
+    }
 
 pub locals_own : (s : Service) (k : Scope) (a : Code) → code_faults s k a ≡ [] → Own s k.taken → Own s (k.taken ++ local_names a)
 locals_own s k done h o = rw (append-nil k.taken) o
 locals_own s k (declare t w e a) h o =
     let l = nothing_first (local_faults s k w t e) _ h in
-    rw (← append_assoc k.taken (w ∷ []) (local_names a)) (locals_own s (with_local k w t) a (nothing_behind (local_faults s k w t e) _ h) (local_taken s k w (nothing_first _ _ l) o))
+    rw (← append_assoc k.taken (w ∷ []) (local_names a))
+    (locals_own s (with_local k w t) a (nothing_behind (local_faults s k w t e) _ h) (local_taken s k w (nothing_first _ _ l) o))
 locals_own s k (assign w e a) h o =
-    locals_own s k a (nothing_behind (demand_same (variable_kind s k w) (kind_of s k e)) _ (nothing_behind (faults_in s k e) _ (nothing_behind (name_unknown w (variable_kind s k w)) _ h))) o
+    locals_own s k a (nothing_behind (demand_same (variable_kind s k w) (kind_of s k e)) _
+    (nothing_behind (faults_in s k e) _ (nothing_behind (name_unknown w (variable_kind s k w)) _ h))) o
 locals_own s k (if_then e y a) h o =
     let b = nothing_behind (wanted s k Truth e) _ h in
-    rw (← append_assoc k.taken (local_names y) (local_names a)) (locals_own s (scope_behind k y) a (nothing_behind (code_faults s k y) _ b) (locals_own s k y (nothing_first _ _ b) o))
+    rw (← append_assoc k.taken (local_names y) (local_names a))
+    (locals_own s (scope_behind k y) a (nothing_behind (code_faults s k y) _ b) (locals_own s k y (nothing_first _ _ b) o))
 locals_own s k (if_else e y n a) h o =
     let b = nothing_behind (wanted s k Truth e) _ h in let c = nothing_behind (code_faults s k y) _ b in
     rw (← append_assoc k.taken (local_names y) (local_names n ++ local_names a), ← append_assoc (k.taken ++ local_names y) (local_names n) (local_names a))
-    (locals_own s (scope_behind (scope_behind k y) n) a (nothing_behind (code_faults s (scope_behind k y) n) _ c) (locals_own s (scope_behind k y) n (nothing_first _ _ c) (locals_own s k y (nothing_first _ _ b) o)))
+    (locals_own s (scope_behind (scope_behind k y) n) a (nothing_behind (code_faults s (scope_behind k y) n) _ c)
+    (locals_own s (scope_behind k y) n (nothing_first _ _ c) (locals_own s k y (nothing_first _ _ b) o)))
 locals_own s k (while_loop e y a) h o =
     let b = nothing_behind (wanted s k Truth e) _ h in
-    rw (← append_assoc k.taken (local_names y) (local_names a)) (locals_own s (scope_behind k y) a (nothing_behind (code_faults s k y) _ b) (locals_own s k y (nothing_first _ _ b) o))
-locals_own s k (block y a) h o = rw (← append_assoc k.taken (local_names y) (local_names a)) (locals_own s (scope_behind k y) a (nothing_behind (code_faults s k y) _ h) (locals_own s k y (nothing_first _ _ h) o))
+    rw (← append_assoc k.taken (local_names y) (local_names a))
+    (locals_own s (scope_behind k y) a (nothing_behind (code_faults s k y) _ b) (locals_own s k y (nothing_first _ _ b) o))
+locals_own s k (block y a) h o = rw (← append_assoc k.taken (local_names y) (local_names a))
+    (locals_own s (scope_behind k y) a (nothing_behind (code_faults s k y) _ h) (locals_own s k y (nothing_first _ _ h) o))
 locals_own s k (for_each w e y a) h o =
     let l = nothing_first (local_faults s k w Strs e) _ h in let b = nothing_behind (local_faults s k w Strs e) _ h in
     let inside = locals_own s (with_local k w Str) y (nothing_first _ _ b) (local_taken s k w (nothing_first _ _ l) o) in
     rw (← append_assoc k.taken (w ∷ local_names y) (local_names a))
-    (locals_own s (behind_each k w y) a (nothing_behind (code_faults s (with_local k w Str) y) _ b) (rw (← append_assoc k.taken (w ∷ []) (local_names y)) inside))
+    (locals_own s (behind_each k w y) a (nothing_behind (code_faults s (with_local k w Str) y) _ b)
+    (rw (← append_assoc k.taken (w ∷ []) (local_names y)) inside))
 locals_own s k (show p rs a) h o = locals_own s k a (nothing_behind (flat_map (receive_fault s k) rs) _ (nothing_behind (wanted s k Html p) _ h)) o
 locals_own s k (exit p a) h o = locals_own s k a (nothing_behind (wanted s k Html p) _ h) o

@@ -22,5 +22,6 @@ smaller (p ∷ xs) zero d h = omega arith
 smaller (p ∷ xs) (suc i) d h = omega (arith, smaller xs i d (omega arith))
 
 -- a pair that was read is smaller than the pairs
-pub pair_size_at_read : (xs : List Pair) (i : ℕ) (d : Pair) → i < length xs → (get_or xs i d ≡ get_or xs i d) × (nodes (term (get_or xs i d).value) < nodes_in (fillings xs))
+pub pair_size_at_read : (xs : List Pair) (i : ℕ) (d : Pair) → i < length xs → (get_or xs i d ≡ get_or xs i d)
+    × (nodes (term (get_or xs i d).value) < nodes_in (fillings xs))
 pair_size_at_read xs i d h = (refl, smaller xs i d h)

@@ -35,7 +35,8 @@ module _ {K V : Type 0} (test : K → K → Bool) where
   seek-append w [] b = refl
   seek-append w (x ∷ a) b = seek-cons w x (a ++ b) ∙ by_test (test w x.0) (seek-append w a b) ∙ ap (λ o. option_or o (seek w b)) (sym (seek-cons w x a))
     where
-      by_test : (t : Bool) → seek w (a ++ b) ≡ option_or (seek w a) (seek w b) → (if t then Some x.1 else seek w (a ++ b)) ≡ option_or (if t then Some x.1 else seek w a) (seek w b)
+      by_test : (t : Bool) → seek w (a ++ b) ≡ option_or (seek w a) (seek w b)
+          → (if t then Some x.1 else seek w (a ++ b)) ≡ option_or (if t then Some x.1 else seek w a) (seek w b)
       by_test true ih = refl
       by_test false ih = ih
 
@@ -44,7 +45,8 @@ module _ {K V : Type 0} (test : K → K → Bool) where
   or_there (Some v) p h = refl
 
   -- a pair that is taken in, unless its key is there
-  pub seek-with : ((w k : K) → test w k ≡ true → w ≡ k) → (w : K) (t : List (K × V)) (x : K × V) → seek w (if is_some (seek x.0 t) then t else t ++ x ∷ []) ≡ option_or (seek w t) (seek w (x ∷ []))
+  pub seek-with : ((w k : K) → test w k ≡ true → w ≡ k) → (w : K) (t : List (K × V)) (x : K × V)
+      → seek w (if is_some (seek x.0 t) then t else t ++ x ∷ []) ≡ option_or (seek w t) (seek w (x ∷ []))
   seek-with agree w t x = by_test (is_some (seek x.0 t)) refl
     where
       here : (b : Bool) → test w x.0 ≡ b → is_some (seek x.0 t) ≡ true → seek w t ≡ option_or (seek w t) (if b then Some x.1 else None)
@@ -100,7 +102,8 @@ missed : (names : List (List ℕ)) (w : List ℕ) → list_any (same w) names �
 missed [] w h = omega arith
 missed (m ∷ names) w h = by_test (same w m) h (missed names w)
   where
-    by_test : (b : Bool) → (b || list_any (same w) names) ≡ false → (list_any (same w) names ≡ false → length names ≤ name_number names w) → length (m ∷ names) ≤ cond (not b) (1 + name_number names w) 0
+    by_test : (b : Bool) → (b || list_any (same w) names) ≡ false → (list_any (same w) names ≡ false → length names ≤ name_number names w)
+        → length (m ∷ names) ≤ cond (not b) (1 + name_number names w) 0
     by_test true h ih = absurd (cc)
     by_test false h ih = omega (arith, ih h)
 

@@ -38,24 +38,31 @@ pub names_differ : (s : Service) (E : List (List ℕ)) (ds : List Declaration) �
 names_differ s E [] h e = rw (append-nil E) e
 names_differ s E (d ∷ ds) h e =
     rw (← append_assoc E (name_of d ∷ []) (map name_of ds))
-    (names_differ s (E ++ name_of d ∷ []) ds (nothing_behind (own_faults s d) _ (nothing_behind (fault_if (is_among (name_of d) E) _) _ h)) (taken (name_of d) E (nothing_first _ _ h) e))
+    (names_differ s (E ++ name_of d ∷ []) ds (nothing_behind (own_faults s d) _ (nothing_behind (fault_if (is_among (name_of d) E) _) _ h))
+    (taken (name_of d) E (nothing_first _ _ h) e))
 
-pub walk_passes : (s : Service) (E : List (List ℕ)) (ds : List Declaration) → Differ (E ++ map name_of ds) → All (λ d. own_faults s d ≡ []) ds → faults_behind s E ds ≡ []
+pub walk_passes : (s : Service) (E : List (List ℕ)) (ds : List Declaration) → Differ (E ++ map name_of ds) → All (λ d. own_faults s d ≡ []) ds
+    → faults_behind s E ds ≡ []
 walk_passes s E [] h a = refl
 walk_passes s E (d ∷ ds) h a =
     none_of_both (fault_if (is_among (name_of d) E) (faults.Repeated (name_of d))) _ (not_repeated E (name_of d) (map name_of ds) h)
-    (none_of_both (own_faults s d) _ (All-head (λ d. own_faults s d ≡ []) d ds a) (walk_passes s (E ++ name_of d ∷ []) ds (next_name E (name_of d) (map name_of ds) h) (All-tail (λ d. own_faults s d ≡ []) d ds a)))
+    (none_of_both (own_faults s d) _ (All-head (λ d. own_faults s d ≡ []) d ds a)
+    (walk_passes s (E ++ name_of d ∷ []) ds (next_name E (name_of d) (map name_of ds) h) (All-tail (λ d. own_faults s d ≡ []) d ds a)))
 
 -- what holds of all of each sort holds of all
-pub each_declaration : (P : Declaration → Type 0) (ds : List Declaration) → All (λ t. P (declarations.Template t)) (templates_of ds) → All (λ v. P (declarations.Shared v)) (shared_of ds)
+pub each_declaration : (P : Declaration → Type 0) (ds : List Declaration) → All (λ t. P (declarations.Template t)) (templates_of ds)
+    → All (λ v. P (declarations.Shared v)) (shared_of ds)
     → All (λ s. P (declarations.Session s)) (sessions_of ds) → All P ds
 each_declaration P [] a b c = All-nil P
 each_declaration P (declarations.Template t ∷ ds) a b c =
-    All-cons P (declarations.Template t) ds (All-head (λ t. P (declarations.Template t)) t (templates_of ds) a) (each_declaration P ds (All-tail (λ t. P (declarations.Template t)) t (templates_of ds) a) b c)
+    All-cons P (declarations.Template t) ds (All-head (λ t. P (declarations.Template t)) t (templates_of ds) a)
+    (each_declaration P ds (All-tail (λ t. P (declarations.Template t)) t (templates_of ds) a) b c)
 each_declaration P (declarations.Shared v ∷ ds) a b c =
-    All-cons P (declarations.Shared v) ds (All-head (λ v. P (declarations.Shared v)) v (shared_of ds) b) (each_declaration P ds a (All-tail (λ v. P (declarations.Shared v)) v (shared_of ds) b) c)
+    All-cons P (declarations.Shared v) ds (All-head (λ v. P (declarations.Shared v)) v (shared_of ds) b)
+    (each_declaration P ds a (All-tail (λ v. P (declarations.Shared v)) v (shared_of ds) b) c)
 each_declaration P (declarations.Session s ∷ ds) a b c =
-    All-cons P (declarations.Session s) ds (All-head (λ s. P (declarations.Session s)) s (sessions_of ds) c) (each_declaration P ds a b (All-tail (λ s. P (declarations.Session s)) s (sessions_of ds) c))
+    All-cons P (declarations.Session s) ds (All-head (λ s. P (declarations.Session s)) s (sessions_of ds) c)
+    (each_declaration P ds a b (All-tail (λ s. P (declarations.Session s)) s (sessions_of ds) c))
 
 -- ---- the declarations of a sort
 
@@ -100,7 +107,10 @@ module _ (s : Service) where
   session_own (declarations.Template t) x e h = absurd (cc)
   session_own (declarations.Shared v) x e h = absurd (cc)
   session_own (declarations.Session y) x e h =
-      let same : y ≡ x = cc in rw (← same) (record { body = nothing_first _ _ h; last = ends (ends_in_exit y.body) _ (nothing_behind (code_faults s no_locals y.body) _ h) })
+      let same : y ≡ x = cc in rw (← same) (record {
+        body = nothing_first _ _ h;
+        last = ends (ends_in_exit y.body) _ (nothing_behind (code_faults s no_locals y.body) _ h);
+      })
 
   pub session_passes : (x : Session) → IsTypedSession s x → own_faults s (declarations.Session x) ≡ []
   session_passes x h = none_of_both (code_faults s no_locals x.body) _ (code_passes s no_locals x.body h.0) (passing _ (faults.NoExit x.name) (ap not h.1))

@@ -30,23 +30,28 @@ module _ (s : Service) (w : IsWoven s) (h : IsWellTyped s) where
   pub templates_none : All (λ t. items_faults s t.name t.items ≡ []) s.templates
   templates_none =
       subst (All (λ (t : Template). items_faults s t.name t.items ≡ [])) w.templates
-      (all_sorted as_template (λ d. own_faults s d ≡ []) (λ t. items_faults s t.name t.items ≡ []) (template_own s) (declarations_of s) (own_none s [] (declarations_of s) h))
+      (all_sorted as_template (λ d. own_faults s d ≡ []) (λ t. items_faults s t.name t.items ≡ []) (template_own s) (declarations_of s)
+      (own_none s [] (declarations_of s) h))
 
   pub shared_none : All (λ v. literal_kind s v.init ≡ Some v.kind) s.shared
   shared_none =
       subst (All (λ (v : Shared). literal_kind s v.init ≡ Some v.kind)) w.shared
-      (all_sorted as_shared (λ d. own_faults s d ≡ []) (λ v. literal_kind s v.init ≡ Some v.kind) (shared_own s) (declarations_of s) (own_none s [] (declarations_of s) h))
+      (all_sorted as_shared (λ d. own_faults s d ≡ []) (λ v. literal_kind s v.init ≡ Some v.kind) (shared_own s) (declarations_of s)
+      (own_none s [] (declarations_of s) h))
 
   pub sessions_none : All (Walked s) s.sessions
-  sessions_none = subst (All (Walked s)) w.sessions (all_sorted as_session (λ d. own_faults s d ≡ []) (Walked s) (session_own s) (declarations_of s) (own_none s [] (declarations_of s) h))
+  sessions_none = subst (All (Walked s)) w.sessions (all_sorted as_session (λ d. own_faults s d ≡ []) (Walked s) (session_own s) (declarations_of s)
+      (own_none s [] (declarations_of s) h))
 
   pub template_names_differ : Differ (template_names s)
   template_names_differ =
-      subst (λ ts. Differ (map (λ (t : Template). t.name) ts)) w.templates (sort_differs as_template (λ t. t.name) template_named (declarations_of s) (names_differ s [] (declarations_of s) h none_differ))
+      subst (λ ts. Differ (map (λ (t : Template). t.name) ts)) w.templates
+      (sort_differs as_template (λ t. t.name) template_named (declarations_of s) (names_differ s [] (declarations_of s) h none_differ))
 
   pub session_names_differ : Differ (session_names s)
   session_names_differ =
-      subst (λ ss. Differ (map (λ (x : Session). x.name) ss)) w.sessions (sort_differs as_session (λ x. x.name) session_named (declarations_of s) (names_differ s [] (declarations_of s) h none_differ))
+      subst (λ ss. Differ (map (λ (x : Session). x.name) ss)) w.sessions
+      (sort_differs as_session (λ x. x.name) session_named (declarations_of s) (names_differ s [] (declarations_of s) h none_differ))
 
   -- the tables of names are the names as they stand
   pub templates_are : {tables : Tables} → IsKnown s tables → tables.templates ≡ template_names s

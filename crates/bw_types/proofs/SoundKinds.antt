@@ -12,7 +12,31 @@ use Rattle.bw_lang.specs.Service.Term as t
 use Rattle.bw_lang.specs.Service.Term.{Term, Fillings, no_more, filling}
 use Rattle.bw_types.specs.declared.fault.GapKind.{GapKind}
 use Rattle.bw_types.specs.declared.fault.GapKind.TheVariants.{Content, Attribute}
-use Rattle.bw_types.specs.ExpressionFaults.{OpSort, joins_truths, tests_equality, compares, adds, computes, op_sort, op_kind, fun_takes, fun_gives, kind_of, demand, demand_same, demand_plain, demand_sum, left_demand, right_demand, gap_demand, gap_unknown, name_unknown, faults_in, faults_in_pairs, wanted}
+use Rattle.bw_types.specs.ExpressionFaults.{
+  OpSort,
+  joins_truths,
+  tests_equality,
+  compares,
+  adds,
+  computes,
+  op_sort,
+  op_kind,
+  fun_takes,
+  fun_gives,
+  kind_of,
+  demand,
+  demand_same,
+  demand_plain,
+  demand_sum,
+  left_demand,
+  right_demand,
+  gap_demand,
+  gap_unknown,
+  name_unknown,
+  faults_in,
+  faults_in_pairs,
+  wanted,
+}
 use Rattle.bw_types.specs.Faults.{code_faults, receive_fault, demand_received, local_repeated, local_faults}
 use Rattle.bw_types.specs.Gaps.{kind_of_gap}
 use Rattle.bw_types.specs.Scopes.{Scope, is_among, declared_names, name_kind, variable_kind, with_local, scope_behind, behind_each}
@@ -81,7 +105,8 @@ gap_fits Attribute kind h = is_demanded Str kind h
 -- ---- expressions
 
 -- the sides of an operator, whose demands are met, and what it gives
-takes : (sort : OpSort) (l r : Kind) → left_demand sort (Some l) ≡ [] → right_demand sort (Some l) (Some r) ≡ [] → (kind : Kind) × (r ≡ l) × Takes sort l kind × (op_kind sort (Some l) ≡ Some kind)
+takes : (sort : OpSort) (l r : Kind) → left_demand sort (Some l) ≡ [] → right_demand sort (Some l) (Some r) ≡ [] → (kind : Kind) × (r ≡ l)
+    × Takes sort l kind × (op_kind sort (Some l) ≡ Some kind)
 takes joins_truths l r p q = (Truth, is_demanded Truth r q ∙ sym (is_demanded Truth l p), (is_demanded Truth l p, refl), refl)
 takes tests_equality l r p q = let d = plain_kind l p in (Truth, is_demanded l r q, (d.0, d.1, refl), refl)
 takes compares l r p q = (Truth, is_demanded Int r q ∙ sym (is_demanded Int l p), (is_demanded Int l p, refl), refl)
@@ -95,13 +120,16 @@ Kinded s k e = (kind : Kind) × (kind_of s k e ≡ Some kind) × HasKind s k e k
 meets : (s : Service) (k : Scope) (e : Term) (kind : Kind) → Kinded s k e → demand kind (kind_of s k e) ≡ [] → HasKind s k e kind
 meets s k e kind h d = let same : h.0 ≡ kind = is_demanded kind h.0 (ap (demand kind) (sym h.1) ∙ d) in rw (← same) h.2
 
-joins : (s : Service) (k : Scope) (sort : OpSort) (l r : Term) → Kinded s k l → Kinded s k r → left_demand sort (kind_of s k l) ≡ [] → right_demand sort (kind_of s k l) (kind_of s k r) ≡ []
+joins : (s : Service) (k : Scope) (sort : OpSort) (l r : Term) → Kinded s k l → Kinded s k r → left_demand sort (kind_of s k l) ≡ []
+    → right_demand sort (kind_of s k l) (kind_of s k r) ≡ []
     → (kind : Kind) × (op_kind sort (kind_of s k l) ≡ Some kind) × ((side : Kind) × HasKind s k l side × HasKind s k r side × Takes sort side kind)
 joins s k sort l r a b p q =
-    let t = takes sort a.0 b.0 (ap (left_demand sort) (sym a.1) ∙ p) (ap (λ o. right_demand sort o (Some b.0)) (sym a.1) ∙ ap (right_demand sort (kind_of s k l)) (sym b.1) ∙ q) in
+    let t = takes sort a.0 b.0 (ap (left_demand sort) (sym a.1) ∙ p)
+    (ap (λ o. right_demand sort o (Some b.0)) (sym a.1) ∙ ap (right_demand sort (kind_of s k l)) (sym b.1) ∙ q) in
     (t.0, ap (op_kind sort) a.1 ∙ t.3, (a.0, a.2, rw (← t.1) b.2, t.2))
 
-fills : (s : Service) (k : Scope) (w : List ℕ) (e : Term) → gap_unknown w (kind_of_gap s w) ≡ [] → Kinded s k e → gap_demand (kind_of_gap s w) (kind_of s k e) ≡ []
+fills : (s : Service) (k : Scope) (w : List ℕ) (e : Term) → gap_unknown w (kind_of_gap s w) ≡ [] → Kinded s k e
+    → gap_demand (kind_of_gap s w) (kind_of s k e) ≡ []
     → (g : GapKind) × (kind : Kind) × (kind_of_gap s w ≡ Some g) × HasKind s k e kind × Fits g kind
 fills s k w e u h d =
     let g = gap_known w (kind_of_gap s w) u in
@@ -119,17 +147,27 @@ mutual
   kinded s k (t.neg e) h = (Int, refl, (meets s k e Int (kinded s k e (nothing_first _ _ h)) (nothing_behind (faults_in s k e) _ h), refl))
   kinded s k (t.binary op l r) h =
       let b = nothing_behind (faults_in s k l) _ h in let c = nothing_behind (left_demand (op_sort op) (kind_of s k l)) _ b in
-      joins s k (op_sort op) l r (kinded s k l (nothing_first _ _ h)) (kinded s k r (nothing_first _ _ c)) (nothing_first _ _ b) (nothing_behind (faults_in s k r) _ c)
+      joins s k (op_sort op) l r (kinded s k l (nothing_first _ _ h)) (kinded s k r (nothing_first _ _ c)) (nothing_first _ _ b)
+      (nothing_behind (faults_in s k r) _ c)
   kinded s k (t.call f e) h = (fun_gives f, refl, (meets s k e (fun_takes f) (kinded s k e (nothing_first _ _ h)) (nothing_behind (faults_in s k e) _ h), refl))
   kinded s k (t.plug b ps) h =
-      let d = nothing_behind (faults_in s k b) _ h in
-      (Html, refl, (meets s k b Html (kinded s k b (nothing_first _ _ h)) (nothing_first _ _ d), pairs_typed s k ps (nothing_behind (demand Html (kind_of s k b)) _ d), refl))
+      let d = nothing_behind (faults_in s k b) _ h in (
+        Html,
+        refl,
+        (
+          meets s k b Html (kinded s k b (nothing_first _ _ h)) (nothing_first _ _ d),
+          pairs_typed s k ps (nothing_behind (demand Html (kind_of s k b)) _ d),
+          refl,
+        ),
+      )
 
   pub pairs_typed : (s : Service) (k : Scope) (ps : Fillings) → faults_in_pairs s k ps ≡ [] → AreTyped s k ps
   pairs_typed s k no_more h = tt
   pairs_typed s k (filling w e ps) h =
-      let b = nothing_behind (gap_unknown w (kind_of_gap s w)) _ h in let c = nothing_behind (faults_in s k e) _ b in
-      (fills s k w e (nothing_first _ _ h) (kinded s k e (nothing_first _ _ b)) (nothing_first _ _ c), pairs_typed s k ps (nothing_behind (gap_demand (kind_of_gap s w) (kind_of s k e)) _ c))
+      let b = nothing_behind (gap_unknown w (kind_of_gap s w)) _ h in let c = nothing_behind (faults_in s k e) _ b in (
+        fills s k w e (nothing_first _ _ h) (kinded s k e (nothing_first _ _ b)) (nothing_first _ _ c),
+        pairs_typed s k ps (nothing_behind (gap_demand (kind_of_gap s w) (kind_of s k e)) _ c),
+      )
 
 pub has_wanted : (s : Service) (k : Scope) (kind : Kind) (e : Term) → wanted s k kind e ≡ [] → HasKind s k e kind
 has_wanted s k kind e h = meets s k e kind (kinded s k e (nothing_first _ _ h)) (nothing_behind (faults_in s k e) _ h)
@@ -145,7 +183,8 @@ is_new s k w h =
     let e = either_false (is_among w (declared_names s)) (is_among w k.taken) (passes _ _ h) in
     (not_among w (declared_names s) e.0, not_among w k.taken e.1)
 
-assigned : (s : Service) (k : Scope) (w : List ℕ) (e : Term) → name_unknown w (variable_kind s k w) ≡ [] → faults_in s k e ≡ [] → demand_same (variable_kind s k w) (kind_of s k e) ≡ []
+assigned : (s : Service) (k : Scope) (w : List ℕ) (e : Term) → name_unknown w (variable_kind s k w) ≡ [] → faults_in s k e ≡ []
+    → demand_same (variable_kind s k w) (kind_of s k e) ≡ []
     → (kind : Kind) × (variable_kind s k w ≡ Some kind) × HasKind s k e kind
 assigned s k w e u f d =
     let v = is_known w (variable_kind s k w) u in
@@ -163,7 +202,8 @@ receives_typed : (s : Service) (k : Scope) (rs : List Receive) → flat_map (rec
 receives_typed s k [] h = All-nil (IsReceived s k)
 receives_typed s k (r ∷ rs) h =
     let here = nothing_first (receive_fault s k r) _ h in let v = is_known r.target (variable_kind s k r.target) (nothing_first _ _ here) in
-    All-cons (IsReceived s k) r rs (received_kind (variable_kind s k r.target) v.0 v.1 (nothing_behind (name_unknown r.target (variable_kind s k r.target)) _ here)) (receives_typed s k rs (nothing_behind (receive_fault s k r) _ h))
+    All-cons (IsReceived s k) r rs (received_kind (variable_kind s k r.target) v.0 v.1
+    (nothing_behind (name_unknown r.target (variable_kind s k r.target)) _ here)) (receives_typed s k rs (nothing_behind (receive_fault s k r) _ h))
 
 -- a local with its value
 local_typed : (s : Service) (k : Scope) (w : List ℕ) (kind : Kind) (e : Term) → local_faults s k w kind e ≡ [] → IsNew s k w × HasKind s k e kind
@@ -174,11 +214,16 @@ code_typed s k done h = tt
 code_typed s k (declare kind w e a) h =
     let l = local_typed s k w kind e (nothing_first _ _ h) in (l.0, l.1, code_typed s (with_local k w kind) a (nothing_behind (local_faults s k w kind e) _ h))
 code_typed s k (assign w e a) h =
-    let b = nothing_behind (name_unknown w (variable_kind s k w)) _ h in let c = nothing_behind (faults_in s k e) _ b in
-    (assigned s k w e (nothing_first _ _ h) (nothing_first _ _ b) (nothing_first _ _ c), code_typed s k a (nothing_behind (demand_same (variable_kind s k w) (kind_of s k e)) _ c))
+    let b = nothing_behind (name_unknown w (variable_kind s k w)) _ h in let c = nothing_behind (faults_in s k e) _ b in (
+      assigned s k w e (nothing_first _ _ h) (nothing_first _ _ b) (nothing_first _ _ c),
+      code_typed s k a (nothing_behind (demand_same (variable_kind s k w) (kind_of s k e)) _ c),
+    )
 code_typed s k (if_then e y a) h =
-    let b = nothing_behind (wanted s k Truth e) _ h in
-    (has_wanted s k Truth e (nothing_first _ _ h), code_typed s k y (nothing_first _ _ b), code_typed s (scope_behind k y) a (nothing_behind (code_faults s k y) _ b))
+    let b = nothing_behind (wanted s k Truth e) _ h in (
+      has_wanted s k Truth e (nothing_first _ _ h),
+      code_typed s k y (nothing_first _ _ b),
+      code_typed s (scope_behind k y) a (nothing_behind (code_faults s k y) _ b),
+    )
 code_typed s k (if_else e y n a) h =
     let b = nothing_behind (wanted s k Truth e) _ h in let c = nothing_behind (code_faults s k y) _ b in (
       has_wanted s k Truth e (nothing_first _ _ h),
@@ -187,13 +232,23 @@ code_typed s k (if_else e y n a) h =
       code_typed s (scope_behind (scope_behind k y) n) a (nothing_behind (code_faults s (scope_behind k y) n) _ c),
     )
 code_typed s k (while_loop e y a) h =
-    let b = nothing_behind (wanted s k Truth e) _ h in
-    (has_wanted s k Truth e (nothing_first _ _ h), code_typed s k y (nothing_first _ _ b), code_typed s (scope_behind k y) a (nothing_behind (code_faults s k y) _ b))
+    let b = nothing_behind (wanted s k Truth e) _ h in (
+      has_wanted s k Truth e (nothing_first _ _ h),
+      code_typed s k y (nothing_first _ _ b),
+      code_typed s (scope_behind k y) a (nothing_behind (code_faults s k y) _ b),
+    )
 code_typed s k (block y a) h = (code_typed s k y (nothing_first _ _ h), code_typed s (scope_behind k y) a (nothing_behind (code_faults s k y) _ h))
 code_typed s k (for_each w e y a) h =
-    let l = local_typed s k w Strs e (nothing_first _ _ h) in let b = nothing_behind (local_faults s k w Strs e) _ h in
-    (l.0, l.1, code_typed s (with_local k w Str) y (nothing_first _ _ b), code_typed s (behind_each k w y) a (nothing_behind (code_faults s (with_local k w Str) y) _ b))
+    let l = local_typed s k w Strs e (nothing_first _ _ h) in let b = nothing_behind (local_faults s k w Strs e) _ h in (
+      l.0,
+      l.1,
+      code_typed s (with_local k w Str) y (nothing_first _ _ b),
+      code_typed s (behind_each k w y) a (nothing_behind (code_faults s (with_local k w Str) y) _ b),
+    )
 code_typed s k (show p rs a) h =
-    let b = nothing_behind (wanted s k Html p) _ h in
-    (has_wanted s k Html p (nothing_first _ _ h), receives_typed s k rs (nothing_first _ _ b), code_typed s k a (nothing_behind (flat_map (receive_fault s k) rs) _ b))
+    let b = nothing_behind (wanted s k Html p) _ h in (
+      has_wanted s k Html p (nothing_first _ _ h),
+      receives_typed s k rs (nothing_first _ _ b),
+      code_typed s k a (nothing_behind (flat_map (receive_fault s k) rs) _ b),
+    )
 code_typed s k (exit p a) h = (has_wanted s k Html p (nothing_first _ _ h), code_typed s k a (nothing_behind (wanted s k Html p) _ h))

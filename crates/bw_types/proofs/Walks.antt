@@ -17,13 +17,15 @@ use Rattle.bw_types.specs.Scopes.{is_among, name_of}
 use Rattle.bw_types.specs.TemplateFaults.{fault_if, field_fault, attr_faults, is_reserved, is_file_input, is_bad_control, element_faults, items_faults}
 use Rattle.bw_types.proofs.First.{drop_more}
 
-pub items_step : (s : Service) (t : List ℕ) (x : Item) (xs : List Item) → items_faults s t (forest (x ∷ xs)) ≡ items_faults s t (before x none) ++ items_faults s t (forest xs)
+pub items_step : (s : Service) (t : List ℕ) (x : Item) (xs : List Item) → items_faults s t (forest (x ∷ xs)) ≡ items_faults s t (before x none)
+    ++ items_faults s t (forest xs)
 items_step s t (Text w) xs = refl
 items_step s t (Gap g) xs = simp append-nil
 items_step s t (Element e) xs = simp (append_assoc, append-nil)
 
 -- the faults of an element whose tag and whose control pass
-pub element-passes : (s : Service) (t : List ℕ) (tag : List ℕ) (xs : List Attr) → is_reserved tag ≡ false → is_file_input tag xs ≡ false → is_bad_control tag xs ≡ false
+pub element-passes : (s : Service) (t : List ℕ) (tag : List ℕ) (xs : List Attr) → is_reserved tag ≡ false → is_file_input tag xs ≡ false
+    → is_bad_control tag xs ≡ false
     → element_faults s t tag xs ≡ flat_map (field_fault s) (field_of tag xs) ++ attr_faults s xs
 element-passes s t tag xs a b c = rw (a, b, c)
 

@@ -70,7 +70,8 @@ IsTypedCode service scope (assign w e rest) =
     ((kind : Kind) × (variable_kind service scope w ≡ Some kind) × HasKind service scope e kind) × IsTypedCode service scope rest
 IsTypedCode service scope (if_then t y rest) = HasKind service scope t Truth × IsTypedCode service scope y × IsTypedCode service (scope_behind scope y) rest
 IsTypedCode service scope (if_else t y n rest) =
-    HasKind service scope t Truth × IsTypedCode service scope y × IsTypedCode service (scope_behind scope y) n × IsTypedCode service (scope_behind (scope_behind scope y) n) rest
+    HasKind service scope t Truth × IsTypedCode service scope y × IsTypedCode service (scope_behind scope y) n
+    × IsTypedCode service (scope_behind (scope_behind scope y) n) rest
 IsTypedCode service scope (while_loop t b rest) = HasKind service scope t Truth × IsTypedCode service scope b × IsTypedCode service (scope_behind scope b) rest
 IsTypedCode service scope (block b rest) = IsTypedCode service scope b × IsTypedCode service (scope_behind scope b) rest
 IsTypedCode service scope (for_each w e b rest) =

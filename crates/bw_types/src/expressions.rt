@@ -100,7 +100,8 @@ impl Names<'_> {
     #[cycle(expr)]
     fn pair(&self, locals: &Locals, pair: &Pair) -> Result<(), TypeFault>
         ensures none { OnOk result (spec.faults_in_pairs self.now.service.now locals.now (filling pair.now.gap (term pair.now.value) no_more) ≡ []) }
-        ensures first { IfErr result (λ e. IsFirst e (spec.faults_in_pairs self.now.service.now locals.now (filling pair.now.gap (term pair.now.value) no_more))) }
+        ensures first { IfErr result (λ e. IsFirst e (spec.faults_in_pairs self.now.service.now locals.now
+            (filling pair.now.gap (term pair.now.value) no_more))) }
     {
         let gap = self.gap(&pair.gap)?;
         let found = self.expr(locals, &pair.value)?;

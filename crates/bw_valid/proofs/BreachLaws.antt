@@ -1,5 +1,27 @@
 -- Laws of validity.
-use Rattle.std.proofs.Common.{◌≡◌, ℕ, suc, ◌+◌, Bool, true, false, not, ◌||◌, ◌&&◌, List, Option, Some, None, IfSome, is_some, if◌then◌else◌, refl, ap, sym, ◌∙◌}
+use Rattle.std.proofs.Common.{
+  ◌≡◌,
+  ℕ,
+  suc,
+  ◌+◌,
+  Bool,
+  true,
+  false,
+  not,
+  ◌||◌,
+  ◌&&◌,
+  List,
+  Option,
+  Some,
+  None,
+  IfSome,
+  is_some,
+  if◌then◌else◌,
+  refl,
+  ap,
+  sym,
+  ◌∙◌,
+}
 use Rattle.std.specs.List.{list_all}
 use Rattle.std.proofs.lemmas.Bool.{false≢true}
 use Rattle.bw_lang.specs.Document.Documents.{elements, close, closed_attrs}
@@ -85,7 +107,8 @@ follows (Some r) attrs inner h =
 follows_back : (o : Option Rule) (attrs : List Attr) (inner : Forest) → IfSome o (λ r. v.Obeys r attrs inner) → b.broken_at o attrs inner ≡ None
 follows_back None attrs inner h = refl
 follows_back (Some r) attrs inner h =
-    all_hold (first_test r attrs) (second_test r attrs) (third_test r attrs) (fourth_test r inner) (fifth_test r inner) (last_test r attrs inner) (record { first = h.allowed; second = h.required; third = h.values; fourth = h.children; fifth = h.texts; last = h.needs })
+    all_hold (first_test r attrs) (second_test r attrs) (third_test r attrs) (fourth_test r inner) (fifth_test r inner) (last_test r attrs inner)
+    (record { first = h.allowed; second = h.required; third = h.values; fourth = h.children; fifth = h.texts; last = h.needs })
 
 pub unbroken : (rules : List Rule) (n : ℕ) (t : Forest) → b.first_broken rules n t ≡ None → v.EveryElement (v.Follows rules) t
 unbroken rules n none h = tt
@@ -101,7 +124,8 @@ unbroken_back rules n none h = refl
 unbroken_back rules n (text s r) h = unbroken_back rules n r h
 unbroken_back rules n (gap g r) h = unbroken_back rules n r h
 unbroken_back rules n (element tag attrs inner r) h =
-    ap (λ o. b.or_then (b.placed (n + 1) o) (b.or_then (b.first_broken rules (n + 1) inner) (b.first_broken rules (n + 1 + elements inner) r))) (follows_back (rule_of rules tag) attrs inner h.0)
+    ap (λ o. b.or_then (b.placed (n + 1) o) (b.or_then (b.first_broken rules (n + 1) inner) (b.first_broken rules (n + 1 + elements inner) r)))
+    (follows_back (rule_of rules tag) attrs inner h.0)
     ∙ ap (λ o. b.or_then o (b.first_broken rules (n + 1 + elements inner) r)) (unbroken_back rules (n + 1) inner h.1.0)
     ∙ unbroken_back rules (n + 1 + elements inner) r h.1.1
 
@@ -117,13 +141,15 @@ valid_decided s t = (
 
 -- ---- closing
 
-first_six : (p q r s t u : Bool) {p' q' r' s' t' u' : Bool} → p ≡ p' → q ≡ q' → r ≡ r' → s ≡ s' → t ≡ t' → u ≡ u' → first_false p q r s t u ≡ first_false p' q' r' s' t' u'
+first_six : (p q r s t u : Bool) {p' q' r' s' t' u' : Bool} → p ≡ p' → q ≡ q' → r ≡ r' → s ≡ s' → t ≡ t' → u ≡ u'
+    → first_false p q r s t u ≡ first_false p' q' r' s' t' u'
 first_six p q r s t u e f g h k l = λ i. first_false (e i) (f i) (g i) (h i) (k i) (l i)
 
 closed_broken : (o : Option Rule) (a : List Attr) (i : Forest) → b.broken_at o (closed_attrs a) (close i) ≡ b.broken_at o a i
 closed_broken None a i = refl
 closed_broken (Some r) a i =
-    first_six (first_test r (closed_attrs a)) (second_test r (closed_attrs a)) (third_test r (closed_attrs a)) (fourth_test r (close i)) (fifth_test r (close i)) (last_test r (closed_attrs a) (close i))
+    first_six (first_test r (closed_attrs a)) (second_test r (closed_attrs a)) (third_test r (closed_attrs a)) (fourth_test r (close i))
+    (fifth_test r (close i)) (last_test r (closed_attrs a) (close i))
     (closed_each (λ x w. allows r x) a) (all_has a r.must) (closed_each (permits r.values) a) (closed_child (is_among r.has) i)
     (ap (λ c. r.text || c) (closed_text is_blank i)) (closed_holds true r.needs a i)
 
@@ -138,8 +164,10 @@ closed_first rules n none = refl
 closed_first rules n (text s r) = closed_first rules n r
 closed_first rules n (gap g r) = closed_first rules n r
 closed_first rules n (element tag a i r) =
-    ap (λ o. b.or_then (b.placed (n + 1) o) (b.or_then (b.first_broken rules (n + 1) (close i)) (b.first_broken rules (n + 1 + elements (close i)) (close r)))) (closed_broken (rule_of rules tag) a i)
-    ∙ ap (λ o. b.or_then (b.placed (n + 1) (b.broken_at (rule_of rules tag) a i)) (b.or_then o (b.first_broken rules (n + 1 + elements (close i)) (close r)))) (closed_first rules (n + 1) i)
+    ap (λ o. b.or_then (b.placed (n + 1) o) (b.or_then (b.first_broken rules (n + 1) (close i))
+    (b.first_broken rules (n + 1 + elements (close i)) (close r)))) (closed_broken (rule_of rules tag) a i)
+    ∙ ap (λ o. b.or_then (b.placed (n + 1) (b.broken_at (rule_of rules tag) a i))
+    (b.or_then o (b.first_broken rules (n + 1 + elements (close i)) (close r)))) (closed_first rules (n + 1) i)
     ∙ ap (λ o. b.or_then (b.placed (n + 1) (b.broken_at (rule_of rules tag) a i)) (b.or_then (b.first_broken rules (n + 1) i) o))
     (ap (λ k. b.first_broken rules (n + 1 + k) (close r)) (closed_elements i) ∙ closed_first rules (n + 1 + elements i) r)
 

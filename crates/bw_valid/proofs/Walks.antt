@@ -1,5 +1,34 @@
 -- Walks over a list of items, and over a list of formulas.
-use Rattle.std.proofs.Common.{◌≡◌, ℕ, suc, ◌+◌, ◌<◌, ◌≤◌, Bool, true, false, not, ◌||◌, ◌&&◌, List, [], ◌∷◌, ◌++◌, length, Option, Some, None, take, drop, get_or, refl, ap, sym, ◌∙◌, arith}
+use Rattle.std.proofs.Common.{
+  ◌≡◌,
+  ℕ,
+  suc,
+  ◌+◌,
+  ◌<◌,
+  ◌≤◌,
+  Bool,
+  true,
+  false,
+  not,
+  ◌||◌,
+  ◌&&◌,
+  List,
+  [],
+  ◌∷◌,
+  ◌++◌,
+  length,
+  Option,
+  Some,
+  None,
+  take,
+  drop,
+  get_or,
+  refl,
+  ap,
+  sym,
+  ◌∙◌,
+  arith,
+}
 use Rattle.std.specs.List.{list_all}
 use Rattle.std.proofs.lemmas.Bool.{false≢true}
 use Rattle.std.proofs.lemmas.List.{drop_more}
@@ -53,7 +82,8 @@ or_then_assoc None b c = refl
 or_then_assoc (Some a) b c = refl
 
 -- of one forest and then another
-pub first_broken-append : (rules : List Rule) (n : ℕ) (a b : Forest) → first_broken rules n (append a b) ≡ or_then (first_broken rules n a) (first_broken rules (n + elements a) b)
+pub first_broken-append : (rules : List Rule) (n : ℕ) (a b : Forest)
+    → first_broken rules n (append a b) ≡ or_then (first_broken rules n a) (first_broken rules (n + elements a) b)
 first_broken-append rules n none b = let e : n ≡ n + 0 = omega arith in ap (λ k. first_broken rules k b) e
 first_broken-append rules n (text s r) b = first_broken-append rules n r b
 first_broken-append rules n (gap g r) b = first_broken-append rules n r b
@@ -61,7 +91,8 @@ first_broken-append rules n (element tag a i r) b =
     let e : n + 1 + elements i + elements r ≡ n + suc (elements i + elements r) = omega arith in
     let x = placed (n + 1) (broken_at (rule_of rules tag) a i) in
     let y = first_broken rules (n + 1) i in
-    ap (λ o. or_then x (or_then y o)) (first_broken-append rules (n + 1 + elements i) r b ∙ ap (λ k. or_then (first_broken rules (n + 1 + elements i) r) (first_broken rules k b)) e)
+    ap (λ o. or_then x (or_then y o)) (first_broken-append rules (n + 1 + elements i) r b
+    ∙ ap (λ k. or_then (first_broken rules (n + 1 + elements i) r) (first_broken rules k b)) e)
     ∙ ap (or_then x) (or_then_assoc y (first_broken rules (n + 1 + elements i) r) (first_broken rules (n + suc (elements i + elements r)) b))
     ∙ or_then_assoc x (or_then y (first_broken rules (n + 1 + elements i) r)) (first_broken rules (n + suc (elements i + elements r)) b)
 
@@ -70,13 +101,21 @@ pub item_le-size : (xs : List Item) (i : ℕ) (x : Item) → x ≡ get_or xs i x
 item_le-size xs i x e h = omega (arith, at_most (λ y. deep-Item y) xs i x h, ap (λ y. deep-Item y) e, most_le-forest_size xs)
 
 -- the elements up to an item and in it are among all
-pub elements_upto : (xs : List Item) (i : ℕ) (x : Item) → x ≡ get_or xs i x → i < length xs → elements (forest (take i xs)) + elements (before x none) ≤ elements (forest xs)
+pub elements_upto : (xs : List Item) (i : ℕ) (x : Item) → x ≡ get_or xs i x → i < length xs
+    → elements (forest (take i xs)) + elements (before x none) ≤ elements (forest xs)
 elements_upto xs i x e h =
-    omega (arith, elements-append (forest (take i xs)) (before x none), ap elements (forest-take xs i x e h), elements-append (forest (take (i + 1) xs)) (forest (drop (i + 1) xs)), ap elements (forest-split xs (i + 1)))
+    omega (
+      arith,
+      elements-append (forest (take i xs)) (before x none),
+      ap elements (forest-take xs i x e h),
+      elements-append (forest (take (i + 1) xs)) (forest (drop (i + 1) xs)),
+      ap elements (forest-split xs (i + 1)),
+    )
 
 -- what is first broken in an item, where nothing before it is, is first broken in all
 pub broken_there : (rules : List Rule) (n : ℕ) (xs : List Item) (i : ℕ) (x : Item) (b : Breach) → x ≡ get_or xs i x → i < length xs
-    → first_broken rules n (forest (take i xs)) ≡ None → first_broken rules (n + elements (forest (take i xs))) (before x none) ≡ Some b → first_broken rules n (forest xs) ≡ Some b
+    → first_broken rules n (forest (take i xs)) ≡ None → first_broken rules (n + elements (forest (take i xs))) (before x none) ≡ Some b
+    → first_broken rules n (forest xs) ≡ Some b
 broken_there rules n xs i x b e h clean it =
     let behind = forest (drop (i + 1) xs) in
     let upto : first_broken rules n (forest (take (i + 1) xs)) ≡ Some b =
@@ -126,18 +165,21 @@ order_goes_on p x y (Element e) f h = goes_on p (is_other x e.tag) (is_other y e
 pub order_done : (x y : List ℕ) (p : Bool) (xs : List Item) (i : ℕ) (item : Item) → item ≡ get_or xs i item → i < length xs
     → (p && not (each_child (is_other x) (before item none))) ≡ true → ordered_behind p x y (forest (drop i xs)) ≡ false
 order_done x y p xs i item e h k =
-    ap (λ t. ordered_behind p x y (forest t)) (drop_more xs i item h ∙ ap (λ z. z ∷ drop (i + 1) xs) (sym e)) ∙ order_stops p x y item (forest (drop (i + 1) xs)) k
+    ap (λ t. ordered_behind p x y (forest t)) (drop_more xs i item h ∙ ap (λ z. z ∷ drop (i + 1) xs) (sym e))
+    ∙ order_stops p x y item (forest (drop (i + 1) xs)) k
 
 pub order_more : (x y : List ℕ) (p : Bool) (xs : List Item) (i : ℕ) (item : Item) → item ≡ get_or xs i item → i < length xs
     → (p && not (each_child (is_other x) (before item none))) ≡ false
     → ordered_behind p x y (forest (drop i xs)) ≡ ordered_behind (p || not (each_child (is_other y) (before item none))) x y (forest (drop (i + 1) xs))
 order_more x y p xs i item e h k =
-    ap (λ t. ordered_behind p x y (forest t)) (drop_more xs i item h ∙ ap (λ z. z ∷ drop (i + 1) xs) (sym e)) ∙ order_goes_on p x y item (forest (drop (i + 1) xs)) k
+    ap (λ t. ordered_behind p x y (forest t)) (drop_more xs i item h ∙ ap (λ z. z ∷ drop (i + 1) xs) (sym e))
+    ∙ order_goes_on p x y item (forest (drop (i + 1) xs)) k
 
 -- ---- formulas
 
 -- the first formula, and then the others
-pub holds_before : (b : Bool) (f : Formula) (rest : Needs) (a : List Attr) (i : Forest) → holds b (before_need f rest) a i ≡ joined b (holds_alone f a i) (holds b rest a i)
+pub holds_before : (b : Bool) (f : Formula) (rest : Needs) (a : List Attr) (i : Forest)
+    → holds b (before_need f rest) a i ≡ joined b (holds_alone f a i) (holds b rest a i)
 holds_before b (formula.And parts) rest a i = refl
 holds_before b (formula.Or parts) rest a i = refl
 holds_before b (formula.Attr x) rest a i = refl
@@ -159,13 +201,15 @@ joined_goes_on false true rest h = absurd (false≢true (sym h))
 joined_goes_on false false rest h = refl
 
 -- one formula more
-pub holds_stops : (b : Bool) (fs : List Formula) (i : ℕ) (f : Formula) (one : Bool) (a : List Attr) (t : Forest) → f ≡ get_or fs i f → i < length fs → one ≡ holds_alone f a t → (one ≡ b → ⊥)
+pub holds_stops : (b : Bool) (fs : List Formula) (i : ℕ) (f : Formula) (one : Bool) (a : List Attr) (t : Forest) → f ≡ get_or fs i f → i < length fs
+    → one ≡ holds_alone f a t → (one ≡ b → ⊥)
     → holds b (needs (drop i fs)) a t ≡ one
 holds_stops b fs i f one a t e h k n =
     ap (λ z. holds b (needs z) a t) (drop_more fs i f h ∙ ap (λ z. z ∷ drop (i + 1) fs) (sym e)) ∙ holds_before b f (needs (drop (i + 1) fs)) a t
     ∙ ap (λ o. joined b o (holds b (needs (drop (i + 1) fs)) a t)) (sym k) ∙ joined_stops b one (holds b (needs (drop (i + 1) fs)) a t) n
 
-pub holds_goes_on : (b : Bool) (fs : List Formula) (i : ℕ) (f : Formula) (one : Bool) (a : List Attr) (t : Forest) → f ≡ get_or fs i f → i < length fs → one ≡ holds_alone f a t → one ≡ b
+pub holds_goes_on : (b : Bool) (fs : List Formula) (i : ℕ) (f : Formula) (one : Bool) (a : List Attr) (t : Forest) → f ≡ get_or fs i f → i < length fs
+    → one ≡ holds_alone f a t → one ≡ b
     → holds b (needs (drop i fs)) a t ≡ holds b (needs (drop (i + 1) fs)) a t
 holds_goes_on b fs i f one a t e h k n =
     ap (λ z. holds b (needs z) a t) (drop_more fs i f h ∙ ap (λ z. z ∷ drop (i + 1) fs) (sym e)) ∙ holds_before b f (needs (drop (i + 1) fs)) a t

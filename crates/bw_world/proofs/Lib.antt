@@ -1,6 +1,7 @@
 pub mod Asked
 pub mod Begun
 pub mod GoesOn
+pub mod Good
 pub mod Keeping
 pub mod Live
 pub mod Named

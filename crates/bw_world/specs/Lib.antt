@@ -1,4 +1,5 @@
 pub mod Changes
+pub mod Good
 pub mod Kept
 pub mod Plain
 pub mod Seen

@@ -2,13 +2,11 @@
 #![tactic(auto)]
 
 mod changes;
-pub mod checked;
 mod pages;
 mod steps;
 pub mod suspended;
 mod turns;
 pub mod world;
 
-pub use checked::Checked;
 pub use suspended::Suspended;
 pub use world::World;

@@ -8,6 +8,7 @@ ghost use Rattle.bw_model.specs.Steps as model;
 ghost use Rattle.bw_types.specs.Scopes.{session_of};
 ghost use Rattle.bw_world.specs.declared.suspended.Suspended.{Suspended};
 ghost use Rattle.bw_world.specs.Changes.{failure, refused};
+ghost use Rattle.bw_world.specs.Good.{IsGoodReply};
 ghost use Rattle.bw_run.specs.Missing.{first_missing};
 ghost use Rattle.bw_run.specs.Turns.{receives_of};
 ghost use Rattle.bw_world.specs.Plain.{is_plain, is_plain_start, is_plain_visit, takes_no_turn};
@@ -211,6 +212,9 @@ impl World {
     ///
     /// A request that needs no page and no turn is never answered `Memory`: of a path or method that isn't served, of a
     /// session that isn't there, of another turn than the current one, or with a form that isn't taken.
+    ///
+    /// Where a schema accepts the service, and requests led here from the empty world, every page that is answered is valid
+    /// by the schema, and the page of a show has each field that the show receives.
     pub fn handle<L: Ledger>(
         &mut self,
         alloc: Global,
@@ -224,7 +228,9 @@ impl World {
         ensures plain { is_plain self.old request.now ≡ true → result ≢ Reply.Memory }
         ensures reply { IsReply (fields_of self.old.service) result }
         ensures rises { Rises steps.old steps.new }
+        ensures good { IsGoodReply self.old request.now key result }
     {
+        let _ = self.checked();
         self.step(alloc, request, key, steps)
     }
 }

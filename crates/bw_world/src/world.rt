@@ -5,8 +5,8 @@ ghost use Rattle.bw_world.specs.Kept.{IsKept, IsSuspended};
 ghost use Rattle.bw_world.specs.Seen.{found};
 ghost use Rattle.bw_world.specs.Stands.{StandsFor};
 
-use crate::checked::Checked;
 use crate::suspended::Suspended;
+use bw_check::Checked;
 use bw_lang::Memory;
 use bw_run::{SharedValues, first_values};
 use lru::LruCache;
@@ -14,8 +14,8 @@ use std::alloc::Global;
 use std::marker::Model;
 use std::num::NonZeroUsize;
 
-/// The live sessions of a service and its shared variables. At most 1,000 sessions are live: where one more begins, the one
-/// that wasn't used for the longest time gives way.
+/// The live sessions of a service that the check accepted, and its shared variables. At most 1,000 sessions are live: where
+/// one more begins, the one that wasn't used for the longest time gives way.
 ///
 /// Contracts see the live sessions by their numbers, the most recently used first. Each waits at a show of its own with a
 /// fit frame, and the shared variables are fit.

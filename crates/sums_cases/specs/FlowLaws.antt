@@ -23,7 +23,8 @@ all_set (c ∷ cs) = merge_set nat_cmp_total (filled [] c.own.items) (all_number
 own_within : (cells : List Cell) (cell : ℕ) → is_within nat_cmp (filled [] (own_at cells cell)) (all_numbers cells) ≡ true
 own_within [] cell = refl
 own_within (c ∷ cs) zero = merge_left nat_cmp_total (filled [] c.own.items) (all_numbers cs)
-own_within (c ∷ cs) (suc cell) = within_trans nat_cmp_total (filled [] (own_at cs cell)) (all_numbers cs) (merge nat_cmp (filled [] c.own.items) (all_numbers cs))
+own_within (c ∷ cs) (suc cell) = within_trans nat_cmp_total (filled [] (own_at cs cell)) (all_numbers cs)
+    (merge nat_cmp (filled [] c.own.items) (all_numbers cs))
     (own_within cs cell) (merge_right nat_cmp_total (filled [] c.own.items) (all_numbers cs))
 
 same : (x y : ℕ) → (y == x) ≡ true → x ≡ y
@@ -39,10 +40,12 @@ module _ (cells : List Cell) (cell : ℕ) where
   gathered_fits f (suc n) h e = with_fits (gathered cells cell f n) (f n) (list_any (λ y. y == cell) (readers_at cells n))
       (gathered_fits f n (omega arith) e) (e n (omega arith))
 
-  merge_more : (a b c d : List ℕ) → is_within nat_cmp a c ≡ true → is_within nat_cmp b d ≡ true → is_within nat_cmp (merge nat_cmp a b) (merge nat_cmp c d) ≡ true
+  merge_more : (a b c d : List ℕ) → is_within nat_cmp a c ≡ true → is_within nat_cmp b d ≡ true
+      → is_within nat_cmp (merge nat_cmp a b) (merge nat_cmp c d) ≡ true
   merge_more a b c d p q =
       let o = nat_cmp_total in
-      merge_least o a b (merge nat_cmp c d) (within_trans o a c (merge nat_cmp c d) p (merge_left o c d)) (within_trans o b d (merge nat_cmp c d) q (merge_right o c d))
+      merge_least o a b (merge nat_cmp c d) (within_trans o a c (merge nat_cmp c d) p (merge_left o c d))
+      (within_trans o b d (merge nat_cmp c d) q (merge_right o c d))
 
   with_more : (a b v w : List ℕ) (r : Bool) → is_within nat_cmp a b ≡ true → (r ≡ true → is_within nat_cmp v w ≡ true)
       → is_within nat_cmp (cond r (merge nat_cmp a v) a) (cond r (merge nat_cmp b w) b) ≡ true

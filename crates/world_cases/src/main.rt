@@ -15,24 +15,40 @@
 mod links;
 mod worlds;
 
-use case_files::{Case, Fault, Kind, Texts, Verdict, try_files};
-use std::alloc::Global;
+use case_files::{Fault, Table, Tally, Verdict};
+use std::fs;
 use std::process::ExitCode;
+use std::rt::Files;
+use std::thread::Threads;
 
-/// Worlds and their links.
-#[derive(Clone, Copy)]
-struct WorldCases;
+/// The file that has the cases, in the folder where the program runs.
+const FILE: &str = "worlds.cases";
 
-impl Kind for WorldCases {
-    fn file_name(self) -> &'static str {
-        "worlds.cases"
+/// Tries the cases, and prints those that are wrong and the tally. The check of their services makes its threads by `rt`.
+fn try_cases<R: Files + AllocGlobal + Print + Threads + Sync>(rt: &R) -> Result<Tally, Fault> {
+    let alloc = rt.alloc();
+    let file = fs::read_to_string(rt, FILE)?;
+    let table = Table::read(alloc, &file)?;
+    let mut tally = Tally::default();
+    for case in &table.cases {
+        let verdict = match worlds::try_case(rt, alloc, &table.texts, case) {
+            Err(Fault::Malformed) => Verdict::Malformed,
+            tried => tried?,
+        };
+        verdict.print(rt, case.name)?;
+        tally.count(&verdict);
     }
-
-    fn try_case(self, alloc: Global, texts: &Texts<'_>, case: &Case<'_>) -> Result<Verdict, Fault> {
-        worlds::try_case(alloc, texts, case)
-    }
+    println!(rt; "{FILE}: {tally}")?;
+    Ok(tally)
 }
 
 fn main(rt: HostRuntime) -> ExitCode {
-    try_files(&rt, &[WorldCases])
+    match try_cases(&rt) {
+        Ok(tally) if !tally.has_wrong() => ExitCode::SUCCESS,
+        Ok(_) => ExitCode::FAILURE,
+        Err(fault) => {
+            let _ = println!(&rt; "{FILE}: {fault}");
+            ExitCode::FAILURE
+        }
+    }
 }

@@ -2,21 +2,29 @@
 ghost use Rattle.std.specs.Prelude.{◌≡◌, ◌<◌};
 
 use crate::links::{Taking, answer_link, say};
-use bw_out::{MemKeys, Steps};
+use bw_check::{Checked, check};
+use bw_out::{MemKeys, Quiet, Steps};
+use bw_schema::built_in;
 use bw_syntax::read_service;
 use bw_types::{Typed, resolve};
-use bw_world::{Checked, World};
+use bw_world::World;
 use case_files::{Case, Fault, Texts, Verdict};
 use std::alloc::{AllocError, Global};
 use std::marker::Brand;
 use std::sync::ledger::{Blank, Ledger};
+use std::thread::Threads;
 
 /// The last key.
 const KEYS: u64 = 2_048;
 
 /// Tries a case.
-pub fn try_case(alloc: Global, texts: &Texts<'_>, case: &Case<'_>) -> Result<Verdict, Fault> {
-    let got = got(alloc, texts, case)?;
+pub fn try_case<R: Threads + Sync>(
+    rt: &R,
+    alloc: Global,
+    texts: &Texts<'_>,
+    case: &Case<'_>,
+) -> Result<Verdict, Fault> {
+    let got = got(rt, alloc, texts, case)?;
     Ok(Verdict::of(wanted(alloc, texts, case)?, got))
 }
 
@@ -37,27 +45,38 @@ fn wanted(alloc: Global, texts: &Texts<'_>, case: &Case<'_>) -> Result<String, F
 }
 
 /// What comes of a case.
-fn got(alloc: Global, texts: &Texts<'_>, case: &Case<'_>) -> Result<String, Fault> {
+fn got<R: Threads + Sync>(
+    rt: &R,
+    alloc: Global,
+    texts: &Texts<'_>,
+    case: &Case<'_>,
+) -> Result<String, Fault> {
     let mut said = String::new(alloc);
-    say_world(alloc, texts, case, &mut said)?;
+    say_world(rt, alloc, texts, case, &mut said)?;
     Ok(said)
 }
 
-fn say_world(
+fn say_world<R: Threads + Sync>(
+    rt: &R,
     alloc: Global,
     texts: &Texts<'_>,
     case: &Case<'_>,
     said: &mut String,
 ) -> Result<(), Fault> {
-    let mut world = world_of(alloc, texts, case)?;
+    let mut world = world_of(rt, alloc, texts, case)?;
     say_links(alloc, texts, case, &mut world, said)
 }
 
 /// The world as it begins.
-fn world_of(alloc: Global, texts: &Texts<'_>, case: &Case<'_>) -> Result<World, Fault> {
+fn world_of<R: Threads + Sync>(
+    rt: &R,
+    alloc: Global,
+    texts: &Texts<'_>,
+    case: &Case<'_>,
+) -> Result<World, Fault> {
     let next = number_of(case, "next")?;
     let first = number_of(case, "first")?;
-    let checked = checked_service(alloc, typed_of(alloc, texts, case)?)?;
+    let checked = checked_service(rt, alloc, typed_of(alloc, texts, case)?)?;
     new_world(alloc, checked, next, first)
 }
 
@@ -85,11 +104,14 @@ fn typed_service(alloc: Global, text: &[u8]) -> Result<Typed, Fault> {
     resolve(alloc, service).map_err(|_| Fault::Malformed)
 }
 
-fn checked_service(alloc: Global, typed: Typed) -> Result<Checked, Fault> {
-    match Checked::admit(alloc, typed) {
-        Ok(checked) => Ok(checked),
-        Err(_) => Err(Fault::Malformed),
-    }
+/// The service, which has to be accepted by the built-in schema.
+fn checked_service<R: Threads + Sync>(
+    rt: &R,
+    alloc: Global,
+    typed: Typed,
+) -> Result<Checked, Fault> {
+    let schema = built_in(alloc)?;
+    check(rt, alloc, typed, schema, 1, &Quiet).map_err(|_| Fault::Malformed)
 }
 
 fn new_world(alloc: Global, checked: Checked, next: u64, first: u64) -> Result<World, Fault> {

@@ -16,10 +16,12 @@ pub made_inj : (x y : Made) → made_code x ≡ made_code y → x ≡ y
 made_inj (constant n f) (constant m e) p = λ i. constant (coded_ℕ.inj n m (ap (λ g. head (tail g)) p) i) (encoded_forest.inj f e (ap (λ g. tail (tail g)) p) i)
 made_inj (constant n f) _ p = absurd (omega (arith, ap tag p))
 made_inj (plug b g a) (plug c h d) p =
-    λ i. plug (made_inj b c (ap (λ v. head (tail (tail v))) p) i) (coded_ℕ.inj g h (ap (λ v. head (tail v)) p) i) (made_inj a d (ap (λ v. tail (tail (tail v))) p) i)
+    λ i. plug (made_inj b c (ap (λ v. head (tail (tail v))) p) i) (coded_ℕ.inj g h (ap (λ v. head (tail v)) p) i)
+    (made_inj a d (ap (λ v. tail (tail (tail v))) p) i)
 made_inj (plug b g a) _ p = absurd (omega (arith, ap tag p))
 made_inj (plug_text b g s) (plug_text c h t) p =
-    λ i. plug_text (made_inj b c (ap (λ v. head (tail (tail v))) p) i) (coded_ℕ.inj g h (ap (λ v. head (tail v)) p) i) ((coded_list coded_ℕ).inj s t (ap (λ v. tail (tail (tail v))) p) i)
+    λ i. plug_text (made_inj b c (ap (λ v. head (tail (tail v))) p) i) (coded_ℕ.inj g h (ap (λ v. head (tail v)) p) i)
+    ((coded_list coded_ℕ).inj s t (ap (λ v. tail (tail (tail v))) p) i)
 made_inj (plug_text b g s) _ p = absurd (omega (arith, ap tag p))
 
 abbrev pub encoded_made : Coded Made

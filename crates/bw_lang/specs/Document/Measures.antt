@@ -65,4 +65,5 @@ tested m =
 pub data IsDocument : Forest → Measure → Type 0 where
   constant : (t : Forest) → IsDocument t (constant_measure t)
   plug : (b a : Forest) (m n : Measure) (g : ℕ) → IsDocument b m → IsDocument a n → IsDocument (doc.plug g a b) (plugged m n (doc.count g b) (doc.around g b))
-  fill : (b : Forest) (m : Measure) (g : ℕ) (s : List ℕ) → IsDocument b m → IsDocument (doc.plug_text g s b) (plugged m (text_measure (length s)) (doc.count g b) (doc.around g b))
+  fill : (b : Forest) (m : Measure) (g : ℕ) (s : List ℕ) → IsDocument b m
+      → IsDocument (doc.plug_text g s b) (plugged m (text_measure (length s)) (doc.count g b) (doc.around g b))

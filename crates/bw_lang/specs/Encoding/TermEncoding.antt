@@ -43,7 +43,8 @@ mutual
   term_inj (neg e) (neg d) p = λ i. neg (term_inj e d (ap tail p) i)
   term_inj (neg e) _ p = absurd (omega (arith, ap tag p))
   term_inj (binary o l r) (binary q k s) p =
-      λ i. binary (op.the_row.coded.inj o q (ap (λ g. head (tail g)) p) i) (term_inj l k (ap (λ g. head (tail (tail g))) p) i) (term_inj r s (ap (λ g. tail (tail (tail g))) p) i)
+      λ i. binary (op.the_row.coded.inj o q (ap (λ g. head (tail g)) p) i) (term_inj l k (ap (λ g. head (tail (tail g))) p) i)
+      (term_inj r s (ap (λ g. tail (tail (tail g))) p) i)
   term_inj (binary o l r) _ p = absurd (omega (arith, ap tag p))
   term_inj (call f e) (call h d) p = λ i. call (fun.the_row.coded.inj f h (ap (λ g. head (tail g)) p) i) (term_inj e d (ap (λ g. tail (tail g)) p) i)
   term_inj (call f e) _ p = absurd (omega (arith, ap tag p))
@@ -57,7 +58,8 @@ mutual
   fillings_inj no_more (filling g e ps) p = absurd (omega (arith, ap tag p))
   fillings_inj (filling g e ps) no_more p = absurd (omega (arith, ap tag p))
   fillings_inj (filling g e ps) (filling h d qs) p =
-      λ i. filling ((coded_list coded_ℕ).inj g h (ap (λ g. head (tail g)) p) i) (term_inj e d (ap (λ g. head (tail (tail g))) p) i) (fillings_inj ps qs (ap (λ g. tail (tail (tail g))) p) i)
+      λ i. filling ((coded_list coded_ℕ).inj g h (ap (λ g. head (tail g)) p) i) (term_inj e d (ap (λ g. head (tail (tail g))) p) i)
+      (fillings_inj ps qs (ap (λ g. tail (tail (tail g))) p) i)
 
 abbrev pub encoded_term : Coded Term
 encoded_term = record { code = term_code; inj = term_inj }

@@ -37,10 +37,13 @@ spell_literal (written.Str s) k = lex.Str s ∷ k
 spell_literal (written.Name w) k = lex.Word w ∷ k
 
 abbrev pub spell_draft : Draft → List Lexeme → List Lexeme
-spell_draft (drafts.Template name inside) k = lex.Word (codes "html") ∷ (lex.Word name ∷ (lex.Sign (codes "=") ∷ (lex.Template inside ∷ (lex.Sign (codes ";") ∷ k))))
-spell_draft (drafts.Shared kind name init) k = lex.Word (codes "shared") ∷ (lex.Word (kind_word kind) ∷ (lex.Word name ∷ (lex.Sign (codes "=") ∷ spell_literal init (lex.Sign (codes ";") ∷ k))))
+spell_draft (drafts.Template name inside) k = lex.Word (codes "html") ∷
+    (lex.Word name ∷ (lex.Sign (codes "=") ∷ (lex.Template inside ∷ (lex.Sign (codes ";") ∷ k))))
+spell_draft (drafts.Shared kind name init) k = lex.Word (codes "shared") ∷
+    (lex.Word (kind_word kind) ∷ (lex.Word name ∷ (lex.Sign (codes "=") ∷ spell_literal init (lex.Sign (codes ";") ∷ k))))
 spell_draft (drafts.Session s) k =
-    lex.Word (codes "session") ∷ (lex.Word s.name ∷ (lex.Sign (codes "(") ∷ (lex.Sign (codes ")") ∷ (lex.Sign (codes "{") ∷ spell_code s.body (lex.Sign (codes "}") ∷ k)))))
+    lex.Word (codes "session") ∷ (lex.Word s.name ∷ (lex.Sign (codes "(") ∷
+    (lex.Sign (codes ")") ∷ (lex.Sign (codes "{") ∷ spell_code s.body (lex.Sign (codes "}") ∷ k)))))
 
 abbrev pub spell_drafts : List Draft → List Lexeme → List Lexeme
 spell_drafts [] k = k

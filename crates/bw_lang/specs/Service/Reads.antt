@@ -49,7 +49,8 @@ pub record IsInside (before : List (List ℕ)) (inside : List ℕ) (items : Fore
 -- it those of `after`.
 abbrev pub IsRead : List (List ℕ) → Draft → Declaration → List (List ℕ) → Type 0
 IsRead before (drafts.Template name inside) (declarations.Template t) after = (t.name ≡ name) × IsInside before inside t.items after
-IsRead before (drafts.Shared kind name init) (declarations.Shared v) after = (v ≡ record { kind = kind; name = name; init = literal_of init }) × (after ≡ before)
+IsRead before (drafts.Shared kind name init) (declarations.Shared v) after = (v ≡ record { kind = kind; name = name; init = literal_of init })
+    × (after ≡ before)
 IsRead before (drafts.Session s) (declarations.Session t) after = (t ≡ s) × (after ≡ before)
 IsRead before draft declaration after = ⊥
 

@@ -6,4 +6,5 @@ use Rattle.bw_make.proofs.push_templates.Given as goal
 
 abbrev pub invariant-loop-page : goal.invariant-loop-page
 invariant-loop-page l =
-    string_bytes l.text ++ flat_map template_line (range_with_len l.page (l.n - l.page)) ≡ string_bytes l.fn.text ++ flat_map template_line (range_with_len 0 l.n)
+    string_bytes l.text ++ flat_map template_line (range_with_len l.page (l.n - l.page)) ≡ string_bytes l.fn.text
+    ++ flat_map template_line (range_with_len 0 l.n)

@@ -42,12 +42,15 @@ needs_inj (some_of a r) _ p = absurd (omega (arith, ap tag p))
 needs_inj (attr x r) (attr y s) p = λ i. attr ((coded_list coded_ℕ).inj x y (ap (λ g. head (tail g)) p) i) (needs_inj r s (ap (λ g. tail (tail g)) p) i)
 needs_inj (attr x r) _ p = absurd (omega (arith, ap tag p))
 needs_inj (one_value x vs r) (one_value y ws s) p =
-    λ i. one_value ((coded_list coded_ℕ).inj x y (ap (λ g. head (tail g)) p) i) ((coded_list (coded_list coded_ℕ)).inj vs ws (ap (λ g. head (tail (tail g))) p) i) (needs_inj r s (ap (λ g. tail (tail (tail g))) p) i)
+    λ i. one_value ((coded_list coded_ℕ).inj x y (ap (λ g. head (tail g)) p) i)
+    ((coded_list (coded_list coded_ℕ)).inj vs ws (ap (λ g. head (tail (tail g))) p) i) (needs_inj r s (ap (λ g. tail (tail (tail g))) p) i)
 needs_inj (one_value x vs r) _ p = absurd (omega (arith, ap tag p))
-needs_inj (content x r) (content y s) p = λ i. content ((coded_list coded_ℕ).inj x y (ap (λ g. head (tail g)) p) i) (needs_inj r s (ap (λ g. tail (tail g)) p) i)
+needs_inj (content x r) (content y s) p = λ i. content ((coded_list coded_ℕ).inj x y (ap (λ g. head (tail g)) p) i)
+    (needs_inj r s (ap (λ g. tail (tail g)) p) i)
 needs_inj (content x r) _ p = absurd (omega (arith, ap tag p))
 needs_inj (order x y r) (order u v s) p =
-    λ i. order ((coded_list coded_ℕ).inj x u (ap (λ g. head (tail g)) p) i) ((coded_list coded_ℕ).inj y v (ap (λ g. head (tail (tail g))) p) i) (needs_inj r s (ap (λ g. tail (tail (tail g))) p) i)
+    λ i. order ((coded_list coded_ℕ).inj x u (ap (λ g. head (tail g)) p) i) ((coded_list coded_ℕ).inj y v (ap (λ g. head (tail (tail g))) p) i)
+    (needs_inj r s (ap (λ g. tail (tail (tail g))) p) i)
 needs_inj (order x y r) _ p = absurd (omega (arith, ap tag p))
 
 abbrev pub encoded_needs : Coded Needs

@@ -11,7 +11,7 @@ returns-in-Ok-read_line-clause-ok c =
     let same : map (λ s. s.now) c.deref.result.now ≡ c.args.words.now = ap (map (λ s. s.now)) c.deref.ensures.value ∙ c.in-Ok.ensures in
     let given : command_of c.args.words.now ≡ command_by (line_of c.in-Ok-read_line.line) =
     command_taken c.args.words.now c.in-Ok-read_line.line (subst IsTaken same read.ok.0) (read.ok.1 ∙ ap written_by same) in
-    IfOk-weaker c.command_by.result _ _ (λ x h. given ∙ h) c.command_by.ensures.ok
+    IfOk-weaker c.command_by.result _ _ (λ x h. (given ∙ h.0, h.1)) c.command_by.ensures.ok
 
 pub returns-in-Ok-read_line-clause-refused : goal.returns-in-Ok-read_line-clause-refused
 returns-in-Ok-read_line-clause-refused c =

@@ -7,7 +7,8 @@ use Rattle.bigwig.proofs.judging.load_page.Goals as goal
 
 pub returns-in-Ok-clause-answers : goal.returns-in-Ok-clause-answers
 returns-in-Ok-clause-answers g c =
-    front_answers _ _ page c.args.name.now _ _ 4195329 c.page_of.result (λ content a. page_all _ 4195329 content c.page_of.result refl a) c.in-Ok.ensures.found c.deref.ensures.value c.page_of.ensures.answers
+    front_answers _ _ page c.args.name.now _ _ 4195329 c.page_of.result
+    (λ content a. page_all _ 4195329 content c.page_of.result refl a) c.in-Ok.ensures.found c.deref.ensures.value c.page_of.ensures.answers
 
 pub returns-in-Err-clause-answers : goal.returns-in-Err-clause-answers
 returns-in-Err-clause-answers g c = told_first _ (λ disk. file disk c.args.name.now) (λ disk. page) c.in-Err.stop c.in-Err.ensures.stops

@@ -1,5 +1,13 @@
-use Rattle.bigwig.proofs.Due.{some_status, one_status, comes_where_due, does_its_work, door_faults_serve, valid_is_done}
+use Rattle.bigwig.proofs.Due.{some_status, one_status, comes_where_due, does_its_work, door_faults_serve, check_is_done, valid_is_done}
 use Rattle.bigwig.proofs.laws.one_outcome.Goals as goal
 
 pub returns : goal.returns
-returns c = record { some = some_status; one = one_status; comes = comes_where_due; complete = does_its_work; door_fault = door_faults_serve; valid = valid_is_done }
+returns c = record {
+  some = some_status;
+  one = one_status;
+  comes = comes_where_due;
+  complete = does_its_work;
+  door_fault = door_faults_serve;
+  check = check_is_done;
+  valid = valid_is_done;
+}

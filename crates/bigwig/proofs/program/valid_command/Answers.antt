@@ -10,9 +10,11 @@ use Rattle.bigwig.proofs.program.valid_command.Goals as goal
 pub returns-in-Ok-clause-comes : goal.returns-in-Ok-clause-comes
 returns-in-Ok-clause-comes g c =
     text_speaks _ (λ disk. work disk (Valid c.args.page.now c.args.schema.now)) (line (codes "valid")) _ _ _
-    (by_name _ (λ disk name. (work disk (Valid name c.args.schema.now)).gives (prints (line (codes "valid")))) _ _ c.as_str.ensures.text c.in-Ok.ensures.answers) c.print_line.ensures.prints
+    (by_name _ (λ disk name. (work disk (Valid name c.args.schema.now)).gives
+    (prints (line (codes "valid")))) _ _ c.as_str.ensures.text c.in-Ok.ensures.answers) c.print_line.ensures.prints
 
 pub returns-in-Err-clause-comes : goal.returns-in-Err-clause-comes
 returns-in-Err-clause-comes g c =
     stopped_speaks _ (λ disk. work disk (Valid c.args.page.now c.args.schema.now)) c.in-Err.stop _ _ _
-    (by_name _ (λ disk name. IsStop (work disk (Valid name c.args.schema.now)) c.in-Err.stop) _ _ c.as_str.ensures.text c.in-Err.ensures.answers) c.report.ensures.reported
+    (by_name _ (λ disk name.
+    IsStop (work disk (Valid name c.args.schema.now)) c.in-Err.stop) _ _ c.as_str.ensures.text c.in-Err.ensures.answers) c.report.ensures.reported

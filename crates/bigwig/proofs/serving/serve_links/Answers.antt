@@ -6,7 +6,8 @@ use Rattle.bigwig.proofs.serving.serve_links.Goals as goal
 
 pub links-init : goal.links-init
 links-init g c = record {
-  served = served_none _ (outside None (g.K.Keys.coming c.args.keys.now) (g.D.Door.asked c.args.door.now) (g.D.Door.coming c.args.door.now) (g.D.Door.returned c.args.door.now) c.args.steps.now);
+  served = served_none _ (outside None (g.K.Keys.coming c.args.keys.now) (g.D.Door.asked c.args.door.now) (g.D.Door.coming c.args.door.now)
+      (g.D.Door.returned c.args.door.now) c.args.steps.now);
   quiet = refl;
   asked = refl;
   service = refl;
@@ -15,23 +16,28 @@ links-init g c = record {
 pub returns-in-Err-clause-serves : goal.returns-in-Err-clause-serves
 returns-in-Err-clause-serves g c =
     over_fault c.links.turn _ _ _
-    (outside None (g.K.Keys.coming c.args.keys.now) (g.D.Door.asked c.args.door.now) (g.D.Door.coming c.args.door.now) (g.D.Door.returned c.args.door.now) c.args.steps.now)
+    (outside None (g.K.Keys.coming c.args.keys.now) (g.D.Door.asked c.args.door.now) (g.D.Door.coming c.args.door.now)
+    (g.D.Door.returned c.args.door.now) c.args.steps.now)
     (outside None (g.K.Keys.coming c.links.keys) (g.D.Door.asked c.links.door) (g.D.Door.coming c.links.door) (g.D.Door.returned c.links.door) c.links.steps)
-    (outside None (g.K.Keys.coming c.links.keys) (g.D.Door.asked c.next.new.self) (g.D.Door.coming c.next.new.self) (g.D.Door.returned c.next.new.self) c.links.steps)
+    (outside None (g.K.Keys.coming c.links.keys) (g.D.Door.asked c.next.new.self) (g.D.Door.coming c.next.new.self)
+    (g.D.Door.returned c.next.new.self) c.links.steps)
     c.links-test.true c.links.invariant.served c.in-Err.ensures.kept c.in-Err.ensures.returned refl refl
 
 pub returns-in-Ok-None-clause-serves : goal.returns-in-Ok-None-clause-serves
 returns-in-Ok-None-clause-serves g c =
     over_none g.D.Link.Channel.left g.D.Link.Channel.held c.links.turn _ _ _
-    (outside None (g.K.Keys.coming c.args.keys.now) (g.D.Door.asked c.args.door.now) (g.D.Door.coming c.args.door.now) (g.D.Door.returned c.args.door.now) c.args.steps.now)
+    (outside None (g.K.Keys.coming c.args.keys.now) (g.D.Door.asked c.args.door.now) (g.D.Door.coming c.args.door.now)
+    (g.D.Door.returned c.args.door.now) c.args.steps.now)
     (outside None (g.K.Keys.coming c.links.keys) (g.D.Door.asked c.links.door) (g.D.Door.coming c.links.door) (g.D.Door.returned c.links.door) c.links.steps)
-    (outside None (g.K.Keys.coming c.links.keys) (g.D.Door.asked c.next.new.self) (g.D.Door.coming c.next.new.self) (g.D.Door.returned c.next.new.self) c.links.steps)
+    (outside None (g.K.Keys.coming c.links.keys) (g.D.Door.asked c.next.new.self) (g.D.Door.coming c.next.new.self)
+    (g.D.Door.returned c.next.new.self) c.links.steps)
     _ c.links-test.true c.links.invariant.served c.in-Ok-None.field-0-is c.in-Ok-None.ensures.arrived c.in-Ok-None.ensures.returned refl refl
 
 pub returns-clause-serves : goal.returns-clause-serves
 returns-clause-serves g c =
     over_most c.links.turn _ _ _
-    (outside None (g.K.Keys.coming c.args.keys.now) (g.D.Door.asked c.args.door.now) (g.D.Door.coming c.args.door.now) (g.D.Door.returned c.args.door.now) c.args.steps.now)
+    (outside None (g.K.Keys.coming c.args.keys.now) (g.D.Door.asked c.args.door.now) (g.D.Door.coming c.args.door.now)
+    (g.D.Door.returned c.args.door.now) c.args.steps.now)
     (outside None (g.K.Keys.coming c.links.keys) (g.D.Door.asked c.links.door) (g.D.Door.coming c.links.door) (g.D.Door.returned c.links.door) c.links.steps)
     c.links.invariant.served (omega (arith, c.links.auto.turn-end, c.links-test.false))
 
@@ -43,16 +49,20 @@ links-preserved g c =
     let fresh = of_link (λ l. (ch.read_faults l ≡ 0) × (ch.write_faults l ≡ 0)) c.in-Ok-Some.field-0 link c.in-Ok-Some.field-0-is c.in-Ok-Some.ensures.fresh in
     record {
       served = served_more ch.left ch.held c.links.turn _ c.links.world c.answer-end.new.world
-          (outside None (g.K.Keys.coming c.args.keys.now) (g.D.Door.asked c.args.door.now) (g.D.Door.coming c.args.door.now) (g.D.Door.returned c.args.door.now) c.args.steps.now)
-          (outside None (g.K.Keys.coming c.links.keys) (g.D.Door.asked c.links.door) (g.D.Door.coming c.links.door) (g.D.Door.returned c.links.door) c.links.steps)
-          (outside None (g.K.Keys.coming c.answer-end.new.keys) (g.D.Door.asked c.give_back.new.self) (g.D.Door.coming c.give_back.new.self) (g.D.Door.returned c.give_back.new.self) c.answer-end.new.steps)
+          (outside None (g.K.Keys.coming c.args.keys.now) (g.D.Door.asked c.args.door.now) (g.D.Door.coming c.args.door.now)
+          (g.D.Door.returned c.args.door.now) c.args.steps.now)
+          (outside None (g.K.Keys.coming c.links.keys) (g.D.Door.asked c.links.door) (g.D.Door.coming c.links.door)
+          (g.D.Door.returned c.links.door) c.links.steps)
+          (outside None (g.K.Keys.coming c.answer-end.new.keys) (g.D.Door.asked c.give_back.new.self) (g.D.Door.coming c.give_back.new.self)
+          (g.D.Door.returned c.give_back.new.self) c.answer-end.new.steps)
           (g.D.Door.coming c.next.new.self) (g.D.Door.returned c.next.new.self) c.in-Ok-Some.field-0 link
           (record { unread = ch.left after; written = ch.held after; read_faults = ch.read_faults after; write_faults = ch.write_faults after })
           (place ch c.links.world c.clear.new.self link (g.K.Keys.coming c.links.keys) c.links.steps)
           (place ch c.answer-end.new.world c.answer-end.new.intake after (g.K.Keys.coming c.answer-end.new.keys) c.answer-end.new.steps)
           c.answer-end.result
           c.links.invariant.served c.links.invariant.service c.in-Ok-Some.field-0-is c.in-Ok-Some.ensures.arrived refl c.clear.ensures refl refl refl refl
-          c.answer-end.ensures.answers refl refl (shows_first _ _ _ fresh.0 c.answer-end.ensures.read_fault) (shows_first _ _ _ fresh.1 c.answer-end.ensures.write_fault)
+          c.answer-end.ensures.answers c.answer-end.ensures.pages refl refl (shows_first _ _ _ fresh.0 c.answer-end.ensures.read_fault)
+          (shows_first _ _ _ fresh.1 c.answer-end.ensures.write_fault)
           refl refl refl c.give_back.ensures.coming c.in-Ok-Some.ensures.returned c.give_back.ensures.returned;
       quiet = c.give_back.ensures.quiet ∙ c.in-Ok-Some.ensures.cause.quiet ∙ c.links.invariant.quiet;
       asked = c.give_back.ensures.asked ∙ c.in-Ok-Some.ensures.asked ∙ c.links.invariant.asked;

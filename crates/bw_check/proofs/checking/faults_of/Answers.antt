@@ -4,8 +4,8 @@ use Rattle.bw_check.proofs.PagePlaces.{pieces_have_pages}
 use Rattle.bw_check.proofs.Whole.{service_listed}
 use Rattle.bw_check.proofs.checking.faults_of.Goals as goal
 
-pub judge_in_turn-requires-clause-pages : goal.judge_in_turn-requires-clause-pages
-judge_in_turn-requires-clause-pages g c κs within =
+pub judge_pieces-requires-clause-pages : goal.judge_pieces-requires-clause-pages
+judge_pieces-requires-clause-pages g c κs within =
     pieces_have_pages c.args.typed.now.service c.as_slice.result.now
     (c.as_slice.ensures.value ∙ c.in_ok-pieces.ensures ∙ ap (λ f. pages_from 0 f.steps) c.requires.lowered)
 

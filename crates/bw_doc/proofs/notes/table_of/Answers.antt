@@ -9,4 +9,5 @@ add-requires c =
 pub loop-note-preserved : goal.loop-note-preserved
 loop-note-preserved c =
     let x = c.note-item.result in
-    table_noted c.args.notes.now c.loop-note.note-index x x c.loop-note.table c.add.new.self c.note-item.is c.loop-note-test.true c.loop-note.invariant c.in_ok-add.ensures
+    table_noted c.args.notes.now c.loop-note.note-index x x c.loop-note.table c.add.new.self c.note-item.is c.loop-note-test.true c.loop-note.invariant
+    c.in_ok-add.ensures

@@ -1,4 +1,5 @@
-use Rattle.bw_http.proofs.Streams.{message_unique, denied_exact, message_exact, end_exact}
+use Rattle.bw_http.proofs.Streams.{message_unique, denied_exact}
+use Rattle.bw_http.proofs.Due.{message_exact, end_exact}
 use Rattle.bw_http.proofs.OnePath.{one_request}
 use Rattle.bw_http.proofs.laws.cuts_exactly.Goals as goal
 

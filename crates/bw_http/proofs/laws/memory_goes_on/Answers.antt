@@ -1,4 +1,4 @@
-use Rattle.bw_http.proofs.Streams.{memory_goes_on}
+use Rattle.bw_http.proofs.Due.{memory_goes_on}
 use Rattle.bw_http.proofs.laws.memory_goes_on.Goals as goal
 
 pub returns : goal.returns

@@ -11,7 +11,8 @@ pub returns-in-First-clause-inside : goal.returns-in-First-clause-inside
 returns-in-First-clause-inside g c =
     let flow = c.args.flow.now.steps in
     subst (λ q. q < length flow) (sym (c.first_of.ensures
-    ∙ ap first_of c.as_slice.ensures)) ((can_walk c.args.typed.now c.args.flow.now c.requires.flow).first c.args.at (seen c.in-Some.point.now) c.in-Some.ensures)
+    ∙ ap first_of c.as_slice.ensures)) ((can_walk c.args.typed.now c.args.flow.now c.requires.flow).first c.args.at
+    (seen c.in-Some.point.now) c.in-Some.ensures)
 
 pub returns-in-First-clause-less : goal.returns-in-First-clause-less
 returns-in-First-clause-less g c =
@@ -25,7 +26,8 @@ pub returns-in-Second-clause-inside : goal.returns-in-Second-clause-inside
 returns-in-Second-clause-inside g c =
     let flow = c.args.flow.now.steps in
     subst (λ q. q < length flow) (sym (c.second_of.ensures
-    ∙ ap second_of c.as_slice-in-Second.ensures)) ((can_walk c.args.typed.now c.args.flow.now c.requires.flow).second c.args.at (seen c.in-Some.point.now) c.in-Some.ensures)
+    ∙ ap second_of c.as_slice-in-Second.ensures)) ((can_walk c.args.typed.now c.args.flow.now c.requires.flow).second c.args.at
+    (seen c.in-Some.point.now) c.in-Some.ensures)
 
 pub returns-in-Second-clause-less : goal.returns-in-Second-clause-less
 returns-in-Second-clause-less g c =

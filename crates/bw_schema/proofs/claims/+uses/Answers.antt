@@ -14,4 +14,5 @@ use_formulas-use_formula-requires t c =
 pub use_formulas-loop-formula-preserved : goal.use_formulas-loop-formula-preserved
 use_formulas-loop-formula-preserved t c =
     c.in_ok-use_formula.ensures ∙ ap (λ (m : List Mark). m ++ used_in c.args.rule (one c.formula-item.result)) c.loop-formula.invariant
-    ∙ sym (used_more c.args.rule c.as_slice-formula-items.result.now c.loop-formula.formula-index c.formula-item.result c.args.marks.now c.formula-item.is c.loop-formula-test.true)
+    ∙ sym (used_more c.args.rule c.as_slice-formula-items.result.now c.loop-formula.formula-index c.formula-item.result c.args.marks.now c.formula-item.is
+    c.loop-formula-test.true)

@@ -2,7 +2,7 @@ use Rattle.std.proofs.Common.{ap, sym, ◌∙◌}
 use Rattle.bw_schema.specs.Forms.{is_nothing}
 use Rattle.bw_schema.specs.Needs.{Needs}
 use Rattle.bw_schema.specs.Steps.Reading.{formula_at}
-use Rattle.bw_schema.proofs.Complete.{all_needs, formula_less, no_depth, onto, onto_more, onto_none, parts_found, some_needs}
+use Rattle.bw_schema.proofs.FormulaLoops.{all_needs, formula_less, no_depth, onto, onto_more, onto_none, parts_found, some_needs}
 use Rattle.bw_schema.proofs.formulas.+formulas.Goals as goal
 
 pub needs_at-parts-smaller : goal.needs_at-parts-smaller
@@ -11,7 +11,8 @@ needs_at-parts-smaller t c = formula_less c.args.depth c.parts.rest.now (c.in-Ok
 pub needs_at-parts-preserved : goal.needs_at-parts-preserved
 needs_at-parts-preserved t c =
     ap (λ (n : Needs). onto n (all_needs c.args.depth c.in-Ok.behind.now)) c.in_ok-push-in-Ok.ensures.ok
-    ∙ onto_more c.args.depth c.parts.needs c.parts.rest.now (c.in-Ok.formula, c.in-Ok.behind.now) (all_needs c.args.depth c.args.words.now) c.in-Ok.ensures c.parts.invariant
+    ∙ onto_more c.args.depth c.parts.needs c.parts.rest.now (c.in-Ok.formula, c.in-Ok.behind.now)
+    (all_needs c.args.depth c.args.words.now) c.in-Ok.ensures c.parts.invariant
 
 pub needs_at-returns-in-Err-Malformed : goal.needs_at-returns-in-Err-Malformed
 needs_at-returns-in-Err-Malformed t c =

@@ -1,5 +1,5 @@
 use Rattle.std.proofs.Common.{◌≡◌, ◌+◌, ◌*◌, length}
-use Rattle.bw_schema.proofs.Complete.{all_needs, onto}
+use Rattle.bw_schema.proofs.FormulaLoops.{all_needs, onto}
 use Rattle.bw_schema.proofs.formulas.+formulas.Given as goal
 
 abbrev pub decreases-formula_at : goal.decreases-formula_at

@@ -1,4 +1,4 @@
-use Rattle.bw_schema.proofs.Schemas.{one_schema, not_both, one_reason, read_or_refused}
+use Rattle.bw_schema.proofs.SchemaLaws.{one_schema, not_both, one_reason, read_or_refused}
 use Rattle.bw_schema.proofs.laws.decided.Goals as goal
 
 pub returns : goal.returns

@@ -12,9 +12,14 @@ returns-in_err-root-clause-refused c =
 
 pub invariant_of-result : goal.invariant_of-result
 invariant_of-result c = record {
-  readable = ∣ (c.args.bytes.now, subst (λ (rules : List Rule). Reads c.args.bytes.now c.in_ok-root.root rules) (sym c.from_vec.ensures) (read_is c.args.bytes.now c.in_ok-root.root c.in_ok-root.rules.items c.in_ok-root.ensures)) ∣₁;
+  readable = ∣ (
+    c.args.bytes.now,
+    subst (λ (rules : List Rule). Reads c.args.bytes.now c.in_ok-root.root rules) (sym c.from_vec.ensures)
+        (read_is c.args.bytes.now c.in_ok-root.root c.in_ok-root.rules.items c.in_ok-root.ensures),
+  ) ∣₁;
 }
 
 pub returns-clause-ok : goal.returns-clause-ok
 returns-clause-ok c =
-    subst (λ (rules : List Rule). Reads c.args.bytes.now c.in_ok-root.root rules) (sym c.from_vec.ensures) (read_is c.args.bytes.now c.in_ok-root.root c.in_ok-root.rules.items c.in_ok-root.ensures)
+    subst (λ (rules : List Rule). Reads c.args.bytes.now c.in_ok-root.root rules) (sym c.from_vec.ensures)
+    (read_is c.args.bytes.now c.in_ok-root.root c.in_ok-root.rules.items c.in_ok-root.ensures)

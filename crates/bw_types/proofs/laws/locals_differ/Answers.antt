@@ -15,4 +15,5 @@ use Rattle.bw_types.proofs.laws.locals_differ.Goals as goal
 pub returns : goal.returns
 returns c = λ s r h.
     all_so (Walked s) (λ (x : Session). AllPairs (λ v w. v ≢ w) (local_names x.body) × All (λ w. ¬ (Contains (declared_names s) w)) (local_names x.body))
-    (λ x f. let o = locals_own s no_locals x.body f.body (record { differ = none_differ; apart = All-nil (λ w. ¬ (Contains (declared_names s) w)) }) in (o.differ, o.apart)) s.sessions (sessions_none s (readable_is_woven s r) h)
+    (λ x f. let o = locals_own s no_locals x.body f.body (record { differ = none_differ; apart = All-nil (λ w. ¬ (Contains (declared_names s) w)) }) in
+    (o.differ, o.apart)) s.sessions (sessions_none s (readable_is_woven s r) h)

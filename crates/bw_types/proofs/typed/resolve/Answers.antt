@@ -5,7 +5,8 @@ use Rattle.bw_types.proofs.First.{told, told_memory}
 use Rattle.bw_types.proofs.typed.resolve.Goals as goal
 
 pub returns-in_err-check-clause-fault : goal.returns-in_err-check-clause-fault
-returns-in_err-check-clause-fault c = told c.from_residual-in_err-check.result c.in_err-check.field-0.0 (faults_of c.args.service) c.from_residual-in_err-check.ensures.1 c.in_err-check.ensures.first
+returns-in_err-check-clause-fault c = told c.from_residual-in_err-check.result c.in_err-check.field-0.0
+    (faults_of c.args.service) c.from_residual-in_err-check.ensures.1 c.in_err-check.ensures.first
 
 pub of-fields-requires : goal.of-fields-requires
 of-fields-requires c = omega (arith, ap length c.in_ok-names.ensures, (readable_is_small c.args.service ∣ c.requires ∣₁).fields)

@@ -18,4 +18,5 @@ first_broken-returns-in-Err-clause-err t c =
     let xs = c.as_slice-item-items.result.now in
     let it = rw c.loop-item.invariant.1 at c.in-Err.ensures.err in
     ap (first_broken c.args.rules.now c.args.start) (sym c.as_slice-item-items.ensures)
-    ∙ broken_there c.args.rules.now c.args.start xs c.loop-item.item-index c.item-item.result c.in-Err.breach c.item-item.is c.loop-item-test.true c.loop-item.invariant.0 it
+    ∙ broken_there c.args.rules.now c.args.start xs c.loop-item.item-index c.item-item.result c.in-Err.breach c.item-item.is c.loop-item-test.true
+    c.loop-item.invariant.0 it

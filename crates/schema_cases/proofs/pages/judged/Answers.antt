@@ -8,5 +8,6 @@ use Rattle.schema_cases.proofs.pages.judged.Goals as goal
 pub valid-requires : goal.valid-requires
 valid-requires c =
     let r = c.in-Ok.ensures.items in
-    let t : IsTemplate [] 512 c.args.page.now c.in-Ok.items = record { pieces = r.pieces; spelled = r.spelled.spells; once = r.once; reads = r.reads; nested = r.nested } in
+    let t : IsTemplate [] 512 c.args.page.now c.in-Ok.items =
+    record { pieces = r.pieces; spelled = r.spelled.spells; once = r.once; reads = r.reads; nested = r.nested } in
     omega (arith, c.if-page-gt-MAX_BYTES.false, items_bounded [] 512 c.args.page.now c.in-Ok.items t, parts_weigh c.in-Ok.items)

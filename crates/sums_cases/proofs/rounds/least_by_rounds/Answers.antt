@@ -12,7 +12,8 @@ returns-then-are_below g c =
     let below = g.S.Value.Lattice.below in
     let f : ℕ → g.row.S-Value.Denot = family empty c.rounds.values.items in
     least_all g.met.S.Value.Lattice.laws (g.met.S.System.laws system) f c.rounds.invariant.partial (λ d h.
-    subst (λ v. below v (f d) ≡ true) (◌∙◌ {b = transfer d (family empty c.deref.result.now)} (c.in_ok-next.ensures.each d h) (ap (λ xs. transfer d (family empty xs)) c.deref.ensures.value))
+    subst (λ v. below v (f d) ≡ true) (◌∙◌ {b = transfer d (family empty c.deref.result.now)} (c.in_ok-next.ensures.each d h)
+    (ap (λ xs. transfer d (family empty xs)) c.deref.ensures.value))
     (subst (λ ys. below (family empty c.in_ok-next.next.items d) (family empty ys d) ≡ true) c.deref-in-rounds-2.ensures.value
     (subst (λ xs. below (family empty xs d) (family empty c.deref-in-rounds-2.result.now d) ≡ true) c.deref-in-rounds.ensures.value
     (c.are_below.ensures c.if-are_below.true d h))))
@@ -27,5 +28,6 @@ rounds-preserved g c =
     record {
       len = c.in_ok-next.ensures.len;
       partial = partial_round g.met.S.Value.Lattice.laws (g.met.S.System.laws system) f next c.rounds.invariant.partial
-          (λ d h. ◌∙◌ {b = transfer d (family empty c.deref.result.now)} (c.in_ok-next.ensures.each d h) (ap (λ xs. transfer d (family empty xs)) c.deref.ensures.value));
+          (λ d h. ◌∙◌ {b = transfer d (family empty c.deref.result.now)} (c.in_ok-next.ensures.each d h)
+          (ap (λ xs. transfer d (family empty xs)) c.deref.ensures.value));
     }

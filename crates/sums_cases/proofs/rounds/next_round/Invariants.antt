@@ -5,5 +5,6 @@ use Rattle.sums_cases.proofs.rounds.next_round.Given as goal
 abbrev pub invariant-loop-cell : goal.invariant-loop-cell
 invariant-loop-cell g l = record {
   len : vec_len l.next ≡ l.cell;
-  each : (k : ℕ) → k < l.cell → family (g.S.System.empty l.system) l.next.items k ≡ g.S.System.transfer l.system k (family (g.S.System.empty l.system) l.values);
+  each : (k : ℕ) → k < l.cell → family (g.S.System.empty l.system) l.next.items k ≡ g.S.System.transfer l.system k
+      (family (g.S.System.empty l.system) l.values);
 }

@@ -16,4 +16,5 @@ returns-in_err-total-clause-none c none =
     let over = c.in_err-total.ensures in
     let own = c.in_ok-weight.ensures.some in
     let before = c.loop-variable.invariant in
-    subst (λ l. 18446744073709551616 ≤ weights (values l)) (ap (map pair) c.deref-variable-items.ensures.value ∙ c.self.view_is) (omega (arith, reach, over, own, before))
+    subst (λ l. 18446744073709551616 ≤ weights (values l)) (ap (map pair) c.deref-variable-items.ensures.value ∙ c.self.view_is)
+    (omega (arith, reach, over, own, before))

@@ -9,7 +9,8 @@ pub invariant_of-self-in-Err : goal.invariant_of-self-in-Err
 invariant_of-self-in-Err c =
     let e = c.deref.ensures.value in
     let is =
-    inserted fault_total c.self.inside.list.items c.args.fault c.in-Err.place c.self.invariant (rw e at c.in-Err.ensures.bound) (rw e at c.in-Err.ensures.position) in
+    inserted fault_total c.self.inside.list.items c.args.fault c.in-Err.place c.self.invariant (rw e at c.in-Err.ensures.bound)
+    (rw e at c.in-Err.ensures.position) in
     rw (c.in_ok-insert-in-Err.ensures.items, is) (merge_set fault_total c.self.inside.list.items (c.args.fault ∷ []) c.self.invariant (tt, tt))
 
 pub returns-in-Ok-clause-ok : goal.returns-in-Ok-clause-ok
@@ -22,5 +23,6 @@ pub returns-in_ok-insert-in-Err-clause-ok : goal.returns-in_ok-insert-in-Err-cla
 returns-in_ok-insert-in-Err-clause-ok c =
     let e = c.deref.ensures.value in
     let is =
-    inserted fault_total c.self.inside.list.items c.args.fault c.in-Err.place c.self.invariant (rw e at c.in-Err.ensures.bound) (rw e at c.in-Err.ensures.position) in
+    inserted fault_total c.self.inside.list.items c.args.fault c.in-Err.place c.self.invariant (rw e at c.in-Err.ensures.bound)
+    (rw e at c.in-Err.ensures.position) in
     c.in_ok-insert-in-Err.ensures.items ∙ is ∙ ap (λ xs. merge fault_cmp xs (c.args.fault ∷ [])) c.self.view_is

@@ -1,6 +1,7 @@
 use Rattle.std.proofs.lemmas.Result.{on_ok_weaker}
-use Rattle.bw_flow.proofs.Drafts.{comes_next, comes_last, declared_one, assigned_one, shown_one, exited_one, if_one, if_other_one, while_one, each_one}
-use Rattle.bw_flow.proofs.Drafts.{block_one}
+use Rattle.bw_flow.proofs.Drafts.{comes_next, comes_last}
+use Rattle.bw_flow.proofs.DraftStatements.{declared_one, assigned_one, shown_one, exited_one, if_one, if_other_one, while_one, each_one}
+use Rattle.bw_flow.proofs.DraftStatements.{block_one}
 use Rattle.std.proofs.Common.{◌∙◌, ◌+◌}
 use Rattle.bw_flow.proofs.draft.Draft.+block.Goals as goal
 

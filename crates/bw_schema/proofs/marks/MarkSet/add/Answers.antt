@@ -11,5 +11,6 @@ returns c =
     let ks = c.self.inside.marks.keys in
     let e : mark_of m ≡ mark_of c.args.mark.now = c.in_ok-of.ensures ∙ ap (mark c.args.mark.now.rule c.args.mark.now.kind) c.as_str.ensures.value in
     ap (map mark_of) c.in_ok-insert.ensures.keys
-    ∙ insert_fresh m ks (ap (λ (k : Mark). list_any (same_mark k) (map mark_of ks)) e ∙ ap (λ (t : List Mark). list_any (same_mark (mark_of c.args.mark.now)) t) c.self.view_is ∙ c.requires)
+    ∙ insert_fresh m ks (ap (λ (k : Mark). list_any (same_mark k) (map mark_of ks)) e
+    ∙ ap (λ (t : List Mark). list_any (same_mark (mark_of c.args.mark.now)) t) c.self.view_is ∙ c.requires)
     ∙ (λ i. c.self.view_is i ++ e i ∷ [])

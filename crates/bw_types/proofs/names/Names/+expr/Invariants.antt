@@ -21,4 +21,5 @@ decreases-pair l = 2 * nodes (term l.pair.now.value) + 1
 
 -- the faults are those from here on
 abbrev pub invariant-pairs-loop-pair : goal.invariant-pairs-loop-pair
-invariant-pairs-loop-pair l = faults_in_pairs l.self.service.now l.locals (fillings l.pair-items) ≡ faults_in_pairs l.self.service.now l.locals (fillings (drop l.pair-index l.pair-items))
+invariant-pairs-loop-pair l = faults_in_pairs l.self.service.now l.locals (fillings l.pair-items) ≡ faults_in_pairs l.self.service.now l.locals
+    (fillings (drop l.pair-index l.pair-items))

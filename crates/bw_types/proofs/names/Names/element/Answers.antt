@@ -10,4 +10,5 @@ returns-in_err-control-clause-first c =
     let s = c.args.self.now.service.now in let e = c.args.element.now in
     exits c.from_residual-in_err-control.result c.in_err-control.field-0.0 (flat_map (field_fault s) (field_of e.tag e.attrs)) _ _
     c.from_residual-in_err-control.ensures.1 c.in_err-control.ensures.first
-    (element-passes s c.args.template.now e.tag e.attrs (sym c.is_reserved.ensures ∙ c.if-is_reserved.false) (sym c.is_file_input.ensures ∙ c.if-is_file_input.false) (sym c.is_bad_control.ensures ∙ c.if-is_bad_control.false))
+    (element-passes s c.args.template.now e.tag e.attrs (sym c.is_reserved.ensures ∙ c.if-is_reserved.false)
+    (sym c.is_file_input.ensures ∙ c.if-is_file_input.false) (sym c.is_bad_control.ensures ∙ c.if-is_bad_control.false))

@@ -24,7 +24,8 @@ returns-then-is_some c =
     let n = c.args.self.now in let s = n.service.now in let w = c.args.name.now in
     c.if-is_some.true
     ∙ sym (declared_by s (readable_is_woven s n.readable) n.known w
-    ∙ by_second (is_among w n.tables.now.templates) (is_some (beside w n.tables.now.shared)) (is_among w n.tables.now.sessions) (sym c.has.ensures ∙ c.if-has.false)
+    ∙ by_second (is_among w n.tables.now.templates) (is_some (beside w n.tables.now.shared)) (is_among w n.tables.now.sessions)
+    (sym c.has.ensures ∙ c.if-has.false)
     (ap is_some (sym c.get.ensures) ∙ sym c.is_some.ensures ∙ c.if-is_some.true))
 
 pub returns-else-is_some : goal.returns-else-is_some
@@ -32,5 +33,6 @@ returns-else-is_some c =
     let n = c.args.self.now in let s = n.service.now in let w = c.args.name.now in
     c.has-else-is_some.ensures
     ∙ sym (declared_by s (readable_is_woven s n.readable) n.known w
-    ∙ by_third (is_among w n.tables.now.templates) (is_some (beside w n.tables.now.shared)) (is_among w n.tables.now.sessions) (sym c.has.ensures ∙ c.if-has.false)
+    ∙ by_third (is_among w n.tables.now.templates) (is_some (beside w n.tables.now.shared)) (is_among w n.tables.now.sessions)
+    (sym c.has.ensures ∙ c.if-has.false)
     (ap is_some (sym c.get.ensures) ∙ sym c.is_some.ensures ∙ c.if-is_some.false))

@@ -12,4 +12,5 @@ returns-in_err-receive-clause-first c =
 pub loop-receive-preserved : goal.loop-receive-preserved
 loop-receive-preserved c =
     let f = receive_fault c.args.self.now.service.now c.args.locals.now in let x = c.receive-item.result in
-    passed _ (f x) _ (at_element (flat_map f) f (λ y ys. refl) _ _ x _ c.loop-receive.invariant c.receive-item.is c.loop-receive-test.true) c.in_ok-receive.ensures.none
+    passed _ (f x) _ (at_element (flat_map f) f (λ y ys.
+    refl) _ _ x _ c.loop-receive.invariant c.receive-item.is c.loop-receive-test.true) c.in_ok-receive.ensures.none

@@ -8,7 +8,7 @@ use Rattle.bw_world.proofs.world.World.first_turn.Goals as goal
 pub returns-clause-turn : goal.returns-clause-turn
 returns-clause-turn g c m =
     let is = ap (λ (t : Typed). t.service) c.typed.ensures ∙ ap (λ (z : Seen). z.service) c.self.view_is in
-    let lowered = c.flow.ensures ∙ ap (λ (t : Typed). plan_of t.service) (sym c.typed.ensures) in
+    let lowered = c.flow.ensures ∙ c.self.inside.checked.lowered ∙ ap (λ (t : Typed). plan_of t.service) (sym c.typed.ensures) in
     first_is c.args.self.now c.typed.result.now c.flow.result.now c.self.inside.shared is lowered (ap (λ (z : Seen). z.shared) c.self.view_is)
     c.args.session c.args.steps.now c.start.new.steps c.start.result (c.start.ensures.turn m)
 

@@ -11,7 +11,7 @@ use Rattle.bw_world.proofs.world.World.next_turn.Goals as goal
 pub returns-clause-turn : goal.returns-clause-turn
 returns-clause-turn g c m =
     let is = ap (λ (t : Typed). t.service) c.typed.ensures ∙ ap (λ (z : Seen). z.service) c.self.view_is in
-    let lowered = c.flow.ensures ∙ ap (λ (t : Typed). plan_of t.service) (sym c.typed.ensures) in
+    let lowered = c.flow.ensures ∙ c.self.inside.checked.lowered ∙ ap (λ (t : Typed). plan_of t.service) (sym c.typed.ensures) in
     let frame = c.args.one.now.frame in
     let own = subst (λ (p : Plan). IsOf c.typed.result.now.service c.args.one.now.session (number_at p.steps frame.point)) (sym lowered)
     (subst (λ v. IsOf v c.args.one.now.session (number_at (flow_of v) frame.point)) (sym is) c.requires.fit.own) in

@@ -1,0 +1,147 @@
+-- Each question has an answer: it gives a value, or something is said.
+use Rattle.std.proofs.Common.{◌≡◌, ◌⊎◌, codes, ℕ, List, [], ◌∷◌, Option, None, Some, refl, inl, inr}
+use Rattle.bw_lang.specs.Document.Forest.{Forest}
+use Rattle.bw_lang.specs.declared.service.Service.{Service}
+use Rattle.bw_make.specs.Made.{made}
+use Rattle.bw_out.specs.Told.{Disk}
+use Rattle.bw_read.proofs.Decided.{page_or_none}
+use Rattle.bw_schema.specs.declared.schema.Schema.{Schema}
+use Rattle.bw_schema.proofs.SchemaLaws.{read_or_refused as read_or_refused_schema}
+use Rattle.bw_syntax.proofs.Answered.{always}
+use Rattle.bw_types.specs.Faults.{faults_of, first_member}
+use Rattle.bw_types.specs.declared.fault.TypeFault.{TypeFault}
+use Rattle.bw_valid.specs.Breaches.{breach}
+use Rattle.bw_valid.specs.declared.breach.Breach.{Breach}
+use Rattle.bw_valid.proofs.BreachLaws.{valid_decided}
+use Rattle.bigwig.specs.Asked.{page, page_file, rules, schema, built_in, judged, ruled}
+use Rattle.bigwig.specs.Asked.Work.{prints}
+use Rattle.bigwig.specs.Asked.{command, file, read, typed, service_file, service_text, checked, checked_by, accepted_file, accepted_text}
+use Rattle.bigwig.specs.Asked.{accepted, replayed, at_port, turned, work, asked, usage_line}
+use Rattle.bigwig.specs.Commands.{command_of}
+use Rattle.bigwig.specs.FaultLines.{check_text, page_names}
+use Rattle.bigwig.specs.Laws.{HasVerdict, Checks}
+use Rattle.bigwig.specs.Lines.{syntax_line, type_line, no_file_line, no_page_line, breach_line, schema_line}
+use Rattle.bigwig.specs.Questions.{Said, Question, ◌>>=◌, found, line}
+use Rattle.bigwig.specs.declared.command.Command.{Command}
+use Rattle.bigwig.specs.declared.command.Command.TheVariants.{Check, Replay, Serve, Valid, Make}
+use Rattle.bigwig.specs.declared.status.Status.TheVariants.{Usage, NoFile, ServiceRefused, SchemaRefused, PageRefused}
+
+abbrev pub HasAnswer : {A : Type 0} → Question A → Type 0
+HasAnswer {A = A} question = ((a : A) × question.gives a) ⊎ ((said : Said) × question.says said)
+
+-- two questions, one after the other
+then_some : {A B : Type 0} (q : Question A) (next : A → Question B) → HasAnswer q → ((a : A) → q.gives a → HasAnswer (next a)) → HasAnswer (q >>= next)
+then_some q next d e = elim d as (λ _. HasAnswer (q >>= next)) [
+  | inl x ↦ elim (e x.0 x.1) as (λ _. HasAnswer (q >>= next)) [
+    | inl y ↦ inl (y.0, (x.0, x.1, y.1))
+    | inr y ↦ inr (y.0, inr (x.0, x.1, y.1))
+  ]
+  | inr x ↦ inr (x.0, inl x.1)
+]
+
+found_some : {A : Type 0} (a : A) → HasAnswer (found a)
+found_some a = inl (a, refl)
+
+-- a value that an option has, or what is said where it has none
+option_some : {A : Type 0} (o : Option A) (said : Said) → HasAnswer (record { gives = λ a. o ≡ Some a; says = λ s. (o ≡ None) × (s ≡ said) })
+option_some None said = inr (said, (refl, refl))
+option_some (Some a) said = inl (a, refl)
+
+command_some : (words : List (List ℕ)) → HasAnswer (command words)
+command_some words = option_some (command_of words) (record { status = Usage; text = usage_line })
+
+file_some : (disk : Disk) (name : List ℕ) → HasAnswer (file disk name)
+file_some disk name = option_some (disk name) (record { status = NoFile; text = line (no_file_line name) })
+
+read_some : (content : List ℕ) → HasAnswer (read content)
+read_some content = elim (always content) as (λ _. HasAnswer (read content)) [
+  | inl x ↦ inl x
+  | inr x ↦ inr (record { status = ServiceRefused; text = line (syntax_line x.0) }, (x.0, x.2, x.1, refl))
+]
+
+-- a list of faults is empty or has a first one
+none_or_first : (l : List TypeFault) → (l ≡ []) ⊎ ((fault : TypeFault) × (first_member l ≡ Some fault))
+none_or_first [] = inl refl
+none_or_first (f ∷ l) = inr (f, refl)
+
+typed_some : (tree : Service) → HasAnswer (typed tree)
+typed_some tree = elim (none_or_first (faults_of tree)) as (λ _. HasAnswer (typed tree)) [
+  | inl x ↦ inl (tree, (refl, x))
+  | inr x ↦ inr (record { status = ServiceRefused; text = line (type_line x.0) }, (x.0, x.1, refl))
+]
+
+service_text_some : (text : List ℕ) → HasAnswer (service_text text)
+service_text_some text = then_some (read text) typed (read_some text) (λ tree _. typed_some tree)
+
+service_file_some : (disk : Disk) (name : List ℕ) → HasAnswer (service_file disk name)
+service_file_some disk name =
+    then_some (file disk name >>= read) typed (then_some (file disk name) read (file_some disk name) (λ content _. read_some content))
+    (λ tree _. typed_some tree)
+
+page_some : (content : List ℕ) → HasAnswer (page content)
+page_some content = elim (page_or_none content) as (λ _. HasAnswer (page content)) [
+  | inl x ↦ inl x
+  | inr x ↦ inr (record { status = PageRefused; text = line no_page_line }, (x, refl))
+]
+
+page_file_some : (disk : Disk) (name : List ℕ) → HasAnswer (page_file disk name)
+page_file_some disk name = then_some (file disk name) page (file_some disk name) (λ content _. page_some content)
+
+rules_some : (content : List ℕ) → HasAnswer (rules content)
+rules_some content = elim (read_or_refused_schema content) as (λ _. HasAnswer (rules content)) [
+  | inl x ↦ inl (record { root = x.0; elements = x.1; readable = ∣ (content, x.2) ∣₁ }, x.2)
+  | inr x ↦ inr (record { status = SchemaRefused; text = line (schema_line x.0) }, (x.0, x.2, x.1, refl))
+]
+
+schema_some : (disk : Disk) (named : Option (List ℕ)) → HasAnswer (schema disk named)
+schema_some disk None = rules_some _
+schema_some disk (Some name) = then_some (file disk name) rules (file_some disk name) (λ content _. rules_some content)
+
+judged_some : (tree : Forest) (by : Schema) → HasAnswer (judged tree by)
+judged_some tree by = by_breach (breach by tree) refl
+  where
+    by_breach : (b : Option Breach) → breach by tree ≡ b → HasAnswer (judged tree by)
+    by_breach None e = inl (prints (line (codes "valid")), ((valid_decided by tree).1 e, refl))
+    by_breach (Some first) e = inr (record { status = PageRefused; text = line (breach_line first) }, (first, e, refl))
+
+-- the check's own question has the check's verdict
+checked_some : (tree : Service) (by : Schema) → HasVerdict tree by → HasAnswer (checked tree by)
+checked_some tree by (inl x) = inl (record { service = tree; schema = by }, (refl, x))
+checked_some tree by (inr x) = inr (record { status = ServiceRefused; text = check_text (page_names tree) x.0 }, (x.0, x.1, x.2, refl))
+
+accepted_file_some : (disk : Disk) (name : List ℕ) (named : Option (List ℕ))
+    → ((tree : Service) (by : Schema) → (service_file disk name).gives tree → (schema disk named).gives by → HasVerdict tree by)
+    → HasAnswer (accepted_file disk name named)
+accepted_file_some disk name named verdicts =
+    then_some (service_file disk name) (checked_by disk named) (service_file_some disk name)
+    (λ tree g. then_some (schema disk named) (checked tree) (schema_some disk named) (λ by k. checked_some tree by (verdicts tree by g k)))
+
+accepted_text_some : (text : List ℕ)
+    → ((tree : Service) (by : Schema) → (service_text text).gives tree → built_in.gives by → HasVerdict tree by) → HasAnswer (accepted_text text)
+accepted_text_some text verdicts =
+    then_some (service_text text) (λ tree. built_in >>= checked tree) (service_text_some text)
+    (λ tree g. then_some built_in (checked tree) (rules_some _) (λ by k. checked_some tree by (verdicts tree by g k)))
+
+work_some : (disk : Disk) (c : Command) → ((tree : Service) (by : Schema) → Checks disk c tree by → HasVerdict tree by) → HasAnswer (work disk c)
+work_some disk (Check service judging) verdicts =
+    then_some (accepted_file disk service judging.schema) accepted
+    (accepted_file_some disk service judging.schema (λ tree by g k. verdicts tree by (g, k))) (λ ruled _. found_some _)
+work_some disk (Replay service requests judging most) verdicts =
+    then_some (accepted_file disk service judging.schema) (replayed disk requests most)
+    (accepted_file_some disk service judging.schema (λ tree by g k. verdicts tree by (g, k)))
+    (λ ruled _. then_some (file disk requests) _ (file_some disk requests) (λ stream _. found_some _))
+work_some disk (Serve service judging port most) verdicts =
+    then_some (accepted_file disk service judging.schema) (at_port port most)
+    (accepted_file_some disk service judging.schema (λ tree by g k. verdicts tree by (g, k))) (λ ruled _. found_some _)
+work_some disk (Valid name named) verdicts =
+    then_some (page_file disk name) (ruled disk named) (page_file_some disk name)
+    (λ tree _. then_some (schema disk named) (judged tree) (schema_some disk named) (λ by _. judged_some tree by))
+work_some disk (Make count workers) verdicts =
+    then_some (accepted_text (made count)) (turned count) (accepted_text_some (made count) (λ tree by g k. verdicts tree by (g, k)))
+    (λ ruled _. found_some _)
+
+-- all that the program asks has an answer, where the check has a verdict on the service that the words lead to
+pub asked_some : (words : List (List ℕ)) (disk : Disk)
+    → ((c : Command) (tree : Service) (by : Schema) → command_of words ≡ Some c → Checks disk c tree by → HasVerdict tree by) → HasAnswer (asked words disk)
+asked_some words disk verdicts =
+    then_some (command words) (work disk) (command_some words) (λ c e. work_some disk c (λ tree by leads. verdicts c tree by e leads))

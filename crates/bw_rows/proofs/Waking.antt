@@ -1,0 +1,71 @@
+-- The lists of the rows that read a row, and the flags of those that are due.
+use Rattle.std.proofs.Common.{◌≡◌, ◌≢◌, ◌⊎◌, inl, inr, ℕ, ◌+◌, ◌<◌, ◌≤◌, ◌++◌, Bool, true, false, List, [], ◌∷◌, length, set, get_or, refl, ap, sym, ◌∙◌}
+use Rattle.std.proofs.Common.{subst, arith}
+use Rattle.std.specs.List.{Contains}
+use Rattle.std.proofs.lemmas.Bool.{false≢true}
+use Rattle.std.proofs.lemmas.List.{get_or_past, get_or_default, get_or-set_same, get_or-set_other, length-set}
+use Rattle.std.proofs.lemmas.List.Elements.{Contains-append_left, Contains-push}
+use Rattle.bw_rows.specs.Rows.{flag}
+use Rattle.bw_rows.specs.Rounds.{IsEntered, Entered}
+use Rattle.bw_rows.proofs.Rows.{split}
+use Rattle.bw_rows.proofs.Steps.{equal_or}
+
+pub last : (k c : ℕ) → c < k + 1 → (c < k) ⊎ (c ≡ k)
+last k c h = grind arith
+
+only : (j : ℕ) → j < 1 → j ≡ 0
+only j h = omega (arith, h)
+
+-- the row isn't there
+pub enter_past : (n : ℕ) (link : ℕ × ℕ) (readers : List (List ℕ)) → length readers ≤ link.1 → Entered n (link ∷ []) 1 readers readers
+enter_past n link readers l = record {
+  len = refl;
+  keeps = λ m reader h. h;
+  done = λ j d h. subst (λ k. IsEntered n readers (get_or (link ∷ []) k d)) (sym (only j h)) (λ k. absurd (omega (arith, k, l)));
+}
+
+-- one reader more in the list of a row
+pub enter_row : (n : ℕ) (link : ℕ × ℕ) (readers : List (List ℕ)) → link.1 < length readers
+    → Entered n (link ∷ []) 1 readers (set readers link.1 (get_or readers link.1 [] ++ n ∷ []))
+enter_row n link readers l =
+    let row = link.1 in
+    let list : List ℕ = get_or readers row [] ++ n ∷ [] in
+    record {
+      len = length-set {A = List ℕ} readers row list;
+      keeps = λ m reader h. elim (equal_or m row) [
+        | inl here ↦ subst (λ k. Contains (get_or (set readers row list) k []) reader) (sym here)
+            (subst (λ xs. Contains xs reader) (sym (get_or-set_same readers row list [] l))
+            (Contains-append_left (get_or readers row []) (n ∷ []) reader (subst (λ k. Contains (get_or readers k []) reader) here h)))
+        | inr other ↦ subst (λ xs. Contains xs reader) (sym (get_or-set_other readers row m list [] other)) h
+      ];
+      done = λ j d h. subst (λ k. IsEntered n (set readers row list) (get_or (link ∷ []) k d)) (sym (only j h))
+          (λ _. subst (λ xs. Contains xs n) (sym (get_or-set_same readers row list [] l)) (Contains-push (get_or readers row []) n));
+    }
+
+-- one link more
+pub entered_more : {n k : ℕ} {links : List (ℕ × ℕ)} {link : ℕ × ℕ} {a b c : List (List ℕ)} → k < length links → link ≡ get_or links k link
+    → Entered n links k a b → Entered n (link ∷ []) 1 b c → Entered n links (k + 1) a c
+entered_more {n = n} {k = k} {links = links} {link = link} {c = c} l is s t = record {
+  len = t.len ∙ s.len;
+  keeps = λ m reader h. t.keeps m reader (s.keeps m reader h);
+  done = λ j d h. elim (last k j h) [
+    | inl before ↦ λ v. t.keeps (get_or links j d).1 n (s.done j d before (omega (arith, v, t.len)))
+    | inr here ↦ subst (λ i. IsEntered n c (get_or links i d)) (sym here)
+        (subst (IsEntered n c) (is ∙ get_or_default links k link d l) (t.done 0 d (omega arith)))
+  ];
+}
+
+-- a row that isn't due after one more was made due wasn't before
+pub raise_keeps : (old new : List Bool) (row : ℕ) → (row < length old → flag new row ≡ true) → ((c : ℕ) → (c ≡ row → ⊥) → flag new c ≡ flag old c)
+    → (n : ℕ) → flag new n ≡ false → flag old n ≡ false
+raise_keeps old new row here others n h = elim (equal_or n row) [
+  | inl it ↦ elim (split row (length old)) [
+    | inl low ↦ absurd (false≢true (sym h ∙ ap (flag new) it ∙ here low))
+    | inr high ↦ ap (flag old) it ∙ get_or_past old row false high
+  ]
+  | inr other ↦ sym (others n other) ∙ h
+]
+
+-- those that were made due aren't among the others
+pub raise_apart : (old new : List Bool) (row : ℕ) → (row < length old → flag new row ≡ true) → (n : ℕ) → n < length old → flag new n ≡ false → row ≢ n
+raise_apart old new row here n l h e = false≢true (sym h ∙ ap (flag new) (sym e) ∙ here (subst (λ k. k < length old) (sym e) l))

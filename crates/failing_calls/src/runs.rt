@@ -1,0 +1,240 @@
+//! Runs of the whole program over forms in memory whose calls fail as they are told to.
+ghost use Rattle.std.specs.Prelude.{◌≡◌, ◌<◌};
+
+use bigwig::run;
+use bw_lang::{Memory, Text, Words};
+use bw_out::{MemDoor, MemFile, MemFiles, MemKeys, MemLink, MemSink, MemSource, Quiet, Steps};
+use std::alloc::{AllocError, AllocFailed, Global};
+use std::fmt;
+use std::marker::Brand;
+use std::num::NonZeroUsize;
+use std::sync::ledger::{Blank, Ledger};
+use std::thread::Threads;
+
+/// A service whose session shows two pages, each with a field, and then a last one.
+pub const TWICE: &[u8] =
+    b"service Twice { html Q = <html><p><[t]> <input name=\"x\"/></p></html>; session go() { string x = \"\"; show \
+      Q<[t=\"one\"] receive [x=x]; show Q<[t=x] receive [x=x]; exit Q<[t=x]; } }";
+
+/// Room for all that is printed.
+const ROOM: usize = 65_536;
+
+/// What went wrong.
+#[derive(Clone, Copy, Debug, PartialEq, Eq, Drop)]
+pub enum Wrong {
+    /// This run, by the number of the call that fails, ended with another status than is due.
+    Status(u64),
+    /// Its output isn't the one that is due.
+    Output(u64),
+    /// A link behind the failure wasn't answered as if nothing had been.
+    Later(u64),
+    /// Where a request for memory was refused, something else came than is due.
+    Refused,
+    /// There was no memory for what is wanted.
+    Memory,
+}
+
+impl fmt::Display for Wrong {
+    fn fmt<W: fmt::Write>(&self, f: &mut fmt::Formatter<W>) -> fmt::Result {
+        match self {
+            Wrong::Status(call) => write!(f, "call {call}: another status"),
+            Wrong::Output(call) => write!(f, "call {call}: another output"),
+            Wrong::Later(call) => write!(f, "call {call}: another answer on a later link"),
+            Wrong::Refused => write!(f, "a refused request for memory: another output"),
+            Wrong::Memory => write!(f, "out of memory"),
+        }
+    }
+}
+
+impl From<AllocError> for Wrong {
+    fn from(_error: AllocError) -> Wrong {
+        Wrong::Memory
+    }
+}
+
+impl From<Memory> for Wrong {
+    fn from(_error: Memory) -> Wrong {
+        Wrong::Memory
+    }
+}
+
+impl<T: Drop> From<AllocFailed<T>> for Wrong {
+    fn from(_error: AllocFailed<T>) -> Wrong {
+        Wrong::Memory
+    }
+}
+
+/// How the calls of one file or link go: how many bytes one takes, and the numbers of the reads and writes that fail.
+#[derive(Clone, Copy)]
+pub struct Calls<'a> {
+    pub piece: NonZeroUsize,
+    pub failing_reads: &'a [u64],
+    pub failing_writes: &'a [u64],
+}
+
+/// Calls that don't fail, of which each takes at most so many bytes.
+pub fn sound(piece: NonZeroUsize) -> Calls<'static> {
+    Calls {
+        piece,
+        failing_reads: &[],
+        failing_writes: &[],
+    }
+}
+
+/// What a run printed, and its exit code.
+#[derive(Drop)]
+pub struct Replayed {
+    pub status: u8,
+    pub output: Vec<u8>,
+}
+
+/// Answers the requests of a file by a service, at most `limit` of them, with calls that go so for the request file and the
+/// output.
+pub fn replay<R: Threads + Sync>(
+    rt: &R,
+    alloc: Global,
+    service: &[u8],
+    requests: &[u8],
+    limit: &str,
+    calls: Calls<'_>,
+) -> Result<Replayed, Wrong> {
+    let words = words_of(alloc, &["replay", "s", "r", "--limit", limit])?;
+    let folder = [
+        MemFile {
+            name: "s",
+            content: service,
+            piece: usize::MAX,
+            failing: &[],
+        },
+        MemFile {
+            name: "r",
+            content: requests,
+            piece: calls.piece.get(),
+            failing: calls.failing_reads,
+        },
+    ];
+    let mut out = MemSink::new(alloc, ROOM, calls.piece.get(), calls.failing_writes)?;
+    let mut door = MemDoor::new(alloc, Vec::new(alloc))?;
+    let status = counted::<Brand, _>(
+        rt,
+        alloc,
+        &words,
+        &folder,
+        &mut door,
+        &mut out,
+        Blank::new(1),
+    );
+    Ok(Replayed {
+        status,
+        output: Vec::from_slice(alloc, out.bytes())?,
+    })
+}
+
+/// Checks a service by four workers.
+pub fn check<R: Threads + Sync>(rt: &R, alloc: Global, service: &[u8]) -> Result<Replayed, Wrong> {
+    let words = words_of(alloc, &["check", "s", "--workers", "4"])?;
+    let folder = [MemFile {
+        name: "s",
+        content: service,
+        piece: usize::MAX,
+        failing: &[],
+    }];
+    let mut out = MemSink::new(alloc, ROOM, usize::MAX, &[])?;
+    let mut door = MemDoor::new(alloc, Vec::new(alloc))?;
+    let status = counted::<Brand, _>(
+        rt,
+        alloc,
+        &words,
+        &folder,
+        &mut door,
+        &mut out,
+        Blank::new(1),
+    );
+    Ok(Replayed {
+        status,
+        output: Vec::from_slice(alloc, out.bytes())?,
+    })
+}
+
+/// What each link of a run holds, and the run's exit code.
+#[derive(Drop)]
+pub struct Served {
+    pub status: u8,
+    pub held: Vec<Vec<u8>>,
+}
+
+/// Serves these links, of which the one at `place` has calls that go so.
+pub fn serve<R: Threads + Sync>(
+    rt: &R,
+    alloc: Global,
+    requests: &[&[u8]],
+    place: usize,
+    calls: Calls<'_>,
+) -> Result<Served, Wrong> {
+    let words = words_of(alloc, &["serve", "s"])?;
+    let folder = [MemFile {
+        name: "s",
+        content: TWICE,
+        piece: usize::MAX,
+        failing: &[],
+    }];
+    let mut links = Vec::new(alloc);
+    for (number, request) in requests.iter().enumerate() {
+        let these = if number == place {
+            calls
+        } else {
+            sound(NonZeroUsize::MAX)
+        };
+        links.push(MemLink {
+            source: MemSource::new(request, these.piece.get(), these.failing_reads),
+            sink: MemSink::new(alloc, ROOM, these.piece.get(), these.failing_writes)?,
+        })?;
+    }
+    let mut out = MemSink::new(alloc, ROOM, usize::MAX, &[])?;
+    let mut door = MemDoor::new(alloc, links)?;
+    let status = counted::<Brand, _>(
+        rt,
+        alloc,
+        &words,
+        &folder,
+        &mut door,
+        &mut out,
+        Blank::new(1),
+    );
+    let mut held = Vec::new(alloc);
+    for link in door.returned() {
+        held.push(Vec::from_slice(alloc, link.sink.bytes())?)?;
+    }
+    Ok(Served { status, held })
+}
+
+fn words_of(alloc: Global, words: &[&str]) -> Result<Words, Memory> {
+    let mut all = Words::new(alloc);
+    for word in words {
+        all.push(Text::of(alloc, word)?)?;
+    }
+    Ok(all)
+}
+
+/// Runs the program with keys from 1, and a count of steps that nobody reads, and gives its exit code.
+fn counted<L: Ledger, R: Threads + Sync>(
+    rt: &R,
+    alloc: Global,
+    words: &Words,
+    folder: &[MemFile<'_>],
+    door: &mut MemDoor<'_>,
+    out: &mut MemSink<'_>,
+    blank: Blank,
+) -> u8
+    requires name { blank.name ≡ L.name }
+    requires parts { blank.parts ≡ L.parts }
+    requires some { 0 < blank.parts }
+{
+    let mut steps: Steps<L> = Steps::new(blank);
+    let mut files = MemFiles::new(folder, &[]);
+    let mut keys = MemKeys::new(&[1, 2, 3, 4, 5, 6]);
+    run(
+        rt, alloc, words, &mut files, door, &mut keys, out, &Quiet, &mut steps,
+    )
+    .code()
+}
