@@ -49,9 +49,21 @@ impl Subject<'_> {
             ["shared", name] => Ok(put_found(answer, &self.names(), self.facts.shared(name))?),
             ["shown", point] => self.put_shown(answer, point),
             ["page", point] => self.put_page(alloc, answer, point),
-            ["faults"] => Ok(put_faults(answer, &self.faults(alloc)?)?),
+            ["faults"] => self.put_all_faults(alloc, answer),
             _ => Err(Fault::Malformed),
         }
+    }
+
+    /// The plugs whose gap may be missing.
+    fn put_all_faults(&self, alloc: Global, answer: &mut String) -> Result<(), Fault>
+        requires flow { self.now.flow.now ≡ plan_of self.now.typed.now.service }
+        requires facts { AreFacts self.now.typed.now.service self.now.facts.now }
+    {
+        let faults = self.faults(alloc)?;
+        let put = put_faults(answer, &faults);
+        drop(faults);
+        put?;
+        Ok(())
     }
 
     fn names(&self) -> Names<'_> {
@@ -82,7 +94,11 @@ impl Subject<'_> {
     {
         let point = self.point(number)?;
         match self.page(alloc, point)? {
-            Some(page) => put_document(answer, &self.names(), Some(&page))?,
+            Some(page) => {
+                let put = put_document(answer, &self.names(), Some(&page));
+                drop(page);
+                put?;
+            }
             None => put_document(answer, &self.names(), None)?,
         }
         Ok(())

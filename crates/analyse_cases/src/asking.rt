@@ -23,7 +23,9 @@ fn got(alloc: Global, texts: &Texts<'_>, case: &Case<'_>) -> Result<String, Faul
     let line = case.lines.first().ok_or(Fault::Malformed)?;
     let text = texts.join(alloc, line.value)?;
     let typed = typed_service(alloc, &text)?;
-    got_of(alloc, case, &typed)
+    let got = got_of(alloc, case, &typed);
+    drop(typed);
+    got
 }
 
 /// The service of a text, which has to be well typed.
@@ -39,7 +41,9 @@ fn typed_service(alloc: Global, text: &[u8]) -> Result<Typed, Fault> {
 
 fn got_of(alloc: Global, case: &Case<'_>, typed: &Typed) -> Result<String, Fault> {
     let flow = lowered(alloc, typed)?;
-    got_over(alloc, case, typed, &flow)
+    let got = got_over(alloc, case, typed, &flow);
+    drop(flow);
+    got
 }
 
 /// The flow of a service.
@@ -57,7 +61,11 @@ fn got_over(alloc: Global, case: &Case<'_>, typed: &Typed, flow: &Flow) -> Resul
     requires { flow.now ≡ plan_of typed.now.service }
 {
     match analyse(alloc, typed, flow) {
-        Ok(facts) => got_by(alloc, case, typed, flow, &facts),
+        Ok(facts) => {
+            let got = got_by(alloc, case, typed, flow, &facts);
+            drop(facts);
+            got
+        }
         Err(AnalyseFault::TooLarge(_)) => Ok(String::from_str(alloc, "too large")?),
         Err(AnalyseFault::Memory) => Err(Fault::Memory),
     }
@@ -81,7 +89,9 @@ fn got_by(
         facts,
         literals: &literals,
     };
-    answered(alloc, case, &subject)
+    let got = answered(alloc, case, &subject);
+    drop(literals);
+    got
 }
 
 /// The questions of a case with what is answered, parted by `;`.

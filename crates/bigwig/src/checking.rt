@@ -38,8 +38,13 @@ pub fn load_checked<R: Threads + Sync, F: Files, P: Pulse>(
     ensures read_fault { Shows (IsErrOf result Stop.ReadFault) (F.faults files.old) (F.faults files.new) }
 {
     let typed = load_service(alloc, files, name)?;
-    let schema = load_schema(alloc, files, &judging.schema)?;
-    checked(rt, alloc, typed, schema, judging.workers, pulse)
+    match load_schema(alloc, files, &judging.schema) {
+        Ok(schema) => checked(rt, alloc, typed, schema, judging.workers, pulse),
+        Err(stop) => {
+            drop(typed);
+            Err(stop)
+        }
+    }
 }
 
 /// That the service of a file is accepted.
@@ -58,7 +63,10 @@ pub fn load_accepted<R: Threads + Sync, F: Files, P: Pulse>(
     ensures read_fault { Shows (IsErrOf result Stop.ReadFault) (F.faults files.old) (F.faults files.new) }
 {
     match load_checked(rt, alloc, files, name, judging, pulse) {
-        Ok(_) => Ok(()),
+        Ok(checked) => {
+            drop(checked);
+            Ok(())
+        }
         Err(stop) => Err(stop),
     }
 }
@@ -76,8 +84,13 @@ pub fn made_checked<R: Threads + Sync, P: Pulse>(
     ensures no_read { IsErrOf result Stop.ReadFault → ⊥ }
 {
     let typed = typed_of(alloc, text)?;
-    let schema = default_schema(alloc)?;
-    checked(rt, alloc, typed, schema, workers, pulse)
+    match default_schema(alloc) {
+        Ok(schema) => checked(rt, alloc, typed, schema, workers, pulse),
+        Err(stop) => {
+            drop(typed);
+            Err(stop)
+        }
+    }
 }
 
 /// The service, where the check accepts it by the schema. The names of its templates are taken first, for the lines of its
@@ -95,6 +108,8 @@ fn checked<R: Threads + Sync, P: Pulse>(
     ensures no_read { IsErrOf result Stop.ReadFault → ⊥ }
 {
     let Ok(names) = page_names(alloc, &typed) else {
+        drop(typed);
+        drop(schema);
         return Err(Stop::Memory);
     };
     match check(rt, alloc, typed, schema, workers, pulse) {

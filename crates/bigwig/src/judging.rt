@@ -79,7 +79,11 @@ fn rule<F: Files>(
     ensures read_fault { Shows (IsErrOf result Stop.ReadFault) (F.faults files.old) (F.faults files.new) }
 {
     match load_schema(alloc, files, named) {
-        Ok(schema) => judge(alloc, &schema, tree),
+        Ok(schema) => {
+            let judged = judge(alloc, &schema, tree);
+            drop(schema);
+            judged
+        }
         Err(stop) => Err(stop),
     }
 }

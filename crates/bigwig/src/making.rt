@@ -88,8 +88,12 @@ fn turns<L: Ledger>(
 {
     let mut steps: Steps<L> = Steps::new(blank);
     let mut world = World::new(alloc, checked)?;
-    let sent = send(alloc, &mut world, count, &mut steps)?;
-    lines_of(alloc, count, length, sent)
+    let sent = send(alloc, &mut world, count, &mut steps);
+    drop(world);
+    match sent {
+        Ok(sent) => lines_of(alloc, count, length, sent),
+        Err(Memory) => Err(Memory),
+    }
 }
 
 /// Sends the requests of a session of so many pages, and adds up the lengths of the pages that come.

@@ -81,7 +81,11 @@ fn replay_file<F: Files, K: Keys, W: Sink, L: Ledger>(
     ensures write_fault { Shows (result ≡ Status.WriteFault) (W.write_faults out.old) (W.write_faults out.new) }
 {
     match World::new(alloc, checked) {
-        Ok(mut world) => replay_in(alloc, &mut world, name, most, files, keys, out, steps),
+        Ok(mut world) => {
+            let status = replay_in(alloc, &mut world, name, most, files, keys, out, steps);
+            drop(world);
+            status
+        }
         Err(Memory) => Status::Memory,
     }
 }

@@ -75,7 +75,11 @@ fn serve_service<D: Door, K: Keys, W: Sink, L: Ledger>(
     ensures door_fault { Shows (result ≡ Status.DoorFault) (D.faults door.old) (D.faults door.new) }
 {
     match World::new(alloc, checked) {
-        Ok(mut world) => serve_world(alloc, &mut world, port, most, door, keys, out, steps),
+        Ok(mut world) => {
+            let status = serve_world(alloc, &mut world, port, most, door, keys, out, steps);
+            drop(world);
+            status
+        }
         Err(Memory) => Status::Memory,
     }
 }

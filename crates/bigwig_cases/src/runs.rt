@@ -26,10 +26,11 @@ use crate::files::CaseFile;
 use crate::links::{CaseLink, held_by, in_memory};
 use bigwig::run;
 use bw_lang::{Memory, Text, Words};
-use bw_out::{Keys, MemDoor, MemFiles, MemKeys, MemSink, Quiet, Steps};
+use bw_out::{Keys, MemDoor, MemFile, MemFiles, MemKeys, MemSink, Quiet, Steps};
 use case_files::{Case, Fault, Line, Texts, Verdict, escaped};
 use std::alloc::{AllocError, Global};
 use std::marker::Brand;
+use std::mem;
 use std::num::NonZeroUsize;
 use std::sync::ledger::{Blank, Ledger};
 use std::thread::Threads;
@@ -72,11 +73,9 @@ pub fn try_case<R: Threads + Sync>(
     case: &Case<'_>,
 ) -> Result<Verdict, Fault> {
     let mut run_case = RunCase::new(alloc)?;
-    for line in &case.lines {
-        run_case.take(alloc, texts, *line)?;
-    }
-    let got = outcome_of(rt, alloc, &run_case)?;
-    Ok(Verdict::of(run_case.wanted.shown(alloc)?, got.shown(alloc)?))
+    let verdict = run_case.tried(rt, alloc, texts, case);
+    drop(run_case);
+    verdict
 }
 
 /// Tries the run of the service that is the case's name.
@@ -86,16 +85,9 @@ pub fn try_service<R: Threads + Sync>(
     case: &Case<'_>,
 ) -> Result<Verdict, Fault> {
     let mut run_case = RunCase::new(alloc)?;
-    run_case.files.push(CaseFile::with(alloc, "s", case.name)?)?;
-    run_case.files.push(CaseFile::with(alloc, "r", "")?)?;
-    for line in &case.lines {
-        match line.key {
-            "line" => run_case.wanted = Outcome::refusal(alloc, line.value)?,
-            _ => return Err(Fault::Malformed),
-        }
-    }
-    let got = outcome_of(rt, alloc, &run_case)?;
-    Ok(Verdict::of(run_case.wanted.shown(alloc)?, got.shown(alloc)?))
+    let verdict = run_case.service_tried(rt, alloc, case);
+    drop(run_case);
+    verdict
 }
 
 /// These words, parted by blanks.
@@ -161,6 +153,49 @@ impl<'a> RunCase<'a> {
         })
     }
 
+    /// Takes all lines of a case, and tries it.
+    fn tried<R: Threads + Sync>(
+        &mut self,
+        rt: &R,
+        alloc: Global,
+        texts: &Texts<'_>,
+        case: &Case<'a>,
+    ) -> Result<Verdict, Fault> {
+        for line in &case.lines {
+            self.take(alloc, texts, *line)?;
+        }
+        self.verdict(rt, alloc)
+    }
+
+    /// Takes the lines of a case of a service, and tries it.
+    fn service_tried<R: Threads + Sync>(
+        &mut self,
+        rt: &R,
+        alloc: Global,
+        case: &Case<'a>,
+    ) -> Result<Verdict, Fault> {
+        self.files.push(CaseFile::with(alloc, "s", case.name)?)?;
+        self.files.push(CaseFile::with(alloc, "r", "")?)?;
+        for line in &case.lines {
+            match line.key {
+                "line" => drop(mem::replace(
+                    &mut self.wanted,
+                    Outcome::refusal(alloc, line.value)?,
+                )),
+                _ => return Err(Fault::Malformed),
+            }
+        }
+        self.verdict(rt, alloc)
+    }
+
+    /// What is wanted, and what comes.
+    fn verdict<R: Threads + Sync>(&self, rt: &R, alloc: Global) -> Result<Verdict, Fault> {
+        let outcome = outcome_of(rt, alloc, self)?;
+        let got = outcome.shown(alloc);
+        drop(outcome);
+        Ok(Verdict::of(self.wanted.shown(alloc)?, got?))
+    }
+
     /// Takes the next line.
     fn take(&mut self, alloc: Global, texts: &Texts<'_>, line: Line<'a>) -> Result<(), Fault> {
         match line.key {
@@ -201,6 +236,12 @@ impl<'a> RunCase<'a> {
     }
 }
 
+/// The door of a case.
+fn door_of<'c>(alloc: Global, case: &'c RunCase<'_>) -> Result<CaseDoor<'c>, Fault> {
+    let door = MemDoor::new(alloc, in_memory(alloc, &case.links)?)?;
+    Ok(CaseDoor::new(door, &case.failing_listens, &case.failing_nexts))
+}
+
 /// Runs the program as the case says.
 fn outcome_of<R: Threads + Sync>(
     rt: &R,
@@ -211,31 +252,54 @@ fn outcome_of<R: Threads + Sync>(
     for file in &case.files {
         folder.push(file.in_memory())?;
     }
-    let mut files = MemFiles::new(&folder, &case.failing_fetches);
-    let mut keys = MemKeys::new(&case.keys);
+    let mut door = door_of(alloc, case)?;
+    let outcome = outcome_at(rt, alloc, case, &folder, &mut door);
+    drop(door);
+    outcome
+}
+
+/// The same over these files and this door.
+fn outcome_at<R: Threads + Sync>(
+    rt: &R,
+    alloc: Global,
+    case: &RunCase<'_>,
+    folder: &[MemFile<'_>],
+    door: &mut CaseDoor<'_>,
+) -> Result<Outcome, Fault> {
     let mut out = MemSink::new(
         alloc,
         case.room,
         case.write_piece.get(),
         &case.failing_writes,
     )?;
-    let mut door = CaseDoor::new(
-        MemDoor::new(alloc, in_memory(alloc, &case.links)?)?,
-        &case.failing_listens,
-        &case.failing_nexts,
-    );
-    // A copy, so that the copying of words is tried as well.
+    let outcome = outcome_on(rt, alloc, case, folder, door, &mut out);
+    drop(out);
+    outcome
+}
+
+/// The same on this output. The words are copied, so that this is tried as well.
+fn outcome_on<R: Threads + Sync>(
+    rt: &R,
+    alloc: Global,
+    case: &RunCase<'_>,
+    folder: &[MemFile<'_>],
+    door: &mut CaseDoor<'_>,
+    out: &mut MemSink<'_>,
+) -> Result<Outcome, Fault> {
     let words = case.words.copy()?;
+    let mut files = MemFiles::new(folder, &case.failing_fetches);
+    let mut keys = MemKeys::new(&case.keys);
     let status = counted::<Brand, R>(
         rt,
         alloc,
         &words,
         &mut files,
-        &mut door,
+        door,
         &mut keys,
-        &mut out,
+        out,
         Blank::new(1),
     );
+    drop(words);
     Ok(Outcome {
         status,
         drawn: drawn_of(&case.keys, keys.draw()),

@@ -112,17 +112,27 @@ impl Scene<'_, '_, '_> {
             Expr::Name(name) => self.named(alloc, name),
             Expr::Paren(part) => self.noted(alloc, part.expr(), statement, faults),
             Expr::Not(part) | Expr::Neg(part) => {
-                self.noted(alloc, part.expr(), statement, faults)?;
+                drop(self.noted(alloc, part.expr(), statement, faults)?);
                 Ok(Abstract::Nothing)
             }
             Expr::Call { fun, arg } => {
-                self.noted(alloc, arg.expr(), statement, faults)?;
+                drop(self.noted(alloc, arg.expr(), statement, faults)?);
                 Ok(called(*fun))
             }
             Expr::Binary { op, left, right } => {
-                let value = self.noted(alloc, left.expr(), statement, faults)?;
-                self.noted(alloc, right.expr(), statement, faults)?;
-                Ok(combined(*op, &value))
+                let left = self.noted(alloc, left.expr(), statement, faults)?;
+                let sum = combined(*op, &left);
+                drop(left);
+                match self.noted(alloc, right.expr(), statement, faults) {
+                    Ok(right) => {
+                        drop(right);
+                        Ok(sum)
+                    }
+                    Err(Memory) => {
+                        drop(sum);
+                        Err(Memory)
+                    }
+                }
             }
             Expr::Plug { base, pairs } => {
                 let value = self.noted(alloc, base.expr(), statement, faults)?;
@@ -148,8 +158,14 @@ impl Scene<'_, '_, '_> {
     {
         let mut filled = base;
         for pair in pairs.as_slice() {
-            let value = self.noted(alloc, &pair.value, statement, faults)?;
-            filled = self.with_pair(alloc, &filled, pair, &value, statement, faults)?;
+            let Ok(value) = self.noted(alloc, &pair.value, statement, faults) else {
+                drop(filled);
+                return Err(Memory);
+            };
+            let more = self.with_pair(alloc, &filled, pair, &value, statement, faults);
+            drop(filled);
+            drop(value);
+            filled = more?;
         }
         Ok(filled)
     }

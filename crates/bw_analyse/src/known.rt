@@ -124,7 +124,9 @@ impl Scene<'_, '_, '_> {
             Expr::Paren(part) => self.known(alloc, part.expr()),
             Expr::Binary { op, left, .. } => {
                 let left = self.known(alloc, left.expr())?;
-                Ok(combined(*op, &left))
+                let sum = combined(*op, &left);
+                drop(left);
+                Ok(sum)
             }
             Expr::Call { fun, .. } => Ok(called(*fun)),
             Expr::Plug { base, pairs } => {
@@ -142,9 +144,15 @@ impl Scene<'_, '_, '_> {
     {
         let mut filled = base;
         for pair in pairs.as_slice() {
-            let value = self.known(alloc, &pair.value)?;
+            let Ok(value) = self.known(alloc, &pair.value) else {
+                drop(filled);
+                return Err(Memory);
+            };
             let gap = self.ground.typed.service().gaps.number(pair.gap.as_str());
-            filled = filled.plug(alloc, gap, &value)?;
+            let more = filled.plug(alloc, gap, &value);
+            drop(filled);
+            drop(value);
+            filled = more?;
         }
         Ok(filled)
     }

@@ -27,10 +27,16 @@ fn shown(alloc: Global, typed: &Typed, name: &StrSet, document: &Summary) -> Res
         service.gaps.target(),
         service.gaps.document(),
     );
-    let page = Summary::constant(alloc, typed, wrapper)?;
-    let page = page.plug_text(alloc, title, name)?;
-    let page = page.plug_text(alloc, target, &StrSet::Any)?;
-    page.plug(alloc, doc, document)
+    let bare = Summary::constant(alloc, typed, wrapper)?;
+    let titled = bare.plug_text(alloc, title, name);
+    drop(bare);
+    let titled = titled?;
+    let aimed = titled.plug_text(alloc, target, &StrSet::Any);
+    drop(titled);
+    let aimed = aimed?;
+    let page = aimed.plug(alloc, doc, document);
+    drop(aimed);
+    page
 }
 
 /// The page of an exit: its wrapper with this name at the title, and the document.
@@ -45,9 +51,13 @@ fn exited(
     readable_is_small();
     let service = typed.service();
     let wrapper = TemplateId::exit_wrapper(service.templates.as_slice().len());
-    let page = Summary::constant(alloc, typed, wrapper)?;
-    let page = page.plug_text(alloc, service.gaps.title(), name)?;
-    page.plug(alloc, service.gaps.document(), document)
+    let bare = Summary::constant(alloc, typed, wrapper)?;
+    let titled = bare.plug_text(alloc, service.gaps.title(), name);
+    drop(bare);
+    let titled = titled?;
+    let page = titled.plug(alloc, service.gaps.document(), document);
+    drop(titled);
+    page
 }
 
 /// The graph of the page of a show or an exit: of its wrapper with the service's name at the title, for a show any string

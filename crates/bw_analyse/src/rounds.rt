@@ -1,7 +1,7 @@
 //! One round: what cells hold, from what they held before.
 ghost use Rattle.std.specs.Prelude.{◌≡◌, ℕ, ◌<◌, length, IfOk, map, [], slice_get, slice_index_or, Some};
 ghost use Rattle.bw_flow.specs.Steps.{Step};
-ghost use Rattle.bw_analyse.specs.Abstracts.{least_of};
+ghost use Rattle.bw_analyse.specs.Abstracts.{both, least_of};
 ghost use Rattle.bw_analyse.specs.Known.{of_literal};
 ghost use Rattle.bw_analyse.specs.Least.{flow_of};
 ghost use Rattle.bw_analyse.specs.Rounds.{next_local, next_shared, left_at, added_by, join_some};
@@ -128,6 +128,18 @@ impl Ground<'_> {
         join_some(alloc, added, rest)
     }
 
+    /// What is known of a shared variable before anything is requested: its literal.
+    fn first(&self, alloc: Global, variable: &Shared) -> Result<Abstract, Memory>
+        ensures { IfOk result (λ a. a ≡ both (of_literal self.now.typed.now.service variable.now.init) (least_of variable.now.kind)) }
+    {
+        let literal = self.literal(alloc, &variable.init)?;
+        let least = Abstract::least(alloc, variable.kind);
+        let first = literal.join(alloc, &least);
+        drop(literal);
+        drop(least);
+        first
+    }
+
     /// What is known of a shared variable in the next round.
     fn next_shared(
         &self,
@@ -138,8 +150,7 @@ impl Ground<'_> {
         ensures { IfOk result (λ a. a ≡ next_shared self.now.typed.now.service (flow_of self.now.typed.now.service)
             (λ c. slice_index_or rows.now c []) variable.now) }
     {
-        let least = Abstract::least(alloc, variable.kind);
-        let mut all = self.literal(alloc, &variable.init)?.join(alloc, &least)?;
+        let mut all = self.first(alloc, variable)?;
         for place in (0..self.points.len()).rev() {
             all = self.with_added(alloc, place, &variable.name, rows, all)?;
         }

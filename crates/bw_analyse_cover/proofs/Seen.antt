@@ -45,6 +45,7 @@ use Rattle.bw_analyse.specs.KindLaws.{Up, up_itself, fits_alike}
 use Rattle.bw_analyse.specs.Known as list
 use Rattle.bw_analyse.specs.Known.{any, one_string, constant_at, summed_by, combined_by, called_by, known, known_filled}
 use Rattle.bw_analyse_cover.specs.Seen.{seen}
+use Rattle.std.proofs.Math.Bool.{or-false}
 
 -- ---- graphs with the same members are the same
 
@@ -70,10 +71,6 @@ AreLiteral L (literals.Tmpl w) = Unit {0}
 pub among_both : (L xs ys : List (List ℕ)) → AreAmong L (xs ++ ys) → AreAmong L xs × AreAmong L ys
 among_both L [] ys h = (tt, h)
 among_both L (x ∷ xs) ys h = let r = among_both L xs ys h.1 in ((h.0, r.0), r.1)
-
-or_none : (b : Bool) → (b || false) ≡ b
-or_none true = refl
-or_none false = refl
 
 -- the literal of the number of a string that is there is that string
 text_is : (L : List (List ℕ)) (s : List ℕ) → name_number L s < length L → text_of L (name_number L s) ≡ s
@@ -187,7 +184,7 @@ module _ (service : Service) where
 
   -- the string of a literal alone
   pub one_seen : (s : List ℕ) → name_number L s < length L → seen service (one_string service s) ≡ cover.Strings (same s)
-  one_seen s h = λ i. cover.Strings (λ t. (or_none (same (text_of L (name_number L s)) t) ∙ ap (λ x. same x t) (text_is L s h)) i)
+  one_seen s h = λ i. cover.Strings (λ t. (or-false (same (text_of L (name_number L s)) t) ∙ ap (λ x. same x t) (text_is L s h)) i)
 
   pub plugged_seen : (g : GapKind) (k : Kind) (v a : Abstract) (n : ℕ) → TakesKind g k → Fits kinds.Html v → Fits k a
       → seen service (plugged_by v n a) ≡ cover.plugged_by (seen service v) n (seen service a)

@@ -18,6 +18,7 @@ use Rattle.bw_cover.specs.Abstracts.{Abstract}
 use Rattle.bw_cover.specs.Facts.{literal_known}
 use Rattle.bw_cover.specs.Least.{join, join_if, joined_literals}
 use Rattle.bw_cover.proofs.Names.{same_self}
+use Rattle.bw_flow.proofs.Names.{head_differs, tail_pairs}
 
 abbrev names : List Shared → List (List ℕ)
 names vs = map (λ (v : Shared). v.name) vs
@@ -33,12 +34,6 @@ named (declarations.Shared v ∷ ds) w h = by_test (same w v.name) refl h (named
         → (is_among w (names (shared_of ds)) ≡ true → Contains (map name_of ds) w) → Contains (v.name ∷ map name_of ds) w
     by_test true s k more = (0, omega arith, sym (same_is w v.name s))
     by_test false s k more = Contains-append_right (v.name ∷ []) (map name_of ds) w (more k)
-
-tail_differs : (x : List ℕ) (xs : List (List ℕ)) → AllPairs (λ v w. v ≢ w) (x ∷ xs) → AllPairs (λ v w. v ≢ w) xs
-tail_differs x xs h i j d lt l = h (suc i) (suc j) d (omega arith) (omega arith)
-
-head_differs : (x : List ℕ) (xs : List (List ℕ)) (w : List ℕ) → AllPairs (λ v w. v ≢ w) (x ∷ xs) → Contains xs w → same w x ≡ true → ⊥
-head_differs x xs w h c e = let lt = c.1 in h 0 (suc c.0) w (omega arith) (omega arith) (sym (c.2 ∙ same_is w x e))
 
 is_there : (vs : List Shared) (j : ℕ) (v : Shared) → slice_get vs j ≡ Some v → is_among v.name (names vs) ≡ true
 is_there [] j v e = absurd (cc)
@@ -70,8 +65,8 @@ module _ (service : Service) where
   once : (ds : List Declaration) → AllPairs (λ v w. v ≢ w) (map name_of ds) → (j : ℕ) (v : Shared) → slice_get (shared_of ds) j ≡ Some v → (e : Abstract)
       → joined_literals service (shared_of ds) v.name e ≡ join (literal_known service v.init) e
   once [] h j v s e = absurd (cc)
-  once (declarations.Template t ∷ ds) h j v s e = once ds (tail_differs t.name (map name_of ds) h) j v s e
-  once (declarations.Session x ∷ ds) h j v s e = once ds (tail_differs x.name (map name_of ds) h) j v s e
+  once (declarations.Template t ∷ ds) h j v s e = once ds (tail_pairs t.name (map name_of ds) h) j v s e
+  once (declarations.Session x ∷ ds) h j v s e = once ds (tail_pairs x.name (map name_of ds) h) j v s e
   once (declarations.Shared u ∷ ds) h zero v s e =
       let k : u ≡ v = cc in
       ap (λ b. join_if b (Some (literal_known service u.init)) (joined_literals service (shared_of ds) v.name e))
@@ -80,7 +75,7 @@ module _ (service : Service) where
       ∙ not_among u.name ds h))
       ∙ ap (λ (z : Shared). join (literal_known service z.init) e) k
   once (declarations.Shared u ∷ ds) h (suc j) v s e =
-      by_cases (cases_Bool (same v.name u.name)) (once ds (tail_differs u.name (map name_of ds) h) j v s e)
+      by_cases (cases_Bool (same v.name u.name)) (once ds (tail_pairs u.name (map name_of ds) h) j v s e)
     where
       by_cases : (same v.name u.name ≡ true) ⊎ (same v.name u.name ≡ false)
           → joined_literals service (shared_of ds) v.name e ≡ join (literal_known service v.init) e

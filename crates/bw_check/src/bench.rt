@@ -4,8 +4,10 @@ ghost use Rattle.bw_analyse.specs.Facts.{AreFacts};
 ghost use Rattle.bw_analyse.specs.Least.{flow_of};
 ghost use Rattle.bw_analyse.specs.Pages.{HasPage, page_graph};
 ghost use Rattle.bw_faults.specs.Lists.{Lists};
+ghost use Rattle.bw_faults.specs.Order.{fault_cmp};
 ghost use Rattle.bw_flow.specs.Layout.{plan_of};
 ghost use Rattle.bw_flow.specs.View.{seen};
+ghost use Rattle.bw_solve.specs.Sets.{merge};
 ghost use Rattle.bw_shape.specs.Outlines.{IsPageGraph, IsShape};
 ghost use Rattle.bw_strings.specs.Literals.{literals_of};
 ghost use Rattle.bw_check.specs.Faults.{IsPageFault, IsReceivedFault};
@@ -20,6 +22,7 @@ use bw_out::Pulse;
 use bw_schema::Schema;
 use bw_shape::{Outline, shape};
 use bw_strings::Literals;
+use bw_sum::Summary;
 use bw_types::Typed;
 use bw_within::laws::{pages_are_graphs, received_have_numbers};
 use std::alloc::Global;
@@ -34,6 +37,20 @@ pub struct Bench<'a> {
     pub schema: &'a Schema,
     ghost lowered: { flow.now ≡ plan_of typed.now.service },
     ghost collected: { literals.now ≡ literals_of typed.now.service },
+}
+
+/// All faults of both.
+pub fn joined(faults: Faults, more: Faults) -> Result<Faults, Memory>
+    ensures { IfOk result (λ all. all ≡ merge fault_cmp faults more) }
+{
+    let mut all = faults;
+    match all.join(more) {
+        Ok(()) => Ok(all),
+        Err(_) => {
+            drop(all);
+            Err(Memory)
+        }
+    }
 }
 
 /// The faults of the fields that the point at this place receives, where the outline is the shape of its page.
@@ -58,8 +75,42 @@ fn judge_received(
     }
 }
 
-/// The faults of the page at this place, where a show or an exit stands. Those of fields come first, as in the order of
+/// The faults of the page with this graph and this outline, at this place. Those of fields come first, as in the order of
 /// faults, so that the others are only put behind them.
+fn judge_outline(
+    alloc: Global,
+    bench: Bench<'_>,
+    page: &Summary,
+    outline: &Outline,
+    place: PointId,
+    point: &Point,
+) -> Result<Faults, Memory>
+    requires graph { page.now ≡ page_graph bench.typed.now.service bench.facts.now place }
+    requires known { IsPageGraph bench.typed.now.service page.now }
+    requires shape { IsShape bench.typed.now.service page.now bench.schema.now outline.now }
+    requires page { HasPage bench.typed.now.service place }
+    requires point { slice_get (flow_of bench.typed.now.service) place ≡ Some (seen point.now) }
+    ensures { IfOk result (Lists (IsPageFault bench.entry.typed.now.service bench.entry.schema.now bench.entry.facts.now place)) }
+{
+    let faults = judge_received(alloc, bench, outline, place, point)?;
+    match judge(
+        alloc,
+        outline,
+        page,
+        bench.typed,
+        bench.literals,
+        bench.schema,
+        point.number,
+    ) {
+        Ok(elements) => joined(faults, elements),
+        Err(Memory) => {
+            drop(faults);
+            Err(Memory)
+        }
+    }
+}
+
+/// The faults of the page at this place, where a show or an exit stands.
 fn judge_page(
     alloc: Global,
     bench: Bench<'_>,
@@ -73,18 +124,29 @@ fn judge_page(
 {
     pages_are_graphs(bench.typed);
     let page = page_graph(alloc, bench.typed, bench.flow, bench.facts, place)?;
-    let outline = shape(alloc, &page, bench.typed, bench.literals, bench.schema)?;
-    let mut faults = judge_received(alloc, bench, &outline, place, point)?;
-    faults.join(judge(
-        alloc,
-        &outline,
-        &page,
-        bench.typed,
-        bench.literals,
-        bench.schema,
-        point.number,
-    )?)?;
-    Ok(faults)
+    let faults = judge_graph(alloc, bench, &page, place, point);
+    drop(page);
+    faults
+}
+
+/// The same of the graph of the page.
+fn judge_graph(
+    alloc: Global,
+    bench: Bench<'_>,
+    page: &Summary,
+    place: PointId,
+    point: &Point,
+) -> Result<Faults, Memory>
+    requires graph { page.now ≡ page_graph bench.typed.now.service bench.facts.now place }
+    requires known { IsPageGraph bench.typed.now.service page.now }
+    requires page { HasPage bench.typed.now.service place }
+    requires point { slice_get (flow_of bench.typed.now.service) place ≡ Some (seen point.now) }
+    ensures { IfOk result (Lists (IsPageFault bench.entry.typed.now.service bench.entry.schema.now bench.entry.facts.now place)) }
+{
+    let outline = shape(alloc, page, bench.typed, bench.literals, bench.schema)?;
+    let faults = judge_outline(alloc, bench, page, &outline, place, point);
+    drop(outline);
+    faults
 }
 
 /// Judges the piece of this number, which is the page at this place.

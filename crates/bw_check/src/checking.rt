@@ -8,7 +8,7 @@ ghost use Rattle.bw_check.specs.Accepts.{Accepts, IsAccepted, IsCheckFault};
 ghost use Rattle.bw_check.specs.Faults.{IsServiceFault};
 ghost use Rattle.bw_schema.specs.declared.schema.Schema.{Schema};
 
-use crate::bench::Bench;
+use crate::bench::{Bench, joined};
 use crate::checked::Checked;
 use crate::fault::CheckFault;
 use crate::pieces::{judge_pieces, pieces_of};
@@ -22,6 +22,32 @@ use bw_strings::Literals;
 use bw_types::Typed;
 use std::alloc::Global;
 use std::thread::Threads;
+
+/// All faults of a service, in their order.
+fn faults_by<R: Threads + Sync, P: Pulse>(
+    rt: &R,
+    alloc: Global,
+    bench: Bench<'_>,
+    workers: u32,
+    pulse: &P,
+) -> Result<Faults, Memory>
+    requires facts { AreFacts bench.typed.now.service bench.facts.now }
+    ensures { IfOk result (Lists (IsServiceFault bench.entry.typed.now.service bench.entry.schema.now bench.entry.facts.now)) }
+{
+    let pieces = pieces_of(alloc, bench.flow)?;
+    let pages = judge_pieces(rt, alloc, bench, pulse, pieces.as_slice(), workers);
+    drop(pieces);
+    match pages {
+        Ok(faults) => match gap_faults(alloc, bench.typed, bench.flow, bench.facts) {
+            Ok(gaps) => joined(faults, gaps),
+            Err(Memory) => {
+                drop(faults);
+                Err(Memory)
+            }
+        },
+        Err(Memory) => Err(Memory),
+    }
+}
 
 /// All faults of a service by a schema, in their order.
 fn faults_of<R: Threads + Sync, P: Pulse>(
@@ -39,7 +65,6 @@ fn faults_of<R: Threads + Sync, P: Pulse>(
     ensures { IfOk result (Lists (IsServiceFault typed.now.service schema.now facts.now)) }
 {
     let literals = Literals::of(alloc, typed.service())?;
-    let pieces = pieces_of(alloc, flow)?;
     let bench = Bench {
         typed,
         flow,
@@ -47,9 +72,9 @@ fn faults_of<R: Threads + Sync, P: Pulse>(
         literals: &literals,
         schema,
     };
-    let mut faults = judge_pieces(rt, alloc, bench, pulse, pieces.as_slice(), workers)?;
-    faults.join(gap_faults(alloc, typed, flow, facts)?)?;
-    Ok(faults)
+    let faults = faults_by(rt, alloc, bench, workers, pulse);
+    drop(literals);
+    faults
 }
 
 /// The flow of a service, or that it has too many points.
@@ -125,6 +150,10 @@ pub fn check<R: Threads + Sync, P: Pulse>(
             facts,
             schema,
         }),
-        Err(fault) => Err(fault),
+        Err(fault) => {
+            drop(typed);
+            drop(schema);
+            Err(fault)
+        }
     }
 }

@@ -25,11 +25,12 @@ use Rattle.bw_cover.specs.Facts.{Facts, is_shared, template_known, look}
 use Rattle.bw_cover.specs.Kinds.{IsOf, LocalsAreOf, CellsAreOf, SharedAreOf, summary_of, Shows, GapsAreThere, CheckedIsAccepted, Agree, PlacesFit}
 use Rattle.bw_cover.specs.Least.{with_cells}
 use Rattle.bw_cover.specs.Spots.{Spot, statement, Scoped, Pages, EachPoint}
-use Rattle.bw_cover.proofs.Names.{or_none, among-added, some_is, beside-cons}
+use Rattle.bw_cover.proofs.Names.{among-added, some_is, beside-cons}
 use Rattle.bw_cover.proofs.Rising.{below_refl}
 use Rattle.bw_cover.proofs.Solved.{least_obeys}
 use Rattle.bw_cover.proofs.Typed.{typed_known}
 use Rattle.bw_lang.specs.declared.stmt.Kind.TheVariants as kinds
+use Rattle.std.proofs.Math.Bool.{or-false}
 
 pub agree_next : (scope : Scope) (sc : List (List ℕ)) (w : List ℕ) (kind : Kind) → ((v : List ℕ) → is_some (beside v scope.locals) ≡ is_among v sc)
     → (v : List ℕ) → is_some (beside v ((w, kind) ∷ scope.locals)) ≡ is_among v (sc ++ w ∷ [])
@@ -38,7 +39,7 @@ agree_next scope sc w kind h v = ap is_some (beside-cons v w kind scope.locals) 
     by_test : (b c : Bool) → is_some (beside v scope.locals) ≡ c → is_some (if b then Some kind else beside v scope.locals) ≡ (c || b)
     by_test true true k = refl
     by_test true false k = refl
-    by_test false c k = k ∙ sym (or_none c)
+    by_test false c k = k ∙ sym (or-false c)
 
 pub shared_names : (vs : List Shared) (w : List ℕ) → is_some (beside w (map (λ (v : Shared). (v.name, v.kind)) vs)) ≡ is_among w
     (map (λ (v : Shared). v.name) vs)

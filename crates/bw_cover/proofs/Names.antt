@@ -13,6 +13,7 @@ use Rattle.bw_meaning.specs.Values.{Value, Values, replaced, without}
 use Rattle.bw_types.specs.Scopes.{is_among}
 use Rattle.bw_types.proofs.Seek.{same_is}
 use Rattle.bw_cover.specs.Facts.{Apart, after}
+use Rattle.std.proofs.Math.Bool.{or-false, or_assoc}
 
 -- ---- equal names
 
@@ -130,12 +131,8 @@ some-replaced w v l y = ap is_some (beside-replaced w v l y) ∙ by_test (same w
     by_test true (Some x) = refl
     by_test false o = refl
 
-pub or_none : (b : Bool) → (b || false) ≡ b
-or_none true = refl
-or_none false = refl
-
 pub among-added : (y w : List ℕ) (sc : List (List ℕ)) → is_among y (sc ++ w ∷ []) ≡ (is_among y sc || same y w)
-among-added y w sc = list_any-append (same y) sc (w ∷ []) ∙ ap (λ b. is_among y sc || b) (or_none (same y w))
+among-added y w sc = list_any-append (same y) sc (w ∷ []) ∙ ap (λ b. is_among y sc || b) (or-false (same y w))
 
 pub some-added : (w : List ℕ) (v : Value) (l : Values) (y : List ℕ) (sc : List (List ℕ)) → is_some (beside y l) ≡ is_among y sc
     → is_some (beside y (l ++ (w, v) ∷ [])) ≡ is_among y (sc ++ w ∷ [])
@@ -160,13 +157,9 @@ some-without names l y sc h a = ap is_some (beside-without names l y) ∙ by_tes
 
 -- the names in scope behind statements
 pub among-after : (y : List ℕ) (c : Code) (sc : List (List ℕ)) → is_among y (after c sc) ≡ (is_among y sc || is_among y (declared c))
-among-after y done sc = sym (or_none (is_among y sc))
+among-after y done sc = sym (or-false (is_among y sc))
 among-after y (declare kind w e rest) sc = among-after y rest (sc ++ w ∷ []) ∙ ap (λ b. b || is_among y (declared rest)) (among-added y w sc)
     ∙ or_assoc (is_among y sc) (same y w) (is_among y (declared rest))
-  where
-    or_assoc : (a b c : Bool) → ((a || b) || c) ≡ (a || (b || c))
-    or_assoc true b c = refl
-    or_assoc false b c = refl
 among-after y (assign w e rest) sc = among-after y rest sc
 among-after y (if_then t b rest) sc = among-after y rest sc
 among-after y (if_else t b c rest) sc = among-after y rest sc
@@ -180,10 +173,6 @@ among-after y (exit p rest) sc = among-after y rest sc
 pub among-inner : (y w : List ℕ) (c : Code) (sc : List (List ℕ)) → is_among y (after c (sc ++ w ∷ [])) ≡ (is_among y sc || is_among y (w ∷ declared c))
 among-inner y w c sc = among-after y c (sc ++ w ∷ []) ∙ ap (λ b. b || is_among y (declared c)) (among-added y w sc)
     ∙ or_assoc (is_among y sc) (same y w) (is_among y (declared c))
-  where
-    or_assoc : (a b c : Bool) → ((a || b) || c) ≡ (a || (b || c))
-    or_assoc true b c = refl
-    or_assoc false b c = refl
 
 -- values whose names are these, in order
 pub names_are : (l : Values) (w : List ℕ) → is_some (beside w l) ≡ is_among w (map (λ (x : List ℕ × Value). x.0) l)

@@ -12,21 +12,7 @@ use Rattle.bw_sum.specs.Graph.{Graph, plugged, plugged_text, IsBelow}
 use Rattle.bw_cover.specs.Abstracts.{Abstract, Nothing, Strings, Html, Below, plugged_by, summed_by, combined_by, called_by, known, known_filled}
 use Rattle.bw_cover.specs.Facts.{received_by, receives_by}
 use Rattle.bw_cover.specs.Least.{join}
-
-or_more : (a b c d : Bool) → (a ≡ true → c ≡ true) → (b ≡ true → d ≡ true) → (a || b) ≡ true → (c || d) ≡ true
-or_more true b true d h k e = refl
-or_more true b false d h k e = absurd (false≢true (h refl))
-or_more false b true d h k e = refl
-or_more false b false d h k e = k e
-
-and_more : (a b c d : Bool) → (a ≡ true → c ≡ true) → (b ≡ true → d ≡ true) → (a && b) ≡ true → (c && d) ≡ true
-and_more true b true d h k e = k e
-and_more true b false d h k e = absurd (false≢true (h refl))
-and_more false b c d h k e = absurd (false≢true e)
-
-if_more : (t a b c d : Bool) → (a ≡ true → c ≡ true) → (b ≡ true → d ≡ true) → (if t then a else b) ≡ true → (if t then c else d) ≡ true
-if_more true a b c d h k e = h e
-if_more false a b c d h k e = k e
+use Rattle.bw_sum.proofs.Growing.{or_more, and_more, if_more}
 
 itself : (b : Bool) → b ≡ true → b ≡ true
 itself b h = h

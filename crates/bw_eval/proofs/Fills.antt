@@ -5,7 +5,7 @@ use Rattle.bw_lang.specs.declared.expr.Pair.{Pair}
 use Rattle.bw_lang.specs.declared.service.Service.{Service}
 use Rattle.bw_lang.specs.declared.turn.TurnFault.{TurnFault}
 use Rattle.bw_lang.specs.Table.Names as names
-use Rattle.bw_lang.specs.Service.Term.{Term, Fillings, filling, nodes, nodes_in}
+use Rattle.bw_lang.specs.Service.Term.{Term, Fillings, filling}
 use Rattle.bw_lang.specs.Service.TermView.{term, fillings}
 use Rattle.bw_meaning.specs.Expressions.{Evaluated, Gives, Faults, and_then, given, eval, fill}
 use Rattle.bw_meaning.specs.Operators.{document_of, filled}
@@ -64,16 +64,6 @@ pub fails_at : (service : Service) (l s : Values) (xs : List Pair) (i : ℕ) (x 
 fails_at service l s xs i x d f u w o e h is ev =
     sym (is ∙ ap (λ ps. fill service l s ps d u) (fillings_at xs i x e h)
     ∙ fill_fails service l s x.gap (term x.value) (fillings (drop (i + 1) xs)) d f u w (sym ev))
-
-smaller : (xs : List Pair) (i : ℕ) (d : Pair) → i < length xs → nodes (term (get_or xs i d).value) < nodes_in (fillings xs)
-smaller [] i d h = absurd (omega arith)
-smaller (p ∷ xs) zero d h = omega arith
-smaller (p ∷ xs) (suc i) d h = omega (arith, smaller xs i d (omega arith))
-
--- a pair that was read is smaller than the pairs
-pub pair_size_at_read : (xs : List Pair) (i : ℕ) (d : Pair) → i < length xs →
-    (get_or xs i d ≡ get_or xs i d) × (nodes (term (get_or xs i d).value) < nodes_in (fillings xs))
-pair_size_at_read xs i d h = (refl, smaller xs i d h)
 
 -- an error that is handed on
 pub stops_with : (r : Result declared.Value TurnFault) (f : TurnFault) (w : ℕ) (o : Evaluated) → IsErrAnd r (λ e. e ≡ f) →

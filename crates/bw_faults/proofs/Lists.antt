@@ -33,7 +33,7 @@ use Rattle.std.proofs.Common.{
   arith,
   add-one,
 }
-use Rattle.std.proofs.Math.Bool.{or-false}
+use Rattle.std.proofs.Math.Bool.{or-false, or_assoc}
 use Rattle.std.proofs.lemmas.Bool.{false≢true, cases_Bool, or_left}
 use Rattle.std.specs.declared.cmp.Ordering.{Ordering}
 use Rattle.std.specs.declared.cmp.Ordering.TheVariants.{Less, Equal, Greater}
@@ -212,13 +212,9 @@ lists_unique P xs ys p q = one_list xs ys p.set q.set (λ z. elim (cases_Bool (h
   ]
 ])
 
-or_assoc : (a b c : Bool) → (a || (b || c)) ≡ ((a || b) || c)
-or_assoc true b c = refl
-or_assoc false b c = refl
-
 any_end : (p : Fault → Bool) (xs : List Fault) (x : Fault) → list_any p (xs ++ x ∷ []) ≡ (list_any p xs || p x)
 any_end p [] x = or-false (p x)
-any_end p (y ∷ ys) x = ap (λ b. p y || b) (any_end p ys x) ∙ or_assoc (p y) (list_any p ys) (p x)
+any_end p (y ∷ ys) x = ap (λ b. p y || b) (any_end p ys x) ∙ sym (or_assoc (p y) (list_any p ys) (p x))
 
 all_front : (P : Fault → Type 0) (xs ys : List Fault) → AllByRecursion P (xs ++ ys) → AllByRecursion P xs
 all_front P [] ys h = tt
@@ -249,6 +245,6 @@ joined_more old xs x rest s t =
     (merge_set fault_total old (xs ++ x ∷ []) s more) (λ z.
     merge_has fault_total (merge fault_cmp old xs) (x ∷ []) z ∙ ap (λ b. b || (is_eq (fault_cmp x z) || false)) (merge_has fault_total old xs z)
     ∙ ap (λ b. (has fault_cmp old z || has fault_cmp xs z) || b) (or-false (is_eq (fault_cmp x z)))
-    ∙ sym (or_assoc (has fault_cmp old z) (has fault_cmp xs z) (is_eq (fault_cmp x z)))
+    ∙ or_assoc (has fault_cmp old z) (has fault_cmp xs z) (is_eq (fault_cmp x z))
     ∙ ap (λ b. has fault_cmp old z || b) (sym (any_end (λ y. is_eq (fault_cmp y z)) xs x))
     ∙ sym (merge_has fault_total old (xs ++ x ∷ []) z))

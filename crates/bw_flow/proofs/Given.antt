@@ -124,7 +124,7 @@ shared_at service scope w k names e = ap (λ o. option_or o (shared_kind service
 
 -- ---- the flow
 
-nothing_behind : (flow : List Step) (y : Step) → slice_get flow (length flow) ≡ Some y → ⊥
+pub nothing_behind : (flow : List Step) (y : Step) → slice_get flow (length flow) ≡ Some y → ⊥
 nothing_behind [] y e = cc
 nothing_behind (x ∷ xs) y e = nothing_behind xs y e
 

@@ -53,10 +53,10 @@ shared_named (declarations.Shared v ∷ ds) w k e = by (either (same w v.name)) 
     by (inl h) more = (0, omega arith, sym (exact w v.name h))
     by (inr h) more = Contains-append_right (v.name ∷ []) (map name_of ds) w (more (sym (beside_there w (v.name, v.kind) rest h) ∙ e))
 
-tail_pairs : (x : List ℕ) (xs : List (List ℕ)) → AllPairs (λ v w. v ≢ w) (x ∷ xs) → AllPairs (λ v w. v ≢ w) xs
+pub tail_pairs : (x : List ℕ) (xs : List (List ℕ)) → AllPairs (λ v w. v ≢ w) (x ∷ xs) → AllPairs (λ v w. v ≢ w) xs
 tail_pairs x xs h i j d lt l = h (suc i) (suc j) d (omega arith) (omega arith)
 
-head_differs : (x : List ℕ) (xs : List (List ℕ)) (w : List ℕ) → AllPairs (λ v w. v ≢ w) (x ∷ xs) → Contains xs w → same w x ≡ true → ⊥
+pub head_differs : (x : List ℕ) (xs : List (List ℕ)) (w : List ℕ) → AllPairs (λ v w. v ≢ w) (x ∷ xs) → Contains xs w → same w x ≡ true → ⊥
 head_differs x xs w h c e = let lt = c.1 in h 0 (suc c.0) w (omega arith) (omega arith) (sym (c.2 ∙ exact w x e))
 
 shared_found : (ds : List Declaration) → AllPairs (λ v w. v ≢ w) (map name_of ds) → (j : ℕ) (v : Shared) → slice_get (shared_of ds) j ≡ Some v

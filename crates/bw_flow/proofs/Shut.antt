@@ -19,7 +19,7 @@ use Rattle.bw_flow.proofs.Joins.{never}
 use Rattle.bw_flow.proofs.Stands.{length_sessions}
 
 -- whether the last statement is an `exit`; b is the answer for none
-abbrev closes : Bool → Code → Bool
+abbrev pub closes : Bool → Code → Bool
 closes b done = b
 closes b (declare k w e rest) = closes false rest
 closes b (assign w e rest) = closes false rest
@@ -210,7 +210,7 @@ is_shut service h =
 
 -- ---- how many first places and next points there are
 
-length_firsts : (ss : List Session) (p out : ℕ) → length (session_firsts ss p out) ≡ length ss
+pub length_firsts : (ss : List Session) (p out : ℕ) → length (session_firsts ss p out) ≡ length ss
 length_firsts [] p out = refl
 length_firsts (s ∷ ss) p out = let e = length_firsts ss (p + count s.body) out in omega (arith, e)
 

@@ -24,11 +24,11 @@ abbrev pub Within : ℕ → ℕ → List Step → Type 0
 Within lo hi [] = Unit {0}
 Within lo hi (x ∷ xs) = (lo ≤ x.number) × (x.number < hi) × Within lo hi xs
 
-within_wider : (lo hi a b : ℕ) (xs : List Step) → a ≤ lo → hi ≤ b → Within lo hi xs → Within a b xs
+pub within_wider : (lo hi a b : ℕ) (xs : List Step) → a ≤ lo → hi ≤ b → Within lo hi xs → Within a b xs
 within_wider lo hi a b [] l h w = tt
 within_wider lo hi a b (x ∷ xs) l h w = let p = w.0 in let q = w.1 in (omega arith, omega arith, within_wider lo hi a b xs l h w.2)
 
-within_parts : (lo hi : ℕ) (xs ys : List Step) → Within lo hi xs → Within lo hi ys → Within lo hi (xs ++ ys)
+pub within_parts : (lo hi : ℕ) (xs ys : List Step) → Within lo hi xs → Within lo hi ys → Within lo hi (xs ++ ys)
 within_parts lo hi [] ys a b = b
 within_parts lo hi (x ∷ xs) ys a b = (a.0, a.1, within_parts lo hi xs ys a.2 b)
 

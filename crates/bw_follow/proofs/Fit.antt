@@ -15,8 +15,9 @@ use Rattle.bw_meaning.specs.Values.{Values}
 use Rattle.bw_follow.specs.Laws.{IsFitShow, ShownIsFit, ShownAgainIsFit}
 use Rattle.bw_follow.proofs.Back.{back}
 use Rattle.bw_follow.proofs.Ends.{Ends, Waits, exec_ends}
-use Rattle.bw_follow.proofs.Whole.{found, length_firsts, in_range, means_end, at_end, none_more}
+use Rattle.bw_follow.proofs.Whole.{found, in_range, means_end, at_end, none_more}
 use Rattle.std.proofs.lemmas.Option.{slice_get_within}
+use Rattle.bw_flow.proofs.Shut.{length_firsts}
 
 plus_none : (n m : ℕ) → 0 + n ≡ m → n ≡ m
 plus_none n m e = omega arith

@@ -27,7 +27,8 @@ use Rattle.bw_follow.specs.Laws.{TypedIsReady}
 use Rattle.bw_follow.specs.Runs.{plain, first_of}
 use Rattle.bw_follow.proofs.Past.{begins_with, ends_out, goes_past}
 use Rattle.bw_follow.proofs.RunKinds.{Arrives, run_kinds, arrives_behind, arrives_first}
-use Rattle.bw_follow.proofs.Whole.{found, length_firsts, turns_agree, going_on_agrees}
+use Rattle.bw_follow.proofs.Whole.{found, turns_agree, going_on_agrees}
+use Rattle.bw_flow.proofs.Shut.{length_firsts}
 
 pub typed_is_ready : TypedIsReady
 typed_is_ready t = record {

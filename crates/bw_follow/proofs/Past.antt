@@ -17,6 +17,7 @@ use Rattle.bw_flow.proofs.Parts.{Holds, holds_at, holds_parts, holds_self}
 use Rattle.bw_flow.proofs.Stands.{length_sessions}
 use Rattle.bw_flow.proofs.Ways.{Ends, ends_at, ends_more, ends_after, entry}
 use Rattle.bw_follow.specs.Runs.{second_of}
+use Rattle.bw_flow.proofs.Given.{nothing_behind}
 
 -- from a foreach, which goes on behind it at its second place
 abbrev GoesPast : List Step → Act → List Local → List ℕ → Type 0
@@ -130,10 +131,6 @@ module _ (service : Service) (flow : List Step) where
   begins_with (exit v rest) n sc d p q low e = ends_at flow p _ low.1
   begins_with (block y rest) n sc d p q low e =
       begins_with y n sc d p low.0 low.1 (ends_after flow low.0 y sc (begins_with rest (n + numbered y) sc d low.0 q low.2 e))
-
-nothing_behind : (flow : List Step) (y : Step) → slice_get flow (length flow) ≡ Some y → ⊥
-nothing_behind [] y e = cc
-nothing_behind (x ∷ xs) y e = nothing_behind xs y e
 
 -- no point stands behind the last one
 pub ends_out : (flow : List Step) (scope : List Local) → Ends flow (length flow) scope

@@ -15,7 +15,7 @@ use Rattle.bw_flow.specs.Stands.{Lowered, AllLowered}
 use Rattle.bw_types.specs.Faults.{ends_in_exit}
 use Rattle.std.specs.List.{All}
 use Rattle.std.proofs.lemmas.List.Elements.{All-head, All-tail}
-use Rattle.bw_follow.proofs.Closing.{closes, closes_is}
+use Rattle.bw_follow.proofs.Closing.{closes_is}
 use Rattle.bw_flow.specs.Steps.{Step}
 use Rattle.bw_flow.proofs.Stands.{stands_for_all}
 use Rattle.bw_flow.proofs.Numbered.{all_have_numbers}
@@ -34,6 +34,7 @@ use Rattle.bw_flow.specs.Scoped.{IsScoped}
 use Rattle.bw_follow.proofs.Settling.{settles_step, settles_to, on, Means}
 use Rattle.bw_follow.proofs.Sim.{sim}
 use Rattle.bw_follow.proofs.Back.{back}
+use Rattle.bw_flow.proofs.Shut.{closes, length_firsts}
 
 -- ---- a session never comes to the end of its statements
 
@@ -185,10 +186,6 @@ found service flow (x ∷ ss) (f ∷ fs) n out (suc k) low s c lt =
   where
     more : (a b c d : ℕ) → d ≡ b + c → a + b + c ≡ a + d
     more a b c d e = omega arith
-
-pub length_firsts : (ss : List Session) (p out : ℕ) → length (session_firsts ss p out) ≡ length ss
-length_firsts [] p out = refl
-length_firsts (s ∷ ss) p out = ap suc (length_firsts ss _ out)
 
 -- what is no point is the end
 pub means_end : (service : Service) (flow : List Step) (q r : ℕ) → slice_get flow q ≡ None → Means service flow q [] [] r (λ st. Went st)

@@ -21,6 +21,7 @@ use Rattle.bw_nodes.specs.Nodes.{among}
 use Rattle.bw_nodes.specs.Parts.{links_of, opens_of, sayings_of, gaps_of, wordy_of}
 use Rattle.bw_nodes.proofs.Bools.{and_parts, and_both, not_true, fails_at, any_at, all_at, passes_at, same_itself}
 use Rattle.std.proofs.lemmas.Slice.Eq.{bytes_eq-Decides}
+use Rattle.std.proofs.Math.Bool.{and_assoc, or-false}
 
 then_eq : (a b : Ordering) → is_eq (ordering_then a b) ≡ (is_eq a && is_eq b)
 then_eq Less b = refl
@@ -44,15 +45,11 @@ any_if p false x xs = refl
 or_two : {a b c d : Bool} → a ≡ b → c ≡ d → (a || c) ≡ (b || d)
 or_two {b = b} {c = c} p q = ap (λ x. x || c) p ∙ ap (λ x. b || x) q
 
-and_assoc : (a b c : Bool) → (a && (b && c)) ≡ ((a && b) && c)
-and_assoc true b c = refl
-and_assoc false b c = refl
-
 pub links_are : (n g m : ℕ) (edges : List (ℕ × ℕ × ℕ)) → list_any (λ l. (l.0 == g) && (l.1 == m)) (links_of n edges) ≡ has edge_cmp edges (n, g, m)
 links_are n g m [] = refl
 links_are n g m (e ∷ es) =
     any_if (λ l. (l.0 == g) && (l.1 == m)) (e.0 == n) (e.1, e.2) (links_of n es)
-    ∙ or_two (and_assoc (e.0 == n) (e.1 == g) (e.2 == m) ∙ sym (three_eq e (n, g, m))) (links_are n g m es)
+    ∙ or_two (sym (and_assoc (e.0 == n) (e.1 == g) (e.2 == m)) ∙ sym (three_eq e (n, g, m))) (links_are n g m es)
 
 turned : (a b : Bool) → (a && b) ≡ (b && a)
 turned true true = refl
@@ -71,7 +68,7 @@ pub strings_are : (literals : List (List ℕ)) (n g : ℕ) (w : List ℕ) (label
     → list_any (at_gap literals n g w) labels ≡ list_any (λ l. (l.0 == g) && has_string literals l.1 w) (sayings_of n labels)
 strings_are literals n g w [] = refl
 strings_are literals n g w (l ∷ ls) =
-    or_two (sym (and_assoc (l.0.0 == n) (l.0.1 == g) (has_string literals l.1 w))) (strings_are literals n g w ls)
+    or_two (and_assoc (l.0.0 == n) (l.0.1 == g) (has_string literals l.1 w)) (strings_are literals n g w ls)
     ∙ sym (any_if (λ l. (l.0 == g) && has_string literals l.1 w) (l.0.0 == n) (l.0.1, l.1) (sayings_of n ls))
 
 -- a set that is held has a string
@@ -170,10 +167,6 @@ pub label_is : (literals : List (List ℕ)) (n g : ℕ) (w : List ℕ) (labels :
 label_is literals n g w [] t = refl
 label_is literals n g w (l ∷ ls) t = by_key (is_eq (pair_cmp l.0 (n, g))) refl (label_is literals n g w ls t.1.1)
   where
-    or_none : (b : Bool) → (b || false) ≡ b
-    or_none true = refl
-    or_none false = refl
-
     none_behind : (rest : List ((ℕ × ℕ) × StrSet)) → AllByRecursion (λ f. pair_cmp l.0 f.0 ≡ Less) rest → is_eq (pair_cmp l.0 (n, g)) ≡ true
         → list_any (at_gap literals n g w) rest ≡ false
     none_behind [] a e = refl
@@ -191,5 +184,5 @@ label_is literals n g w (l ∷ ls) t = by_key (is_eq (pair_cmp l.0 (n, g))) refl
         → (at_gap literals n g w l || list_any (at_gap literals n g w) ls) ≡ has_string literals (cond b l.1 (found pair_cmp (Of []) ls (n, g))) w
     by_key true e ih =
         ap (λ b. (b && has_string literals l.1 w) || list_any (at_gap literals n g w) ls) (sym (two_eq l.0 (n, g)) ∙ e)
-        ∙ ap (λ b. has_string literals l.1 w || b) (none_behind ls t.0 e) ∙ or_none (has_string literals l.1 w)
+        ∙ ap (λ b. has_string literals l.1 w || b) (none_behind ls t.0 e) ∙ or-false (has_string literals l.1 w)
     by_key false e ih = ap (λ b. (b && has_string literals l.1 w) || list_any (at_gap literals n g w) ls) (sym (two_eq l.0 (n, g)) ∙ e) ∙ ih

@@ -5,29 +5,14 @@ use Rattle.std.proofs.lemmas.List.{get_or-replicate, length-replicate, get_or_de
 use Rattle.std.proofs.lemmas.Bool.Decides.{nat_tests}
 use Rattle.bw_rows.specs.Rows.{flag}
 use Rattle.bw_rows.specs.Changes.{Sets, Clears, Rises}
-
-or_false : (b : Bool) → b ≡ (b || false)
-or_false true = refl
-or_false false = refl
-
-and_true : (b : Bool) → b ≡ (b && true)
-and_true true = refl
-and_true false = refl
-
-or_assoc : (a b c : Bool) → ((a || b) || c) ≡ (a || (b || c))
-or_assoc true b c = refl
-or_assoc false b c = refl
-
-and_assoc : (a b c : Bool) → ((a && b) && c) ≡ (a && (b && c))
-and_assoc true b c = refl
-and_assoc false b c = refl
+use Rattle.std.proofs.Math.Bool.{or-false, and-true, or_assoc, and_assoc}
 
 -- nothing was done
 pub sets_none : {row : List Bool} {test : ℕ → Bool} → ((c : ℕ) → test c ≡ false) → Sets row row test
-sets_none {row = row} h = record { len = refl; each = λ c l. or_false (flag row c) ∙ ap (λ b. flag row c || b) (sym (h c)) }
+sets_none {row = row} h = record { len = refl; each = λ c l. sym (or-false (flag row c)) ∙ ap (λ b. flag row c || b) (sym (h c)) }
 
 pub clears_none : {row : List Bool} {test : ℕ → Bool} → ((c : ℕ) → test c ≡ true) → Clears row row test
-clears_none {row = row} h = record { len = refl; each = λ c l. and_true (flag row c) ∙ ap (λ b. flag row c && b) (sym (h c)) }
+clears_none {row = row} h = record { len = refl; each = λ c l. sym (and-true (flag row c)) ∙ ap (λ b. flag row c && b) (sym (h c)) }
 
 -- one change and then another
 pub sets_then : {a b c : List Bool} {p q r : ℕ → Bool} → Sets a b p → Sets b c q → ((k : ℕ) → r k ≡ (p k || q k)) → Sets a c r

@@ -46,7 +46,7 @@ names_of_scope (l ∷ sc) = ap (λ r. l.name ∷ r) (names_of_scope sc)
 pub names_from : (l : meaning.Values) (sc : List Local) → kinds_of l ≡ kinds_in sc → names_of l ≡ names_in sc
 names_from l sc e = sym (names_of_kinds l) ∙ ap (map (λ p. p.0)) e ∙ names_of_scope sc
 
-no_join : (a : Act) → is_show a ≡ true → is_join a ≡ false
+pub no_join : (a : Act) → is_show a ≡ true → is_join a ≡ false
 no_join (acts.sets w e) h = refl
 no_join (acts.tests e) h = refl
 no_join (acts.goes_over w e) h = refl

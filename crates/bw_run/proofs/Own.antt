@@ -11,19 +11,7 @@ use Rattle.bw_flow.specs.declared.point.Local.{Local}
 use Rattle.bw_flow.specs.Layout.{count, enter, steps, session_steps, points, plan_of}
 use Rattle.bw_flow.specs.Steps.{Step}
 use Rattle.bw_follow.specs.Laws.{IsOf}
-
--- the numbers of these points are within these
-abbrev Within : ℕ → ℕ → List Step → Type 0
-Within lo hi [] = Unit {0}
-Within lo hi (x ∷ xs) = (lo ≤ x.number) × (x.number < hi) × Within lo hi xs
-
-within_more : (lo hi a b : ℕ) (xs : List Step) → a ≤ lo → hi ≤ b → Within lo hi xs → Within a b xs
-within_more lo hi a b [] h k w = tt
-within_more lo hi a b (x ∷ xs) h k w = let l = w.0 in let u = w.1 in (omega arith, omega arith, within_more lo hi a b xs h k w.2)
-
-within_parts : (lo hi : ℕ) (xs ys : List Step) → Within lo hi xs → Within lo hi ys → Within lo hi (xs ++ ys)
-within_parts lo hi [] ys a b = b
-within_parts lo hi (x ∷ xs) ys a b = (a.0, a.1, within_parts lo hi xs ys a.2 b)
+use Rattle.bw_flow.proofs.Spots.{Within, within_parts, within_wider}
 
 within_at : (lo hi : ℕ) (xs : List Step) (p : ℕ) (x : Step) → Within lo hi xs → slice_get xs p ≡ Some x → (lo ≤ x.number) × (x.number < hi)
 within_at lo hi [] p x w e = cc

@@ -50,6 +50,7 @@ use Rattle.bw_schema.specs.declared.rules.Rule.{Rule}
 use Rattle.bw_schema.proofs.FormulaLoops.{append-nothing, append_one}
 use Rattle.bw_schema.proofs.Lists.{drop_past}
 use Rattle.bw_schema.proofs.NeedsLaws.{needs_more}
+use Rattle.std.proofs.Math.Bool.{or-false}
 
 -- what is left of a list begins with what was read
 pub drop_read : {A : Type 0} (xs : List A) (i : ℕ) (x : A) → x ≡ get_or xs i x → i < length xs → drop i xs ≡ x ∷ drop (i + 1) xs
@@ -159,10 +160,6 @@ filled r lines = record {
   needs = append_needs r.needs (needs_of lines);
 }
 
-or_false : (b : Bool) → (b || false) ≡ b
-or_false true = refl
-or_false false = refl
-
 pub filled_none : (r : Rule) → filled r [] ≡ r
 filled_none r = λ i. record {
   tag = r.tag;
@@ -170,7 +167,7 @@ filled_none r = λ i. record {
   must = append-nil r.must i;
   values = append-nil r.values i;
   has = append-nil r.has i;
-  text = or_false r.text i;
+  text = or-false r.text i;
   needs = append-nothing r.needs i;
 }
 

@@ -14,6 +14,7 @@ use Rattle.bw_schema.specs.Rules.{allows, permits, rule_of}
 use Rattle.bw_schema.specs.Needs.{Needs, nothing, all_of, some_of, attr, one_value, content, order}
 use Rattle.bw_schema.specs.Validity as v
 use Rattle.bw_schema.specs.Laws.{ValidClosed}
+use Rattle.std.proofs.Math.Bool.{and-false}
 
 keep_each : (p : List ℕ → List ℕ → Bool) (a : Attr) (w : AttrValue) (rest : List Attr) → a.value ≡ w
     → v.each_fixed p (keep_fixed a w rest) ≡ (v.on_fixed p a.name a.value && v.each_fixed p rest)
@@ -24,15 +25,11 @@ pub closed_each : (p : List ℕ → List ℕ → Bool) (a : List Attr) → v.eac
 closed_each p [] = refl
 closed_each p (a ∷ rest) = keep_each p a a.value (closed_attrs rest) refl ∙ ap (λ b. v.on_fixed p a.name a.value && b) (closed_each p rest)
 
-and_false : (b : Bool) → (b && false) ≡ false
-and_false true = refl
-and_false false = refl
-
 keep_has : (a : Attr) (w : AttrValue) (rest : List Attr) (x : List ℕ) → a.value ≡ w
     → v.has_fixed (keep_fixed a w rest) x ≡ ((same a.name x && v.is_fixed a.value) || v.has_fixed rest x)
 keep_has a (Fixed s) rest x e = refl
 keep_has a (Hole g) rest x e = sym (ap (λ u. (same a.name x && v.is_fixed u) || v.has_fixed rest x) e
-    ∙ ap (λ b. b || v.has_fixed rest x) (and_false (same a.name x)))
+    ∙ ap (λ b. b || v.has_fixed rest x) (and-false (same a.name x)))
 
 pub closed_has : (a : List Attr) (x : List ℕ) → v.has_fixed (closed_attrs a) x ≡ v.has_fixed a x
 closed_has [] x = refl
@@ -58,7 +55,7 @@ keep_value : (vs : List (List ℕ)) (a : Attr) (w : AttrValue) (rest : List Attr
     → v.has_value (keep_fixed a w rest) x vs ≡ ((same a.name x && v.value_in vs a.value) || v.has_value rest x vs)
 keep_value vs a (Fixed s) rest x e = refl
 keep_value vs a (Hole g) rest x e = sym (ap (λ u. (same a.name x && v.value_in vs u) || v.has_value rest x vs) e
-    ∙ ap (λ b. b || v.has_value rest x vs) (and_false (same a.name x)))
+    ∙ ap (λ b. b || v.has_value rest x vs) (and-false (same a.name x)))
 
 closed_value : (vs : List (List ℕ)) (a : List Attr) (x : List ℕ) → v.has_value (closed_attrs a) x vs ≡ v.has_value a x vs
 closed_value vs [] x = refl

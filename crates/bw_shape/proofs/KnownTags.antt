@@ -6,9 +6,7 @@ use Rattle.bw_lang.specs.Document.Documents.{append}
 use Rattle.bw_lang.specs.Table.Names.{Extends}
 use Rattle.bw_lang.proofs.TableLaws.{numbers_stay}
 use Rattle.bw_shape.specs.Columns.{AreKnown}
-
-pub longer : (old new : List (List ℕ)) → Extends old new → length old ≤ length new
-longer old new e = let k = ap length e.is in let l = length-append old e.more in omega (arith, k, l)
+use Rattle.bw_sum.proofs.ReadGaps.{longer}
 
 -- a longer table has them too
 pub known_stay : (old new : List (List ℕ)) (t : Forest) → Extends old new → AreKnown old t → AreKnown new t

@@ -6,7 +6,9 @@ use Rattle.std.proofs.lemmas.List.{get_or-set_same, length-set, get_or_default, 
 use Rattle.std.proofs.lemmas.List.Elements.{All-push, Contains-append_left, Contains-push}
 use Rattle.bw_rows.specs.Rows.{flag}
 use Rattle.bw_shape.specs.Reach.{Takes, Placed}
-use Rattle.bw_shape.proofs.Reaching.{last, equal_or, set_keeps, set_news, all_clear}
+use Rattle.bw_shape.proofs.Reaching.{set_keeps, set_news, all_clear}
+use Rattle.bw_rows.proofs.Steps.{equal_or}
+use Rattle.bw_rows.proofs.Waking.{last}
 
 -- no template yet
 pub placed_none : (rows : ℕ) → Placed rows (replicate rows false) []

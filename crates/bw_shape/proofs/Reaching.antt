@@ -11,18 +11,14 @@ use Rattle.bw_rows.specs.Rows.{flag, ones}
 use Rattle.bw_nodes.specs.Nodes.{Node, node_at, no_node}
 use Rattle.bw_shape.specs.Reach.{links_to, Walked, root_is, along, Takes, Visit, Reaching, Reaches}
 use Rattle.bw_nodes.proofs.Bools.{and_parts, and_both}
+use Rattle.bw_rows.proofs.Steps.{equal_or, in_row}
+use Rattle.bw_rows.proofs.Waking.{last}
 
 ones_set : (xs : List Bool) (n : ℕ) → n < length xs → flag xs n ≡ false → ones (set xs n true) ≡ suc (ones xs)
 ones_set [] n l h = absurd (omega (arith, l))
 ones_set (true ∷ xs) zero l h = absurd (false≢true (sym h))
 ones_set (false ∷ xs) zero l h = omega arith
 ones_set (b ∷ xs) (suc n) l h = let k = ones_set xs n (omega (arith, l)) h in omega (arith, k)
-
-pub last : (k c : ℕ) → c < k + 1 → (c < k) ⊎ (c ≡ k)
-last k c h = grind arith
-
-pub equal_or : (m n : ℕ) → (m ≡ n) ⊎ (m ≢ n)
-equal_or m n = grind arith
 
 pub set_keeps : (xs : List Bool) (to n : ℕ) → to < length xs → (n ≡ to) ⊎ (n ≢ to) → flag xs n ≡ true → flag (set xs to true) n ≡ true
 set_keeps xs to n l (inl e) h = subst (λ j. flag (set xs to true) j ≡ true) (sym e) (get_or-set_same xs to true false l)
@@ -159,11 +155,6 @@ reach_more nodes root seen order k seen2 order2 l r v = record {
         subst (λ i. flag seen2 i ≡ true) p.2 (v.done p.0 p.1)
   ];
 }
-
-pub in_row : (row : List Bool) (c : ℕ) → flag row c ≡ true → c < length row
-in_row [] c h = absurd (false≢true h)
-in_row (b ∷ row) zero h = omega arith
-in_row (b ∷ row) (suc c) h = let k = in_row row c h in omega (arith, k)
 
 -- all were looked at
 walked_seen : (nodes : List Node) (root : ℕ) (seen : List Bool) (order : List ℕ) → Reaching nodes root seen order (length order)

@@ -34,11 +34,7 @@ next_track k h lt ltn o p true r a b c d =
     swap false false = refl
 next_track k h lt ltn o p false r a b c d =
     let same : nat_lt h k ≡ nat_lt h (suc k) = grind (arith, nat_tests) in
-    or_none (lt && (o && r)) ∙ ap (λ x. x && (o && r)) (sym b ∙ same ∙ c)
-  where
-    or_none : (x : Bool) → (x || false) ≡ x
-    or_none true = refl
-    or_none false = refl
+    or-false (lt && (o && r)) ∙ ap (λ x. x && (o && r)) (sym b ∙ same ∙ c)
 
 pub tracked_has : (n : ℕ) (items : Forest) (k h m : ℕ) → has pair_cmp (tracked n items k) (h, m) ≡ (nat_lt h k && (opens h items && (n == m)))
 tracked_has n items zero h m = sym (ap (λ x. x && (opens h items && (n == m))) (let z : nat_lt h 0 ≡ false = grind (arith, nat_tests) in z))

@@ -23,6 +23,7 @@ use Rattle.bw_sum.proofs.NewLabels.{labels_at_are}
 use Rattle.bw_sum.specs.Laws.{JoinByMembers, PlugByMembers, PlugTextByMembers}
 use Rattle.bw_strings.specs.Asking.{has_string}
 use Rattle.bw_strings.proofs.Members.{joins_by_strings}
+use Rattle.std.proofs.Math.Bool.{and_assoc, or_assoc}
 
 pub labels_both : (literals : List (List ℕ)) (a b : List ((ℕ × ℕ) × StrSet)) (n g : ℕ) (t : List ℕ) → AreLabels a → AreLabels b
     → has_string literals (found pair_cmp (Of []) (both_labels a b) (n, g)) t
@@ -83,8 +84,9 @@ lacks_if false false false = refl
 pub plugs : PlugByMembers
 plugs literals b g a s = record {
   root = λ n. refl;
-  edge = λ n h m. merge_has edge_cmp_total (merge edge_cmp b.edges a.edges) (edges_at [] b.tracks g a.roots) (n, h, m)
-      ∙ ap (λ c. c || has edge_cmp (edges_at [] b.tracks g a.roots) (n, h, m)) (merge_has edge_cmp_total b.edges a.edges (n, h, m))
+  edge = λ n h m. merge_has edge_cmp_total b.edges (merge edge_cmp a.edges (edges_at [] b.tracks g a.roots)) (n, h, m)
+      ∙ ap (λ c. has edge_cmp b.edges (n, h, m) || c) (merge_has edge_cmp_total a.edges (edges_at [] b.tracks g a.roots) (n, h, m))
+      ∙ sym (or_assoc (has edge_cmp b.edges (n, h, m)) (has edge_cmp a.edges (n, h, m)) (has edge_cmp (edges_at [] b.tracks g a.roots) (n, h, m)))
       ∙ ap (λ c. (has edge_cmp b.edges (n, h, m) || has edge_cmp a.edges (n, h, m)) || c) (edges_at_has [] b.tracks g a.roots n h m);
   label = λ n h t. labels_both literals b.texts a.texts n h t s.1.1.0.0 s.1.1.0.1;
   track = λ h n. merge_has pair_cmp_total (sifted pair_cmp (λ t. not (t.0 == g)) [] b.tracks) a.tracks (h, n)
@@ -107,10 +109,6 @@ false_and : (p q : Bool) → (p && (q && false)) ≡ false
 false_and true true = refl
 false_and true false = refl
 false_and false q = refl
-
-and_assoc : (p q r : Bool) → ((p && q) && r) ≡ (p && (q && r))
-and_assoc true q r = refl
-and_assoc false q r = refl
 
 new_label : (literals : List (List ℕ)) (tracks : List (ℕ × ℕ)) (g n h : ℕ) (t : List ℕ) (s : StrSet) (b : Bool) → is_none s ≡ b
     → has_string literals (found pair_cmp (Of []) (if b then [] else labels_at tracks g s) (n, h)) t ≡

@@ -11,18 +11,15 @@ use Rattle.bw_lang.specs.Document.Documents.{append, filled_attr, filled_value, 
 use Rattle.bw_lang.specs.Document.Forest.{Forest, none, text, gap, element}
 use Rattle.bw_sum.specs.Laws.{OpensByCount}
 use Rattle.bw_sum.specs.Opening.{holes, has_hole, opens}
-
-or_assoc : (a b c : Bool) → (a || (b || c)) ≡ ((a || b) || c)
-or_assoc true b c = refl
-or_assoc false b c = refl
+use Rattle.std.proofs.Math.Bool.{or_assoc}
 
 opens_append : (h : ℕ) (d e : Forest) → opens h (append d e) ≡ (opens h d || opens h e)
 opens_append h none e = refl
 opens_append h (text s d) e = opens_append h d e
-opens_append h (gap g d) e = ap (λ b. (g == h) || b) (opens_append h d e) ∙ or_assoc (g == h) (opens h d) (opens h e)
+opens_append h (gap g d) e = ap (λ b. (g == h) || b) (opens_append h d e) ∙ sym (or_assoc (g == h) (opens h d) (opens h e))
 opens_append h (element tag a i d) e =
-    ap (λ b. holes h a || (opens h i || b)) (opens_append h d e) ∙ ap (λ b. holes h a || b) (or_assoc (opens h i) (opens h d) (opens h e))
-    ∙ or_assoc (holes h a) (opens h i || opens h d) (opens h e)
+    ap (λ b. holes h a || (opens h i || b)) (opens_append h d e) ∙ ap (λ b. holes h a || b) (sym (or_assoc (opens h i) (opens h d) (opens h e)))
+    ∙ sym (or_assoc (holes h a) (opens h i || opens h d) (opens h e))
 
 -- another gap that was open stays open
 pub opens_kept : (h : ℕ) (d : Forest) (g : ℕ) (e : Forest) → (h ≡ g → ⊥) → opens h d ≡ true → opens h (doc.plug g e d) ≡ true
@@ -77,8 +74,8 @@ append_hole g none e = refl
 append_hole g (text s d) e = append_hole g d e
 append_hole g (gap h d) e = append_hole g d e
 append_hole g (element tag a i d) e =
-    ap (λ b. holes g a || (has_hole g i || b)) (append_hole g d e) ∙ ap (λ b. holes g a || b) (or_assoc (has_hole g i) (has_hole g d) (has_hole g e))
-    ∙ or_assoc (holes g a) (has_hole g i || has_hole g d) (has_hole g e)
+    ap (λ b. holes g a || (has_hole g i || b)) (append_hole g d e) ∙ ap (λ b. holes g a || b) (sym (or_assoc (has_hole g i) (has_hole g d) (has_hole g e)))
+    ∙ sym (or_assoc (holes g a) (has_hole g i || has_hole g d) (has_hole g e))
 
 fix_value : (h : ℕ) (v : AttrValue) (g : ℕ) (s : List ℕ) (w : AttrValue) → (h ≡ g → ⊥) → is_hole h v ≡ true → (filled_value g s v ≡ w) → is_hole h w ≡ true
 fix_value h (Fixed r) g s w apart o e = absurd (false≢true o)

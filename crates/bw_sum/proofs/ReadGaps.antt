@@ -114,7 +114,7 @@ inside_within before after inside items h =
     (one_by_one (λ (n : List ℕ). name_number (with_names before (gap_names h.read.pieces)) n < length (with_names before (gap_names h.read.pieces)))
     (gap_names h.read.pieces) (added_are_there before (gap_names h.read.pieces))))).0
 
-longer : (old new : List (List ℕ)) → Extends old new → length old ≤ length new
+pub longer : (old new : List (List ℕ)) → Extends old new → length old ≤ length new
 longer old new h = let e = ap length h.is ∙ length-append old h.more in omega arith
 
 inside_longer : (before after : List (List ℕ)) (inside : List ℕ) (items : Forest) → IsInside before inside items after → length before ≤ length after

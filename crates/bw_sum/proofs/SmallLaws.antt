@@ -77,8 +77,8 @@ joined_small a b p q = record {
 pub plugged_small : (b : Summary) (g : ℕ) (a : Summary) → g < 2 ^ 32 → IsSmall b → IsSmall a → IsSmall (summaries.plugged b g a)
 plugged_small b g a h p q = record {
   roots = p.roots;
-  edges = merge_all edge_cmp_total IsSmall3 (merge edge_cmp b.edges a.edges) (edges_at [] b.tracks g a.roots)
-      (merge_all edge_cmp_total IsSmall3 b.edges a.edges p.edges q.edges) (edges_at_all [] b.tracks g a.roots h tt p.tracks q.roots);
+  edges = merge_all edge_cmp_total IsSmall3 b.edges (merge edge_cmp a.edges (edges_at [] b.tracks g a.roots)) p.edges
+      (merge_all edge_cmp_total IsSmall3 a.edges (edges_at [] b.tracks g a.roots) q.edges (edges_at_all [] b.tracks g a.roots h tt p.tracks q.roots));
   texts = labels_all b.texts a.texts p.texts q.texts;
   tracks = merge_all pair_cmp_total IsSmall2 (sifted pair_cmp (λ t. not (t.0 == g)) [] b.tracks) a.tracks
       (sifted_all pair_cmp_total IsSmall2 (λ t. not (t.0 == g)) [] b.tracks tt p.tracks) q.tracks;

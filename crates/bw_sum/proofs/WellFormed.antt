@@ -113,8 +113,8 @@ join_well_formed s r p q =
 pub plug_well_formed : PlugIsWellFormed
 plug_well_formed b g a h p q = (
   twice p.0.0.0
-      (merge_set edge_cmp_total (merge edge_cmp b.edges a.edges) (edges_at [] b.tracks g a.roots)
-      (merge_set edge_cmp_total b.edges a.edges p.0.1.0.0 q.0.1.0.0) (edges_at_set [] b.tracks g a.roots tt))
+      (merge_set edge_cmp_total b.edges (merge edge_cmp a.edges (edges_at [] b.tracks g a.roots)) p.0.1.0.0
+      (merge_set edge_cmp_total a.edges (edges_at [] b.tracks g a.roots) q.0.1.0.0 (edges_at_set [] b.tracks g a.roots tt)))
       (labels_lattice.join_alike b.texts a.texts (p.0.1.1.0.0, q.0.1.1.0.0)).0
       (merge_set pair_cmp_total (sifted pair_cmp (λ t. not (t.0 == g)) [] b.tracks) a.tracks
       (sifted_set pair_cmp_total (λ t. not (t.0 == g)) [] b.tracks tt) q.0.1.1.1.0.0)

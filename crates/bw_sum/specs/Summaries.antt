@@ -12,7 +12,7 @@ use Rattle.bw_sum.specs.declared.summary.Summary.{Summary}
 abbrev pub plugged : Summary → ℕ → Summary → Summary
 plugged b g a = record {
   roots = b.roots;
-  edges = merge edge_cmp (merge edge_cmp b.edges a.edges) (edges_at [] b.tracks g a.roots);
+  edges = merge edge_cmp b.edges (merge edge_cmp a.edges (edges_at [] b.tracks g a.roots));
   texts = both_labels b.texts a.texts;
   tracks = merge pair_cmp (sifted pair_cmp (λ t. not (t.0 == g)) [] b.tracks) a.tracks;
   lacks = sifted nat_cmp (λ h. (h == g) || has nat_cmp b.lacks h) [] a.lacks;

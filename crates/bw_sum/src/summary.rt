@@ -118,11 +118,12 @@ impl Summary {
         ensures { IfOk result (λ s. s ≡ plugged self.now gap a.now) }
     {
         let new = new_edges(alloc, &self.tracks, gap, &a.roots)?;
-        let both = self.edges.union(alloc, &a.edges)?;
+        // What stands already may be by far the most, and is gone through once.
+        let more = a.edges.union(alloc, &new)?;
         let others = other_tracks(alloc, &self.tracks, gap)?;
         Ok(Summary {
             roots: self.roots.copy(alloc)?,
-            edges: both.union(alloc, &new)?,
+            edges: self.edges.union(alloc, &more)?,
             texts: self.texts.with(alloc, &a.texts)?,
             tracks: others.union(alloc, &a.tracks)?,
             lacks: lacking(alloc, &a.lacks, gap, &self.lacks)?,

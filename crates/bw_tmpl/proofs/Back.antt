@@ -21,6 +21,7 @@ use Rattle.bw_tmpl.specs.Laws.{ReadsBack}
 use Rattle.bw_tmpl.proofs.GapLaws.{gap_names_append}
 use Rattle.bw_lang.proofs.PrintLaws.{joined_alike}
 use Rattle.bw_tmpl.proofs.BackPieces.{raw_value, raw_attr, raw_names, tag_of, element_pieces, written, starts_text, Tidy, prints, reads_written}
+use Rattle.std.proofs.Math.Bool.{and-false}
 
 -- ---- texts are apart, and no attribute stands twice
 
@@ -34,13 +35,9 @@ begins_written (element tag attrs inner f) s h = by_void (is_void tag)
     by_void true = refl
     by_void false = refl
 
-and_false : (b : Bool) → (b && false) ≡ false
-and_false true = refl
-and_false false = refl
-
 begins_append : (p : Piece) (ps : List Piece) (n : List ℕ) (qs : List Piece) → (is_text p && begins_with_text ps) ≡ false
     → (is_text p && begins_with_text (ps ++ piece.End n ∷ qs)) ≡ false
-begins_append p [] n qs h = and_false (is_text p)
+begins_append p [] n qs h = and-false (is_text p)
 begins_append p (x ∷ ps) n qs h = h
 
 apart_append : (ps : List Piece) (n : List ℕ) (qs : List Piece) → Apart ps → Apart qs → Apart (ps ++ piece.End n ∷ qs)

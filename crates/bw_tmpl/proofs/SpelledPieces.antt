@@ -19,6 +19,7 @@ use Rattle.bw_tmpl.proofs.Shrinking.{piece_shrinks}
 use Rattle.bw_tmpl.proofs.SpelledNames.{none_some, leading_front, name_is}
 use Rattle.bw_tmpl.proofs.SpelledValues.{chars_is, checked_is}
 use Rattle.bw_tmpl.proofs.SpelledTags.{tag_is}
+use Rattle.std.proofs.Math.Bool.{and-false}
 
 -- ---- pieces
 
@@ -121,11 +122,7 @@ pub record Listed (bytes : List ℕ) (t : List Piece × List ℕ) : Type 0 where
 behind_text : (x : Piece × List ℕ) (bytes : List ℕ) (ps : List Piece)
     → ((is_text x.0 ≡ false) ⊎ ((char_at 60 x.1 ≡ None) × (char_at 60 bytes ≡ None → ⊥))) → head_is_plain ps x.1 → (is_text x.0 && begins_with_text ps) ≡ false
 behind_text x bytes ps (inl h) k = ap (λ (v : Bool). v && begins_with_text ps) h
-behind_text x bytes ps (inr h) k = ap (λ (v : Bool). is_text x.0 && v) (k h.0) ∙ and_false (is_text x.0)
-  where
-    and_false : (b : Bool) → (b && false) ≡ false
-    and_false true = refl
-    and_false false = refl
+behind_text x bytes ps (inr h) k = ap (λ (v : Bool). is_text x.0 && v) (k h.0) ∙ and-false (is_text x.0)
 
 first_plain : (x : Piece × List ℕ) (bytes : List ℕ) → ((is_text x.0 ≡ false) ⊎ ((char_at 60 x.1 ≡ None) × (char_at 60 bytes ≡ None → ⊥)))
     → char_at 60 bytes ≡ None → is_text x.0 ≡ false

@@ -25,9 +25,7 @@ use Rattle.bw_typed.specs.Named.{NamesTemplate, IsLiteral, SharedBegin, GapsHave
 use Rattle.bw_typed.specs.Numbered.{numbers}
 use Rattle.bw_typed.proofs.Found.{found}
 use Rattle.bw_typed.proofs.Services.{gaps_are_numbered}
-
-below : (m n : ℕ) → m < n → nat_lt m n ≡ true
-below m n h = grind (arith, nat_tests)
+use Rattle.bw_types.proofs.Seek.{below}
 
 -- a place within the list is found
 at_place : {X : Type 0} (p : X → Bool) (xs : List X) → position_or_len p xs < length xs → position p xs ≡ Some (position_or_len p xs)

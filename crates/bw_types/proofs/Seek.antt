@@ -14,6 +14,8 @@ use Rattle.bw_types.specs.Gaps.{gap_kind}
 use Rattle.bw_lang.specs.Table.Names.{beside}
 use Rattle.bw_types.specs.Scopes.{is_among}
 use Rattle.bw_types.specs.Tables.{with_kind, with_kinds, with_use, with_uses}
+use Rattle.std.proofs.Math.Bool.{or-false}
+use Rattle.std.proofs.Math.Bool as bools
 
 -- names with the same bytes are the same
 pub same_is : (a b : List ℕ) → same a b ≡ true → a ≡ b
@@ -110,7 +112,7 @@ missed (m ∷ names) w h = by_test (same w m) h (missed names w)
 above : (m n : ℕ) → n ≤ m → nat_lt m n ≡ false
 above m n h = grind (arith, nat_tests)
 
-below : (m n : ℕ) → m < n → nat_lt m n ≡ true
+pub below : (m n : ℕ) → m < n → nat_lt m n ≡ true
 below m n h = grind (arith, nat_tests)
 
 -- a name that has a place in the table is among its names
@@ -124,27 +126,19 @@ among_by_number names w = by_test (list_any (same w) names) refl
 pub among-append : (w : List ℕ) (a b : List (List ℕ)) → is_among w (a ++ b) ≡ (is_among w a || is_among w b)
 among-append w a b = list_any-append (same w) a b
 
-or_false : (b : Bool) → b ≡ (b || false)
-or_false true = refl
-or_false false = refl
-
-or_or : (a b c : Bool) → ((a || b) || c) ≡ (a || (b || c))
-or_or true b c = refl
-or_or false b c = refl
-
 among-with_name : (w n : List ℕ) (t : List (List ℕ)) → is_among w (with_name t n) ≡ (is_among w t || same w n)
 among-with_name w n t = by_test (is_among n t) refl
   where
     here : (b : Bool) → same w n ≡ b → is_among n t ≡ true → is_among w t ≡ (is_among w t || b)
     here true e h = ap (λ k. is_among k t) (same_is w n e) ∙ h ∙ sym (ap (λ k. is_among k t || true) (same_is w n e) ∙ ap (λ b. b || true) h)
-    here false e h = or_false (is_among w t)
+    here false e h = sym (or-false (is_among w t))
 
     by_test : (b : Bool) → is_among n t ≡ b → is_among w (if b then t else t ++ n ∷ []) ≡ (is_among w t || same w n)
     by_test true h = here (same w n) refl h
-    by_test false h = among-append w t (n ∷ []) ∙ ap (λ b. is_among w t || b) (sym (or_false (same w n)))
+    by_test false h = among-append w t (n ∷ []) ∙ ap (λ b. is_among w t || b) (or-false (same w n))
 
 -- a table has the names that were taken in, and those that it had
 pub among-with_names : (w : List ℕ) (t new : List (List ℕ)) → is_among w (with_names t new) ≡ (is_among w t || is_among w new)
-among-with_names w t [] = or_false (is_among w t)
+among-with_names w t [] = sym (or-false (is_among w t))
 among-with_names w t (n ∷ new) =
-    among-with_names w (with_name t n) new ∙ ap (λ b. b || is_among w new) (among-with_name w n t) ∙ or_or (is_among w t) (same w n) (is_among w new)
+    among-with_names w (with_name t n) new ∙ ap (λ b. b || is_among w new) (among-with_name w n t) ∙ bools.or_assoc (is_among w t) (same w n) (is_among w new)

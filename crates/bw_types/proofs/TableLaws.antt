@@ -10,6 +10,7 @@ use Rattle.bw_types.specs.declared.fault.GapKind.{GapKind}
 use Rattle.bw_types.specs.Gaps.{gap_kind}
 use Rattle.bw_lang.specs.Table.Names.{beside}
 use Rattle.bw_types.specs.Tables.{with_kind, with_use}
+use Rattle.bw_lang.proofs.TableLaws.{alike}
 
 nat_eq_flips : (a b : ℕ) → nat_eq a b ≡ nat_eq b a
 nat_eq_flips a b = grind (arith, nat_tests)
@@ -54,9 +55,6 @@ pub insert_use : (g n : ℕ) (k : GapKind) (t es : List (ℕ × GapKind)) (o : O
 insert_use g n k t es o e q p h =
     ap (λ x. insert_entry nat_eq x n k) e ∙ ap (λ x. insert_entry nat_eq t x k) q ∙ insert_last nat_eq g k t (gap_kind-lookup g t ∙ sym p ∙ absent o h)
     ∙ ap (λ (b : Bool). if b then t else t ++ (g, k) ∷ []) (sym (ap is_some (sym p) ∙ h))
-
-abbrev pub alike : {Z : Type 0} → String Z → String Z → Bool
-alike a b = same (string_bytes a) (string_bytes b)
 
 -- a name that isn't there is taken in last
 pub insert_kind : {A Z : Type 0} (s : String Z) (w : List ℕ) (k : A) (es : List (String Z × A)) (t : List (List ℕ × A)) (o : Option A)

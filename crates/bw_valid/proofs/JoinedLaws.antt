@@ -14,6 +14,7 @@ use Rattle.bw_schema.specs.Validity as v
 use Rattle.bw_schema.specs.Words.{is_among, is_blank}
 use Rattle.bw_valid.specs.Breaches.{broken_at, placed, or_then, first_broken}
 use Rattle.bw_valid.specs.Laws.{BreachJoined}
+use Rattle.std.proofs.Math.Bool.{and_assoc}
 
 -- ---- a text in front
 
@@ -37,10 +38,6 @@ text_order x y (b ∷ s) none = refl
 text_order x y (b ∷ s) (text t d) = refl
 text_order x y (b ∷ s) (gap g d) = refl
 text_order x y (b ∷ s) (element tag attrs inner d) = refl
-
-and_assoc : (a b c : Bool) → ((a && b) && c) ≡ (a && (b && c))
-and_assoc true b c = refl
-and_assoc false b c = refl
 
 text_blank : (s : List ℕ) (d : Forest) → v.each_text is_blank (text_before s d) ≡ (is_blank s && v.each_text is_blank d)
 text_blank [] d = refl

@@ -1,4 +1,5 @@
 -- Walks over a list of items, and over a list of formulas.
+use Rattle.std.proofs.Math.Bool.{and_assoc}
 use Rattle.std.proofs.Common.{
   ◌≡◌,
   ℕ,
@@ -53,23 +54,15 @@ use Rattle.bw_schema.specs.Needs.{Needs}
 use Rattle.bw_schema.specs.Validity.{each_child, each_text, holds, is_other, joined, ordered}
 use Rattle.bw_valid.specs.Breaches.{broken_at, first_broken, holds_alone, or_then, ordered_behind, placed}
 
-and_assoc : (a b : Bool) → ((a && true) && b) ≡ (a && b)
-and_assoc true b = refl
-and_assoc false b = refl
-
-and_assoc3 : (a b c : Bool) → (a && (b && c)) ≡ ((a && b) && c)
-and_assoc3 true b c = refl
-and_assoc3 false b c = refl
-
 pub child-append : (p : List ℕ → Bool) (a b : Forest) → each_child p (append a b) ≡ (each_child p a && each_child p b)
 child-append p none b = refl
 child-append p (text s r) b = child-append p r b
 child-append p (gap g r) b = child-append p r b
-child-append p (element tag a i r) b = ap (λ c. p tag && c) (child-append p r b) ∙ and_assoc3 (p tag) (each_child p r) (each_child p b)
+child-append p (element tag a i r) b = ap (λ c. p tag && c) (child-append p r b) ∙ sym (and_assoc (p tag) (each_child p r) (each_child p b))
 
 pub texts-append : (p : List ℕ → Bool) (a b : Forest) → each_text p (append a b) ≡ (each_text p a && each_text p b)
 texts-append p none b = refl
-texts-append p (text s r) b = ap (λ c. p s && c) (texts-append p r b) ∙ and_assoc3 (p s) (each_text p r) (each_text p b)
+texts-append p (text s r) b = ap (λ c. p s && c) (texts-append p r b) ∙ sym (and_assoc (p s) (each_text p r) (each_text p b))
 texts-append p (gap g r) b = texts-append p r b
 texts-append p (element tag a i r) b = texts-append p r b
 

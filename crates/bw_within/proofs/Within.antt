@@ -135,8 +135,8 @@ module _ (bound : ℕ) (sort : StrSet → Type 0) (joins : (a b : StrSet) → so
   pub plug_within : (b : Summary) (g : ℕ) (a : Summary) → IsWithin bound sort b → IsWithin bound sort a → IsWithin bound sort (summaries.plugged b g a)
   plug_within b g a p q = record {
     roots = p.roots;
-    edges = merge_all edge_cmp_total (IsWithinEdge bound) (merge edge_cmp b.edges a.edges) (edges_at [] b.tracks g a.roots)
-        (merge_all edge_cmp_total (IsWithinEdge bound) b.edges a.edges p.edges q.edges) (at_within [] b.tracks g a.roots tt p.tracks q.roots);
+    edges = merge_all edge_cmp_total (IsWithinEdge bound) b.edges (merge edge_cmp a.edges (edges_at [] b.tracks g a.roots)) p.edges
+        (merge_all edge_cmp_total (IsWithinEdge bound) a.edges (edges_at [] b.tracks g a.roots) q.edges (at_within [] b.tracks g a.roots tt p.tracks q.roots));
     texts = labels_within b.texts a.texts p.texts q.texts;
     tracks = merge_all pair_cmp_total (IsWithinTrack bound) (sifted pair_cmp (λ t. not (t.0 == g)) [] b.tracks) a.tracks
         (other_within b.tracks g p.tracks) q.tracks;

@@ -21,6 +21,7 @@ use Rattle.bw_flow.specs.Steps.{Act, Step}
 use Rattle.bw_flow.specs.Steps as acts
 use Rattle.bw_follow.specs.Runs.{is_show, fields_of}
 use Rattle.bw_model.specs.Received.{receives_at}
+use Rattle.bw_run.proofs.Fits.{no_join}
 
 pub split : (a b : ℕ) → (a < b) ⊎ (b ≤ a)
 split a zero = inr (omega arith)
@@ -79,14 +80,6 @@ outside (show p rs rest) n k h =
     differs (inl l) e = absurd (omega (arith, l, e))
     differs (inr l) e = absurd (omega (arith, l, e))
 outside (exit p rest) n k h = outside rest (n + 1) k (less k n (1 + numbered rest) (n + 1) (numbered rest) (omega arith) (omega arith) h)
-
-no_join : (a : Act) → is_show a ≡ true → is_join a ≡ false
-no_join (acts.sets w e) h = refl
-no_join (acts.tests e) h = refl
-no_join (acts.goes_over w e) h = refl
-no_join (acts.shows e rs) h = refl
-no_join (acts.exits e) h = refl
-no_join acts.joins h = cc
 
 module _ (service : Service) (flow : List Step) (once : HasNumbers flow) (p : ℕ) (x : Step) (page : Term) (fields : List Received) (at : IsAt flow p x)
     (is : x.act ≡ acts.shows page fields) where

@@ -75,11 +75,18 @@ impl World {
         ensures service { IfOk result (λ w. w.service ≡ checked.typed.service) }
         ensures stands { IfOk result (λ w. StandsFor w (record (empty checked.typed.service) { next = next; first = first })) }
     {
-        let shared = first_values(alloc, checked.typed())?;
         let Some(most) = NonZeroUsize::new(1000) else {
             unreachable!()
         };
-        let live = LruCache::new(alloc, most)?;
+        let Ok(shared) = first_values(alloc, checked.typed()) else {
+            drop(checked);
+            return Err(Memory);
+        };
+        let Ok(live) = LruCache::new(alloc, most) else {
+            drop(checked);
+            drop(shared);
+            return Err(Memory);
+        };
         Ok(World {
             checked,
             next,

@@ -2,8 +2,8 @@
 
 use crate::plain::Plain;
 use bw_doc::{Doc, DocFault};
-use bw_lang::{GapId, Name, TemplateId, Text};
-use bw_page::{Sheet, wrap_exit, wrap_show};
+use bw_lang::{GapId, Memory, Name, TemplateId, Text};
+use bw_page::Sheet;
 use bw_types::Typed;
 use case_files::Fault;
 use std::alloc::{AllocError, Global};
@@ -40,17 +40,11 @@ impl Both {
     pub fn constant(typed: &Typed, name: &str) -> Result<Both, Fault> {
         let number = typed.template(name).ok_or(Fault::Malformed)?;
         let template = typed.template_at(number).ok_or(Fault::Malformed)?;
-        Ok(Both {
-            doc: Doc::constant(typed, number)?,
-            plain: Plain::constant(template)?,
-        })
+        paired(Doc::constant(typed, number)?, Plain::constant(template))
     }
 
     pub fn copy(&self) -> Result<Both, Fault> {
-        Ok(Both {
-            doc: self.doc.copy()?,
-            plain: self.plain.copy()?,
-        })
+        paired(self.doc.copy()?, self.plain.copy())
     }
 
     pub fn plug(&self, gap: GapId, other: &Both) -> Result<Both, Refusal> {
@@ -98,31 +92,92 @@ impl Both {
     /// Its page as a session's last one.
     pub fn exit(&self, alloc: Global, title: &str) -> Result<String, Fault> {
         let title = Name::of(alloc, title)?;
-        let page = Sheet::of(alloc, &wrap_exit(&title, &self.plain.tree)?)?;
-        shown(alloc, self.doc.sheet(&title, None)?.as_bytes(), &page)
+        let shown = self.shown_page(alloc, &title, None);
+        drop(title);
+        shown
     }
 
     /// Its page in a form with this target.
     pub fn show(&self, alloc: Global, title: &str, target: &str) -> Result<String, Fault> {
         let title = Name::of(alloc, title)?;
+        let shown = self.show_titled(alloc, &title, target);
+        drop(title);
+        shown
+    }
+
+    /// Its page of this title in a form with this target.
+    fn show_titled(&self, alloc: Global, title: &Name, target: &str) -> Result<String, Fault> {
         let target = Text::of(alloc, target)?;
-        let page = Sheet::of(alloc, &wrap_show(&title, &target, &self.plain.tree)?)?;
-        let sheet = self.doc.sheet(&title, Some(&target))?;
-        shown(alloc, sheet.as_bytes(), &page)
+        let shown = self.shown_page(alloc, title, Some(&target));
+        drop(target);
+        shown
+    }
+
+    /// Its page, as a session's last one or in a form.
+    fn shown_page(
+        &self,
+        alloc: Global,
+        title: &Name,
+        target: Option<&Text>,
+    ) -> Result<String, Fault> {
+        let (sheet, page) = self.pages(alloc, title, target)?;
+        let shown = shown(alloc, sheet.as_bytes(), &page);
+        drop(sheet);
+        drop(page);
+        shown
+    }
+
+    /// The pages of its two sides.
+    fn pages(
+        &self,
+        alloc: Global,
+        title: &Name,
+        target: Option<&Text>,
+    ) -> Result<(Sheet, Sheet), Fault> {
+        let page = self.plain.page(alloc, title, target)?;
+        match self.doc.sheet(title, target) {
+            Ok(sheet) => Ok((sheet, page)),
+            Err(memory) => {
+                drop(page);
+                Err(Fault::from(memory))
+            }
+        }
     }
 
     /// Whether its two sides have the same measure, as many gaps of that number, and pages of the same bytes.
     pub fn is_same(&self, alloc: Global, gap: GapId) -> Result<bool, Fault> {
-        let gaps = self.plain.gaps(gap);
         let title = Name::of(alloc, "Same")?;
-        let page = Sheet::of(alloc, &wrap_exit(&title, &self.plain.tree)?)?;
-        let sheet = self.doc.sheet(&title, None)?;
-        Ok(
-            self.doc.measure() == self.plain.measure
-                && self.doc.count(gap) == gaps.count
-                && self.doc.around(gap) == gaps.around
-                && sheet.as_bytes() == page.as_bytes(),
-        )
+        let has_same_page = self.has_same_page(alloc, &title);
+        drop(title);
+        Ok(has_same_page? && self.has_same_numbers(gap))
+    }
+
+    /// Whether its two sides have the same measure, and as many gaps of that number.
+    fn has_same_numbers(&self, gap: GapId) -> bool {
+        let gaps = self.plain.gaps(gap);
+        self.doc.measure() == self.plain.measure
+            && self.doc.count(gap) == gaps.count
+            && self.doc.around(gap) == gaps.around
+    }
+
+    /// Whether the pages of its two sides have the same bytes.
+    fn has_same_page(&self, alloc: Global, title: &Name) -> Result<bool, Fault> {
+        let (sheet, page) = self.pages(alloc, title, None)?;
+        let is_same = sheet.as_bytes() == page.as_bytes();
+        drop(sheet);
+        drop(page);
+        Ok(is_same)
+    }
+}
+
+/// A document of these two sides.
+fn paired(doc: Doc, plain: Result<Plain, Memory>) -> Result<Both, Fault> {
+    match plain {
+        Ok(plain) => Ok(Both { doc, plain }),
+        Err(memory) => {
+            drop(doc);
+            Err(Fault::from(memory))
+        }
     }
 }
 
@@ -131,10 +186,16 @@ fn joined(doc: Result<Doc, DocFault>, plain: Result<Plain, DocFault>) -> Result<
     match doc {
         Ok(doc) => match plain {
             Ok(plain) => Ok(Both { doc, plain }),
-            Err(fault) => Err(why_refused(fault, None)),
+            Err(fault) => {
+                drop(doc);
+                Err(why_refused(fault, None))
+            }
         },
         Err(fault) => match plain {
-            Ok(_) => Err(why_refused(fault, None)),
+            Ok(plain) => {
+                drop(plain);
+                Err(why_refused(fault, None))
+            }
             Err(other) => Err(why_refused(fault, Some(other))),
         },
     }

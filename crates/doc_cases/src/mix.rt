@@ -33,15 +33,30 @@ impl<'a> Mix<'a> {
     }
 
     /// Makes the next document, and fails where its two sides differ. After one that is over a limit there is none left.
-    pub fn step(&mut self) -> Result<(), Refusal> {
+    fn step(&mut self) -> Result<(), Refusal> {
         let gap = GapId::of(self.below(self.typed.service().gaps.len()));
         match self.next(gap) {
             Ok(document) => self.keep(gap, document),
-            Err(Refusal::Limit(_)) => {
+            Err(refusal) => self.over(refusal),
+        }
+    }
+
+    /// Makes so many documents.
+    pub fn steps(&mut self, count: u32) -> Result<(), Refusal> {
+        for _ in 0..count {
+            self.step()?;
+        }
+        Ok(())
+    }
+
+    /// Goes on without a document behind one that is over a limit.
+    fn over(&mut self, refusal: Refusal) -> Result<(), Refusal> {
+        match refusal {
+            Refusal::Limit(_) => {
                 self.last.clear();
                 Ok(())
             }
-            Err(refusal) => Err(refusal),
+            refusal => Err(refusal),
         }
     }
 
@@ -76,11 +91,23 @@ impl<'a> Mix<'a> {
     }
 
     fn keep(&mut self, gap: GapId, document: Both) -> Result<(), Refusal> {
-        if !document.is_same(self.alloc, gap)? {
-            return Err(Refusal::Differs);
+        match document.is_same(self.alloc, gap) {
+            Ok(true) => self.push(document),
+            Ok(false) => {
+                drop(document);
+                Err(Refusal::Differs)
+            }
+            Err(fault) => {
+                drop(document);
+                Err(Refusal::Fault(fault))
+            }
         }
+    }
+
+    /// Keeps a document as the last one.
+    fn push(&mut self, document: Both) -> Result<(), Refusal> {
         if self.last.len() == KEPT {
-            self.last.pop_front();
+            drop(self.last.pop_front());
         }
         self.last.push_back(document).map_err(Fault::from)?;
         Ok(())

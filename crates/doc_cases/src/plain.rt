@@ -2,9 +2,11 @@
 
 use bw_doc::DocFault;
 use bw_lang::{
-    AttrValue, Element, GapId, Item, Items, MAX_DEPTH, MAX_NEST, MAX_WEIGHT, Measure, Memory,
-    Template, Tree,
+    AttrValue, Element, GapId, Item, Items, MAX_DEPTH, MAX_NEST, MAX_WEIGHT, Measure, Memory, Name,
+    Template, Text, Tree,
 };
+use bw_page::{Sheet, wrap_exit, wrap_show};
+use std::alloc::Global;
 
 /// A document as a tree, with its measure.
 #[derive(Drop)]
@@ -37,6 +39,22 @@ impl Plain {
     /// How many gaps of that number are open, and how many elements stand around one at most.
     pub fn gaps(&self, gap: GapId) -> Gaps {
         items_gaps(&self.tree.items, gap, 0)
+    }
+
+    /// The page, as a session's last one or in a form with that target.
+    pub fn page(
+        &self,
+        alloc: Global,
+        title: &Name,
+        target: Option<&Text>,
+    ) -> Result<Sheet, Memory> {
+        let page = match target {
+            Some(target) => wrap_show(title, target, &self.tree)?,
+            None => wrap_exit(title, &self.tree)?,
+        };
+        let sheet = Sheet::of(alloc, &page);
+        drop(page);
+        sheet
     }
 
     pub fn plug(&self, gap: GapId, other: &Plain) -> Result<Plain, DocFault> {

@@ -28,7 +28,9 @@ pub fn try_case(alloc: Global, texts: &Texts<'_>, case: &Case<'_>) -> Result<Ver
 /// What the case shows over the service of this text.
 fn shown(alloc: Global, texts: &Texts<'_>, case: &Case<'_>, text: &[u8]) -> Result<String, Fault> {
     let typed = typed_service(alloc, text)?;
-    shown_over(alloc, texts, case, &typed)
+    let shown = shown_over(alloc, texts, case, &typed);
+    drop(typed);
+    shown
 }
 
 /// The service of a text, which has to be well typed.
@@ -36,11 +38,33 @@ fn typed_service(alloc: Global, text: &[u8]) -> Result<Typed, Fault> {
     match read_service(alloc, text) {
         Ok(service) => match resolve(alloc, service) {
             Ok(typed) => Ok(typed),
-            Err(TypeFault::Memory) => Err(Fault::Memory),
-            Err(_) => Err(Fault::Malformed),
+            Err(fault) => {
+                let untyped = untyped(&fault);
+                drop(fault);
+                Err(untyped)
+            }
         },
-        Err(SyntaxFault::Memory) => Err(Fault::Memory),
-        Err(_) => Err(Fault::Malformed),
+        Err(fault) => {
+            let unread = unread(&fault);
+            drop(fault);
+            Err(unread)
+        }
+    }
+}
+
+/// Why the case of a service that isn't well typed can't be tried.
+fn untyped(fault: &TypeFault) -> Fault {
+    match fault {
+        TypeFault::Memory => Fault::Memory,
+        _ => Fault::Malformed,
+    }
+}
+
+/// Why the case of a service that isn't read can't be tried.
+fn unread(fault: &SyntaxFault) -> Fault {
+    match fault {
+        SyntaxFault::Memory => Fault::Memory,
+        _ => Fault::Malformed,
     }
 }
 
@@ -57,16 +81,10 @@ fn shown_over<'a>(
         stack: Vec::new(alloc),
         shown: String::new(alloc),
     };
-    for line in &case.lines {
-        if line.key == "service" || line.key == "want" {
-            continue;
-        }
-        if let Err(refusal) = steps.take(line.key, line.value) {
-            add_line(&mut steps.shown, &shown_refusal(alloc, refusal)?)?;
-            break;
-        }
-    }
-    Ok(steps.shown)
+    let run = steps.run(case);
+    let shown = steps.into_shown();
+    run?;
+    Ok(shown)
 }
 
 /// Why a case is over, where it can be tried.
@@ -100,6 +118,28 @@ struct Steps<'a> {
 }
 
 impl<'a> Steps<'a> {
+    /// Takes the steps of a case, up to one that ends it.
+    fn run(&mut self, case: &Case<'_>) -> Result<(), Fault> {
+        for line in &case.lines {
+            if line.key == "service" || line.key == "want" {
+                continue;
+            }
+            if let Err(refusal) = self.take(line.key, line.value) {
+                let words = shown_refusal(self.alloc, refusal)?;
+                add_line(&mut self.shown, &words)?;
+                break;
+            }
+        }
+        Ok(())
+    }
+
+    /// What the steps showed.
+    fn into_shown(self) -> String {
+        let Steps { stack, shown, .. } = self;
+        drop(stack);
+        shown
+    }
+
     fn take(&mut self, key: &str, value: &str) -> Result<(), Refusal> {
         match key {
             "times" => self.times(value),
@@ -133,9 +173,9 @@ impl<'a> Steps<'a> {
         let seed: u64 = seed.parse().map_err(|_| Fault::Malformed)?;
         let count: u32 = count.parse().map_err(|_| Fault::Malformed)?;
         let mut mix = Mix::new(self.alloc, self.typed, seed);
-        for _ in 0..count {
-            mix.step()?;
-        }
+        let mixed = mix.steps(count);
+        drop(mix);
+        mixed?;
         Ok(add_line(&mut self.shown, "alike").map_err(Fault::from)?)
     }
 
@@ -144,7 +184,7 @@ impl<'a> Steps<'a> {
             "plug" => self.plug(value),
             "fill" => self.fill(value),
             "drop" => {
-                self.pop()?;
+                drop(self.pop()?);
                 Ok(())
             }
             "constant" => {
@@ -178,9 +218,11 @@ impl<'a> Steps<'a> {
 
     fn plug(&mut self, gap: &str) -> Result<(), Refusal> {
         let gap = self.gap(gap)?;
-        let other = self.pop()?;
-        let base = self.pop()?;
-        self.push(base.plug(gap, &other)?)
+        let (other, base) = self.pop_two()?;
+        let plugged = base.plug(gap, &other);
+        drop(base);
+        drop(other);
+        self.push(plugged?)
     }
 
     fn fill(&mut self, value: &str) -> Result<(), Refusal> {
@@ -189,23 +231,29 @@ impl<'a> Steps<'a> {
         let bytes = self.texts.join(self.alloc, parts)?;
         let text = str::from_utf8(&bytes).map_err(|_| Fault::Malformed)?;
         let base = self.pop()?;
-        self.push(base.fill(gap, text)?)
+        let filled = base.fill(gap, text);
+        drop(base);
+        self.push(filled?)
     }
 
     fn swap(&mut self) -> Result<(), Refusal> {
-        let top = self.pop()?;
-        let below = self.pop()?;
-        self.push(top)?;
-        self.push(below)
+        let (top, below) = self.pop_two()?;
+        self.push_two(top, below)
     }
 
     fn rotate(&mut self) -> Result<(), Refusal> {
-        let top = self.pop()?;
-        let below = self.pop()?;
-        let third = self.pop()?;
-        self.push(below)?;
-        self.push(top)?;
-        self.push(third)
+        let (top, below) = self.pop_two()?;
+        match self.pop() {
+            Ok(third) => {
+                let pushed = self.push_two(below, top);
+                self.push_behind(pushed, third)
+            }
+            Err(fault) => {
+                drop(below);
+                drop(top);
+                Err(Refusal::Fault(fault))
+            }
+        }
     }
 
     fn top(&self) -> Result<&Both, Fault> {
@@ -214,6 +262,35 @@ impl<'a> Steps<'a> {
 
     fn pop(&mut self) -> Result<Both, Fault> {
         self.stack.pop().ok_or(Fault::Malformed)
+    }
+
+    /// The document on top and the one below it.
+    fn pop_two(&mut self) -> Result<(Both, Both), Fault> {
+        let top = self.pop()?;
+        match self.pop() {
+            Ok(below) => Ok((top, below)),
+            Err(fault) => {
+                drop(top);
+                Err(fault)
+            }
+        }
+    }
+
+    /// Puts two documents on top, one above the other.
+    fn push_two(&mut self, below: Both, top: Both) -> Result<(), Refusal> {
+        let pushed = self.push(below);
+        self.push_behind(pushed, top)
+    }
+
+    /// Puts a document on top, where those before it are there.
+    fn push_behind(&mut self, pushed: Result<(), Refusal>, document: Both) -> Result<(), Refusal> {
+        match pushed {
+            Ok(()) => self.push(document),
+            Err(refusal) => {
+                drop(document);
+                Err(refusal)
+            }
+        }
     }
 
     fn push(&mut self, document: Both) -> Result<(), Refusal> {

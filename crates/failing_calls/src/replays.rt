@@ -35,6 +35,18 @@ fn fronts<R: Threads + Sync>(
 pub fn try_reads<R: Threads + Sync>(rt: &R, alloc: Global, piece: usize) -> Result<u32, Wrong> {
     let piece = NonZeroUsize::new(piece).unwrap_or(NonZeroUsize::MIN);
     let fronts = fronts(rt, alloc, piece)?;
+    let tally = failing_reads(rt, alloc, piece, &fronts);
+    drop(fronts);
+    tally
+}
+
+/// How many reads there are to fail.
+fn failing_reads<R: Threads + Sync>(
+    rt: &R,
+    alloc: Global,
+    piece: NonZeroUsize,
+    fronts: &[Vec<u8>],
+) -> Result<u32, Wrong> {
     let mut front = 0;
     for call in 1..CALLS_MOST {
         let calls = Calls {
@@ -43,14 +55,17 @@ pub fn try_reads<R: Threads + Sync>(rt: &R, alloc: Global, piece: usize) -> Resu
             failing_writes: &[],
         };
         let got = replay(rt, alloc, TWICE, REQUESTS, "3", calls)?;
-        let Some(place) = place_of(&fronts, front, &got.output) else {
+        let place = place_of(fronts, front, &got.output);
+        let status = got.status;
+        drop(got);
+        let Some(place) = place else {
             return Err(Wrong::Output(call));
         };
         front = place;
-        if got.status == 0 && front == 3 {
+        if status == 0 && front == 3 {
             return Ok(u32::try_from(call - 1).unwrap_or(0));
         }
-        if got.status != 5 {
+        if status != 5 {
             return Err(Wrong::Status(call));
         }
     }
@@ -72,6 +87,18 @@ fn place_of(fronts: &[Vec<u8>], from: usize, output: &[u8]) -> Option<usize> {
 pub fn try_writes<R: Threads + Sync>(rt: &R, alloc: Global, piece: usize) -> Result<u32, Wrong> {
     let piece = NonZeroUsize::new(piece).unwrap_or(NonZeroUsize::MIN);
     let whole = replay(rt, alloc, TWICE, REQUESTS, "3", sound(piece))?;
+    let tally = failing_writes(rt, alloc, piece, &whole.output);
+    drop(whole);
+    tally
+}
+
+/// How many writes there are to fail.
+fn failing_writes<R: Threads + Sync>(
+    rt: &R,
+    alloc: Global,
+    piece: NonZeroUsize,
+    whole: &[u8],
+) -> Result<u32, Wrong> {
     let mut least = 0;
     for call in 1..CALLS_MOST {
         let calls = Calls {
@@ -81,13 +108,16 @@ pub fn try_writes<R: Threads + Sync>(rt: &R, alloc: Global, piece: usize) -> Res
         };
         let got = replay(rt, alloc, TWICE, REQUESTS, "3", calls)?;
         let len = got.output.len();
-        if len < least || !whole.output.starts_with(&got.output) {
+        let is_front = len >= least && whole.starts_with(&got.output);
+        let status = got.status;
+        drop(got);
+        if !is_front {
             return Err(Wrong::Output(call));
         }
-        if got.status == 0 && len == whole.output.len() {
+        if status == 0 && len == whole.len() {
             return Ok(u32::try_from(call - 1).unwrap_or(0));
         }
-        if got.status != 6 || len == whole.output.len() {
+        if status != 6 || len == whole.len() {
             return Err(Wrong::Status(call));
         }
         least = len.saturating_add(1);

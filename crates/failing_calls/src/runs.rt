@@ -113,21 +113,8 @@ pub fn replay<R: Threads + Sync>(
             failing: calls.failing_reads,
         },
     ];
-    let mut out = MemSink::new(alloc, ROOM, calls.piece.get(), calls.failing_writes)?;
-    let mut door = MemDoor::new(alloc, Vec::new(alloc))?;
-    let status = counted::<Brand, _>(
-        rt,
-        alloc,
-        &words,
-        &folder,
-        &mut door,
-        &mut out,
-        Blank::new(1),
-    );
-    Ok(Replayed {
-        status,
-        output: Vec::from_slice(alloc, out.bytes())?,
-    })
+    let out = MemSink::new(alloc, ROOM, calls.piece.get(), calls.failing_writes)?;
+    printed(rt, alloc, &words, &folder, out)
 }
 
 /// Checks a service by four workers.
@@ -139,20 +126,27 @@ pub fn check<R: Threads + Sync>(rt: &R, alloc: Global, service: &[u8]) -> Result
         piece: usize::MAX,
         failing: &[],
     }];
-    let mut out = MemSink::new(alloc, ROOM, usize::MAX, &[])?;
+    let out = MemSink::new(alloc, ROOM, usize::MAX, &[])?;
+    printed(rt, alloc, &words, &folder, out)
+}
+
+// What a run that serves nothing prints to this output.
+fn printed<R: Threads + Sync>(
+    rt: &R,
+    alloc: Global,
+    words: &Words,
+    folder: &[MemFile<'_>],
+    out: MemSink<'_>,
+) -> Result<Replayed, Wrong> {
+    let mut out = out;
     let mut door = MemDoor::new(alloc, Vec::new(alloc))?;
-    let status = counted::<Brand, _>(
-        rt,
-        alloc,
-        &words,
-        &folder,
-        &mut door,
-        &mut out,
-        Blank::new(1),
-    );
+    let status = counted::<Brand, _>(rt, alloc, words, folder, &mut door, &mut out, Blank::new(1));
+    drop(door);
+    let output = Vec::from_slice(alloc, out.bytes());
+    drop(out);
     Ok(Replayed {
         status,
-        output: Vec::from_slice(alloc, out.bytes())?,
+        output: output?,
     })
 }
 
@@ -171,13 +165,19 @@ pub fn serve<R: Threads + Sync>(
     place: usize,
     calls: Calls<'_>,
 ) -> Result<Served, Wrong> {
-    let words = words_of(alloc, &["serve", "s"])?;
-    let folder = [MemFile {
-        name: "s",
-        content: TWICE,
-        piece: usize::MAX,
-        failing: &[],
-    }];
+    let mut door = door_of(alloc, requests, place, calls)?;
+    let served = serve_at(rt, alloc, &mut door);
+    drop(door);
+    served
+}
+
+/// A door with these links.
+fn door_of<'a>(
+    alloc: Global,
+    requests: &[&'a [u8]],
+    place: usize,
+    calls: Calls<'a>,
+) -> Result<MemDoor<'a>, Wrong> {
     let mut links = Vec::new(alloc);
     for (number, request) in requests.iter().enumerate() {
         let these = if number == place {
@@ -185,27 +185,61 @@ pub fn serve<R: Threads + Sync>(
         } else {
             sound(NonZeroUsize::MAX)
         };
-        links.push(MemLink {
-            source: MemSource::new(request, these.piece.get(), these.failing_reads),
-            sink: MemSink::new(alloc, ROOM, these.piece.get(), these.failing_writes)?,
-        })?;
+        links.push(link_of(alloc, request, these)?)?;
     }
+    Ok(MemDoor::new(alloc, links)?)
+}
+
+/// A link whose client sends this request.
+fn link_of<'a>(alloc: Global, request: &'a [u8], calls: Calls<'a>) -> Result<MemLink<'a>, Wrong> {
+    let piece = calls.piece.get();
+    Ok(MemLink {
+        source: MemSource::new(request, piece, calls.failing_reads),
+        sink: MemSink::new(alloc, ROOM, piece, calls.failing_writes)?,
+    })
+}
+
+/// Serves the links of a door.
+fn serve_at<R: Threads + Sync>(
+    rt: &R,
+    alloc: Global,
+    door: &mut MemDoor<'_>,
+) -> Result<Served, Wrong> {
+    let words = words_of(alloc, &["serve", "s"])?;
+    let status = status_of(rt, alloc, &words, door);
+    drop(words);
+    Ok(Served {
+        status: status?,
+        held: held_by(alloc, door.returned())?,
+    })
+}
+
+/// The exit code of a run by these words over the service alone.
+fn status_of<R: Threads + Sync>(
+    rt: &R,
+    alloc: Global,
+    words: &Words,
+    door: &mut MemDoor<'_>,
+) -> Result<u8, Wrong> {
+    let folder = [MemFile {
+        name: "s",
+        content: TWICE,
+        piece: usize::MAX,
+        failing: &[],
+    }];
     let mut out = MemSink::new(alloc, ROOM, usize::MAX, &[])?;
-    let mut door = MemDoor::new(alloc, links)?;
-    let status = counted::<Brand, _>(
-        rt,
-        alloc,
-        &words,
-        &folder,
-        &mut door,
-        &mut out,
-        Blank::new(1),
-    );
+    let status = counted::<Brand, _>(rt, alloc, words, &folder, door, &mut out, Blank::new(1));
+    drop(out);
+    Ok(status)
+}
+
+/// What each of these links holds.
+fn held_by(alloc: Global, links: &[MemLink<'_>]) -> Result<Vec<Vec<u8>>, Wrong> {
     let mut held = Vec::new(alloc);
-    for link in door.returned() {
+    for link in links {
         held.push(Vec::from_slice(alloc, link.sink.bytes())?)?;
     }
-    Ok(Served { status, held })
+    Ok(held)
 }
 
 fn words_of(alloc: Global, words: &[&str]) -> Result<Words, Memory> {

@@ -43,11 +43,13 @@ fn are_alike(served: &Served, other: &Served) -> bool {
     served.held.len() == other.held.len()
 }
 
+/// The requests of the links.
+const REQUESTS: [&[u8]; 4] = [START, FORM, FIRST, SECOND];
+
 /// Has each read of the link fail in its turn: nothing is answered on it, and the session stands at its first turn, as if the
 /// form had never been sent.
 pub fn try_reads<R: Threads + Sync>(rt: &R, alloc: Global, piece: usize) -> Result<u32, Wrong> {
     let piece = NonZeroUsize::new(piece).unwrap_or(NonZeroUsize::MIN);
-    let requests = [START, FORM, FIRST, SECOND];
     let without = serve(
         rt,
         alloc,
@@ -55,36 +57,83 @@ pub fn try_reads<R: Threads + Sync>(rt: &R, alloc: Global, piece: usize) -> Resu
         FAILING,
         sound(piece),
     )?;
-    let whole = serve(rt, alloc, &requests, FAILING, sound(piece))?;
+    let tally = reads_beside(rt, alloc, piece, &without);
+    drop(without);
+    tally
+}
+
+/// The same beside what comes without the form.
+fn reads_beside<R: Threads + Sync>(
+    rt: &R,
+    alloc: Global,
+    piece: NonZeroUsize,
+    without: &Served,
+) -> Result<u32, Wrong> {
+    let whole = serve(rt, alloc, &REQUESTS, FAILING, sound(piece))?;
+    let tally = failing_reads(rt, alloc, piece, without, &whole);
+    drop(whole);
+    tally
+}
+
+/// How many reads there are to fail.
+fn failing_reads<R: Threads + Sync>(
+    rt: &R,
+    alloc: Global,
+    piece: NonZeroUsize,
+    without: &Served,
+    whole: &Served,
+) -> Result<u32, Wrong> {
     for call in 1..CALLS_MOST {
         let calls = Calls {
             piece,
             failing_reads: &[call],
             failing_writes: &[],
         };
-        let got = serve(rt, alloc, &requests, FAILING, calls)?;
-        if got.status != 0 {
-            return Err(Wrong::Status(call));
-        }
-        if held(&got, FAILING) == held(&whole, FAILING) && are_alike(&got, &whole) {
+        let got = serve(rt, alloc, &REQUESTS, FAILING, calls)?;
+        let is_whole = read_came(&got, call, without, whole);
+        drop(got);
+        if is_whole? {
             return Ok(u32::try_from(call - 1).unwrap_or(0));
-        }
-        if !held(&got, FAILING).is_empty() {
-            return Err(Wrong::Output(call));
-        }
-        if !are_alike(&got, &without) {
-            return Err(Wrong::Later(call));
         }
     }
     Err(Wrong::Status(CALLS_MOST))
+}
+
+/// Whether no read failed; what came has to be as it is due.
+fn read_came(got: &Served, call: u64, without: &Served, whole: &Served) -> Result<bool, Wrong> {
+    if got.status != 0 {
+        return Err(Wrong::Status(call));
+    }
+    if held(got, FAILING) == held(whole, FAILING) && are_alike(got, whole) {
+        return Ok(true);
+    }
+    if !held(got, FAILING).is_empty() {
+        return Err(Wrong::Output(call));
+    }
+    if !are_alike(got, without) {
+        return Err(Wrong::Later(call));
+    }
+    Ok(false)
 }
 
 /// Has each write to the link fail in its turn: it holds a first part of the page, longer with each call, and the session
 /// stands at its second turn, as after the whole page.
 pub fn try_writes<R: Threads + Sync>(rt: &R, alloc: Global, piece: usize) -> Result<u32, Wrong> {
     let piece = NonZeroUsize::new(piece).unwrap_or(NonZeroUsize::MIN);
-    let requests = [START, FORM, FIRST, SECOND];
-    let whole = serve(rt, alloc, &requests, FAILING, sound(piece))?;
+    let whole = serve(rt, alloc, &REQUESTS, FAILING, sound(piece))?;
+    let tally = failing_writes(rt, alloc, piece, &whole);
+    drop(whole);
+    tally
+}
+
+/// How many writes there are to fail.
+fn failing_writes<R: Threads + Sync>(
+    rt: &R,
+    alloc: Global,
+    piece: NonZeroUsize,
+    whole: &Served,
+) -> Result<u32, Wrong> {
+    let all = held(whole, FAILING).len();
     let mut least = 0;
     for call in 1..CALLS_MOST {
         let calls = Calls {
@@ -92,21 +141,29 @@ pub fn try_writes<R: Threads + Sync>(rt: &R, alloc: Global, piece: usize) -> Res
             failing_reads: &[],
             failing_writes: &[call],
         };
-        let got = serve(rt, alloc, &requests, FAILING, calls)?;
-        let part = held(&got, FAILING);
-        if got.status != 0 {
-            return Err(Wrong::Status(call));
-        }
-        if part.len() < least || !held(&whole, FAILING).starts_with(part) {
-            return Err(Wrong::Output(call));
-        }
-        if !are_alike(&got, &whole) {
-            return Err(Wrong::Later(call));
-        }
-        if part.len() == held(&whole, FAILING).len() {
+        let got = serve(rt, alloc, &REQUESTS, FAILING, calls)?;
+        let part = part_held(&got, call, least, whole);
+        drop(got);
+        let part = part?;
+        if part == all {
             return Ok(u32::try_from(call - 1).unwrap_or(0));
         }
-        least = part.len().saturating_add(1);
+        least = part.saturating_add(1);
     }
     Err(Wrong::Status(CALLS_MOST))
+}
+
+/// How much of the page the link holds, which is at least so much; what came has to be as it is due.
+fn part_held(got: &Served, call: u64, least: usize, whole: &Served) -> Result<usize, Wrong> {
+    let part = held(got, FAILING);
+    if got.status != 0 {
+        return Err(Wrong::Status(call));
+    }
+    if part.len() < least || !held(whole, FAILING).starts_with(part) {
+        return Err(Wrong::Output(call));
+    }
+    if !are_alike(got, whole) {
+        return Err(Wrong::Later(call));
+    }
+    Ok(part.len())
 }

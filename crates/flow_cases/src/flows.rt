@@ -21,8 +21,8 @@ pub fn try_case(alloc: Global, texts: &Texts<'_>, case: &Case<'_>) -> Result<Ver
             }
         }
     }
-    let typed = typed_service(alloc, &text)?;
-    Ok(Verdict::of(wanted, shown(alloc, &typed, counted)?))
+    let shown = shown_service(alloc, &text, counted)?;
+    Ok(Verdict::of(wanted, shown))
 }
 
 /// Puts a line behind others, parted from them by `;`.
@@ -46,14 +46,33 @@ fn typed_service(alloc: Global, text: &[u8]) -> Result<Typed, Fault> {
     }
 }
 
+/// What the service of a text lowers to.
+fn shown_service(alloc: Global, text: &[u8], counted: bool) -> Result<String, Fault> {
+    let typed = typed_service(alloc, text)?;
+    let shown = shown(alloc, &typed, counted);
+    drop(typed);
+    shown
+}
+
 /// What the service lowers to: the lines of its flow, or the number of its points alone.
 fn shown(alloc: Global, typed: &Typed, counted: bool) -> Result<String, Fault> {
     match lower(alloc, typed) {
-        Ok(flow) if counted => Ok(format!(in alloc; "points {}", flow.points().len())?),
-        Ok(flow) => shown_flow(alloc, typed, &flow),
+        Ok(flow) => {
+            let shown = shown_points(alloc, typed, &flow, counted);
+            drop(flow);
+            shown
+        }
         Err(FlowFault::TooMany(points)) => Ok(format!(in alloc; "too many {points}")?),
         Err(FlowFault::Memory) => Err(Fault::Memory),
     }
+}
+
+/// The lines of a flow, or the number of its points.
+fn shown_points(alloc: Global, typed: &Typed, flow: &Flow, counted: bool) -> Result<String, Fault> {
+    if counted {
+        return Ok(format!(in alloc; "points {}", flow.points().len())?);
+    }
+    shown_flow(alloc, typed, flow)
 }
 
 fn shown_flow(alloc: Global, typed: &Typed, flow: &Flow) -> Result<String, Fault> {

@@ -45,21 +45,48 @@ fn main(rt: HostRuntime) -> ExitCode {
 
 /// Tries the cases of the file, and prints a line for each.
 fn try_file<R: Files + AllocGlobal + Print>(rt: &R) -> Result<(), Fault> {
-    let alloc = rt.alloc();
     let file = fs::read_to_string(rt, FILE_NAME)?;
+    let tried = try_text(rt, &file);
+    drop(file);
+    tried
+}
+
+/// Tries the cases of a text.
+fn try_text<R: AllocGlobal + Print>(rt: &R, text: &str) -> Result<(), Fault> {
     let mut case: Option<Case<'_>> = None;
-    for line in file.lines() {
+    let tried = try_lines(rt, text, &mut case);
+    drop(case);
+    tried
+}
+
+/// Takes the lines of a text, where this is the case that they are in.
+fn try_lines<'a, R: AllocGlobal + Print>(
+    rt: &R,
+    text: &'a str,
+    case: &mut Option<Case<'a>>,
+) -> Result<(), Fault> {
+    for line in text.lines() {
         if line.is_empty() || line.starts_with('#') {
             continue;
         }
-        if let Some(name) = line.strip_prefix("case ") {
-            print_case(rt, &case)?;
-            case = Some(Case::new(alloc, name));
-        } else {
-            case.as_mut().ok_or(Fault::Malformed)?.step(alloc, line)?;
-        }
+        try_line(rt, line, case)?;
     }
-    print_case(rt, &case)
+    print_case(rt, case)
+}
+
+/// Begins a case, or takes a step of the case that the line is in.
+fn try_line<'a, R: AllocGlobal + Print>(
+    rt: &R,
+    line: &'a str,
+    case: &mut Option<Case<'a>>,
+) -> Result<(), Fault> {
+    let alloc = rt.alloc();
+    let Some(name) = line.strip_prefix("case ") else {
+        return case.as_mut().ok_or(Fault::Malformed)?.step(alloc, line);
+    };
+    print_case(rt, case)?;
+    drop(case.replace(Case::new(alloc, name)));
+    Ok(())
 }
 
 /// Prints the line of a case that is over.

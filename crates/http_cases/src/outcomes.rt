@@ -24,19 +24,34 @@ fn in_bytes(alloc: Global, stream: &[u8], count: u32) -> Result<String, Fault> {
 fn in_pieces(alloc: Global, mut source: MemSource<'_>, count: u32) -> Result<String, Fault> {
     let mut intake = Intake::new(alloc)?;
     let mut outcomes = String::new(alloc);
+    let put = put_outcomes(alloc, count, &mut intake, &mut source, &mut outcomes);
+    drop(intake);
+    put?;
+    Ok(outcomes)
+}
+
+/// Puts the outcomes of at most so many requests into the text, up to the first refusal.
+fn put_outcomes(
+    alloc: Global,
+    count: u32,
+    intake: &mut Intake,
+    source: &mut MemSource<'_>,
+    outcomes: &mut String,
+) -> Result<(), AllocError> {
     for number in 0..count {
         if number > 0 {
             outcomes.push_str(", ")?;
         }
-        match read_request(alloc, &mut intake, &mut source) {
-            Ok(request) => put_request(alloc, &request, &mut outcomes)?,
-            Err(outcome) => {
-                outcomes.push_str(refusal(outcome))?;
-                break;
+        match read_request(alloc, intake, source) {
+            Ok(request) => {
+                let put = put_request(alloc, &request, outcomes);
+                drop(request);
+                put?;
             }
+            Err(outcome) => return outcomes.push_str(refusal(outcome)),
         }
     }
-    Ok(outcomes)
+    Ok(())
 }
 
 /// For each number of bytes of the stream the outcome of one request in so many of them.

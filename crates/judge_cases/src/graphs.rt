@@ -18,9 +18,22 @@ pub fn document_of(
     case: &Case<'_>,
 ) -> Result<Summary, Fault> {
     let mut stack = Vec::new(alloc);
+    let document = document_on(alloc, typed, literals, case, &mut stack);
+    drop(stack);
+    document
+}
+
+/// The document that is on top of this stack after all steps of a case.
+fn document_on(
+    alloc: Global,
+    typed: &Typed,
+    literals: &Literals,
+    case: &Case<'_>,
+    stack: &mut Vec<Summary>,
+) -> Result<Summary, Fault> {
     for line in &case.lines {
         if line.key == "graph" {
-            take_step(alloc, typed, literals, line.value, &mut stack)?;
+            take_step(alloc, typed, literals, line.value, stack)?;
         }
     }
     stack.pop().ok_or(Fault::Malformed)
@@ -89,7 +102,9 @@ fn with_literal(
     let (gap, quoted) = gap_and_literal.split_once(' ').ok_or(Fault::Malformed)?;
     let number = number_of(literals, quoted.trim_matches('"'))?;
     let strings = StrSet::Of(Set::of(alloc, number)?);
-    with_strings(alloc, typed, gap, &strings, base)
+    let document = with_strings(alloc, typed, gap, &strings, base);
+    drop(strings);
+    document
 }
 
 /// The number of a literal.
@@ -127,9 +142,13 @@ pub fn show_page(
     readable_is_small();
     let service = typed.service();
     let wrapper = TemplateId::show_wrapper(service.templates.as_slice().len());
-    let page = titled(alloc, typed, literals, wrapper)?;
-    let page = page.plug_text(alloc, service.gaps.target(), &StrSet::Any)?;
-    page.plug(alloc, service.gaps.document(), document)
+    let titled = titled(alloc, typed, literals, wrapper)?;
+    let targeted = titled.plug_text(alloc, service.gaps.target(), &StrSet::Any);
+    drop(titled);
+    let targeted = targeted?;
+    let page = targeted.plug(alloc, service.gaps.document(), document);
+    drop(targeted);
+    page
 }
 
 /// The page of an exit, with the service's name as its title.
@@ -142,8 +161,10 @@ pub fn exit_page(
     readable_is_small();
     let service = typed.service();
     let wrapper = TemplateId::exit_wrapper(service.templates.as_slice().len());
-    let page = titled(alloc, typed, literals, wrapper)?;
-    page.plug(alloc, service.gaps.document(), document)
+    let titled = titled(alloc, typed, literals, wrapper)?;
+    let page = titled.plug(alloc, service.gaps.document(), document);
+    drop(titled);
+    page
 }
 
 /// A wrapper with the service's name as its title.
@@ -155,11 +176,27 @@ fn titled(
 ) -> Result<Summary, Memory>
     requires { wrapper < length typed.now.service.templates + 2 }
 {
+    let name = title_of(alloc, typed, literals)?;
+    let titled = named(alloc, typed, wrapper, &name);
+    drop(name);
+    titled
+}
+
+/// A wrapper with this name as its title.
+fn named(
+    alloc: Global,
+    typed: &Typed,
+    wrapper: TemplateId,
+    name: &StrSet,
+) -> Result<Summary, Memory>
+    requires { wrapper < length typed.now.service.templates + 2 }
+{
     readable_is_small();
     let title = typed.service().gaps.title();
-    let name = title_of(alloc, typed, literals)?;
     let page = Summary::constant(alloc, typed, wrapper)?;
-    page.plug_text(alloc, title, &name)
+    let named = page.plug_text(alloc, title, name);
+    drop(page);
+    named
 }
 
 /// The service's name, as a set of its one literal.

@@ -34,7 +34,24 @@ pub fn faults_of(
     let Ok(flow) = lower(alloc, typed) else {
         return Err(Fault::Malformed);
     };
-    match statement(&flow, number) {
+    let faults = faults_in(alloc, typed, literals, schema, document, &flow, number);
+    drop(flow);
+    faults
+}
+
+/// The same, where the service has this flow.
+fn faults_in(
+    alloc: Global,
+    typed: &Typed,
+    literals: &Literals,
+    schema: &Schema,
+    document: &Summary,
+    flow: &Flow,
+    number: u32,
+) -> Result<Faults, Fault>
+    requires { literals.now ≡ literals_of typed.now.service }
+{
+    match statement(flow, number) {
         Some(What::Show { receives, .. }) => {
             faults_of_show(alloc, typed, literals, schema, document, receives, number)
         }
@@ -67,10 +84,13 @@ fn faults_of_show(
         return Err(Fault::Malformed);
     }
     let page = show_page(alloc, typed, literals, document)?;
-    if !is_page_graph(typed, literals, &page) {
-        return Err(Fault::Malformed);
-    }
-    Ok(judged_show(alloc, typed, literals, schema, &page, receives, number)?)
+    let faults = if is_page_graph(typed, literals, &page) {
+        judged_show(alloc, typed, literals, schema, &page, receives, number).map_err(Fault::from)
+    } else {
+        Err(Fault::Malformed)
+    };
+    drop(page);
+    faults
 }
 
 /// The faults of the page of an exit.
@@ -85,10 +105,13 @@ fn faults_of_exit(
     requires { literals.now ≡ literals_of typed.now.service }
 {
     let page = exit_page(alloc, typed, literals, document)?;
-    if !is_page_graph(typed, literals, &page) {
-        return Err(Fault::Malformed);
-    }
-    Ok(judged_exit(alloc, typed, literals, schema, &page, number)?)
+    let faults = if is_page_graph(typed, literals, &page) {
+        judged_exit(alloc, typed, literals, schema, &page, number).map_err(Fault::from)
+    } else {
+        Err(Fault::Malformed)
+    };
+    drop(page);
+    faults
 }
 
 /// The faults of the elements and of the received fields of a page.
@@ -106,9 +129,11 @@ fn judged_show(
     requires received { All (IsReceived typed.now.service) receives.now }
 {
     let outline = shape(alloc, page, typed, literals, schema)?;
-    judged(
+    let faults = judged(
         alloc, typed, literals, schema, page, &outline, receives, number,
-    )
+    );
+    drop(outline);
+    faults
 }
 
 /// The same, where this is the page's outline.
@@ -127,9 +152,26 @@ fn judged(
     requires shape { IsShape typed.now.service page.now schema.now outline.now }
     requires received { All (IsReceived typed.now.service) receives.now }
 {
-    let mut faults = judge(alloc, outline, page, typed, literals, schema, number)?;
-    faults.join(judge_fields(alloc, outline, typed, receives, number)?)?;
-    Ok(faults)
+    let faults = judge(alloc, outline, page, typed, literals, schema, number)?;
+    match judge_fields(alloc, outline, typed, receives, number) {
+        Ok(more) => joined(faults, more),
+        Err(Memory) => {
+            drop(faults);
+            Err(Memory)
+        }
+    }
+}
+
+/// All faults of both.
+fn joined(faults: Faults, more: Faults) -> Result<Faults, Memory> {
+    let mut all = faults;
+    match all.join(more) {
+        Ok(()) => Ok(all),
+        Err(Memory) => {
+            drop(all);
+            Err(Memory)
+        }
+    }
 }
 
 /// The faults of the elements of a page.
@@ -145,5 +187,7 @@ fn judged_exit(
     requires literals { literals.now ≡ literals_of typed.now.service }
 {
     let outline = shape(alloc, page, typed, literals, schema)?;
-    judge(alloc, &outline, page, typed, literals, schema, number)
+    let faults = judge(alloc, &outline, page, typed, literals, schema, number);
+    drop(outline);
+    faults
 }

@@ -1,10 +1,12 @@
 //! Cases of page graphs.
 ghost use Rattle.std.specs.Prelude.{◌≡◌};
+ghost use Rattle.bw_lang.specs.Service.Reads.{IsReadable};
 ghost use Rattle.bw_strings.specs.Literals.{literals_of};
 
 use crate::graphs::document_of;
 use crate::judging::faults_of;
 use crate::shown::shown;
+use bw_lang::Service;
 use bw_schema::{Schema, built_in, read_schema};
 use bw_strings::Literals;
 use bw_sum::Summary;
@@ -22,7 +24,9 @@ pub fn try_case(alloc: Global, texts: &Texts<'_>, case: &Case<'_>) -> Result<Ver
 /// The lines of faults that come of a case.
 fn got(alloc: Global, texts: &Texts<'_>, case: &Case<'_>) -> Result<String, Fault> {
     let typed = typed_of(alloc, texts, case)?;
-    got_of(alloc, texts, case, &typed)
+    let got = got_of(alloc, texts, case, &typed);
+    drop(typed);
+    got
 }
 
 /// The same, of this service.
@@ -33,7 +37,9 @@ fn got_of(
     typed: &Typed,
 ) -> Result<String, Fault> {
     let literals = Literals::of(alloc, typed.service())?;
-    got_over(alloc, texts, case, typed, &literals)
+    let got = got_over(alloc, texts, case, typed, &literals);
+    drop(literals);
+    got
 }
 
 /// The same, where these are its literals.
@@ -47,7 +53,9 @@ fn got_over(
     requires { literals.now ≡ literals_of typed.now.service }
 {
     let schema = schema_of(alloc, texts, case)?;
-    got_by(alloc, case, typed, literals, &schema)
+    let got = got_by(alloc, case, typed, literals, &schema);
+    drop(schema);
+    got
 }
 
 /// The same, by this schema.
@@ -62,7 +70,9 @@ fn got_by(
 {
     let number = value_of(case, "page").ok_or(Fault::Malformed)?.parse()?;
     let document = document_of(alloc, typed, literals, case)?;
-    got_around(alloc, typed, literals, schema, &document, number)
+    let got = got_around(alloc, typed, literals, schema, &document, number);
+    drop(document);
+    got
 }
 
 /// The same, of the page around this document.
@@ -77,7 +87,9 @@ fn got_around(
     requires { literals.now ≡ literals_of typed.now.service }
 {
     let faults = faults_of(alloc, typed, literals, schema, document, number)?;
-    Ok(shown(alloc, typed, &faults)?)
+    let shown = shown(alloc, typed, &faults);
+    drop(faults);
+    Ok(shown?)
 }
 
 /// The service of a case, which has to be well typed.
@@ -89,12 +101,25 @@ fn typed_of(alloc: Global, texts: &Texts<'_>, case: &Case<'_>) -> Result<Typed, 
 
 /// The service of a text.
 fn typed_service(alloc: Global, text: &[u8]) -> Result<Typed, Fault> {
-    let Ok(service) = read_service(alloc, text) else {
-        return Err(Fault::Malformed);
-    };
+    match read_service(alloc, text) {
+        Ok(service) => resolved(alloc, service),
+        Err(fault) => {
+            drop(fault);
+            Err(Fault::Malformed)
+        }
+    }
+}
+
+/// The same of a service that was read.
+fn resolved(alloc: Global, service: Service) -> Result<Typed, Fault>
+    requires { IsReadable service }
+{
     match resolve(alloc, service) {
         Ok(typed) => Ok(typed),
-        Err(_) => Err(Fault::Malformed),
+        Err(fault) => {
+            drop(fault);
+            Err(Fault::Malformed)
+        }
     }
 }
 
@@ -110,7 +135,10 @@ fn schema_of(alloc: Global, texts: &Texts<'_>, case: &Case<'_>) -> Result<Schema
 fn schema_of_text(alloc: Global, text: &[u8]) -> Result<Schema, Fault> {
     match read_schema(alloc, text) {
         Ok(schema) => Ok(schema),
-        Err(_) => Err(Fault::Malformed),
+        Err(fault) => {
+            drop(fault);
+            Err(Fault::Malformed)
+        }
     }
 }
 

@@ -23,13 +23,26 @@ pub fn try_case(alloc: Global, texts: &Texts<'_>, case: &Case<'_>) -> Result<Ver
 
 /// The fields of the template.
 fn fields_of(alloc: Global, text: &[u8]) -> Result<String, Fault> {
-    match read_template(alloc, text, &mut GapNames::new(alloc)) {
+    let mut names = GapNames::new(alloc);
+    let read = read_template(alloc, text, &mut names);
+    drop(names);
+    match read {
         Ok(items) => {
-            let list = fields(&Tree { items })?;
-            Ok(shown_fields(alloc, list.as_slice())?)
+            let tree = Tree { items };
+            let shown = fields_of_tree(alloc, &tree);
+            drop(tree);
+            shown
         }
         Err(_) => Err(Fault::Malformed),
     }
+}
+
+/// The fields of what the template reads as.
+fn fields_of_tree(alloc: Global, tree: &Tree) -> Result<String, Fault> {
+    let list = fields(tree)?;
+    let shown = shown_fields(alloc, list.as_slice());
+    drop(list);
+    Ok(shown?)
 }
 
 fn shown_fields(alloc: Global, list: &[FieldUse]) -> Result<String, AllocError> {

@@ -13,7 +13,7 @@ use crate::templates::shown_items;
 use bw_lang::Tree;
 use bw_page::Sheet;
 use bw_read::{PageFault, read_page};
-use case_files::{Case, Fault, Texts, Verdict, escaped};
+use case_files::{Case, Fault, Line, Texts, Verdict, escaped};
 use std::alloc::Global;
 
 /// Bytes, and what is wanted of them.
@@ -31,22 +31,40 @@ pub fn try_case(alloc: Global, texts: &Texts<'_>, case: &Case<'_>) -> Result<Ver
         items: None,
         prints: None,
     };
-    for line in &case.lines {
+    let verdict = page_case.tried(alloc, texts, case);
+    drop(page_case);
+    verdict
+}
+
+impl PageCase {
+    /// Takes the lines of a case, and tries it.
+    fn tried(
+        &mut self,
+        alloc: Global,
+        texts: &Texts<'_>,
+        case: &Case<'_>,
+    ) -> Result<Verdict, Fault> {
+        for line in &case.lines {
+            self.take(alloc, texts, *line)?;
+        }
+        Ok(Verdict::of(self.wanted(alloc)?, self.got(alloc)?))
+    }
+
+    /// Takes the next line.
+    fn take(&mut self, alloc: Global, texts: &Texts<'_>, line: Line<'_>) -> Result<(), Fault> {
         match line.key {
-            "text" => page_case.text = texts.join(alloc, line.value)?,
-            "items" => page_case.items = Some(texts.join_escaped(alloc, line.value)?),
-            "prints" => page_case.prints = Some(texts.join_escaped(alloc, line.value)?),
+            "text" => self.text = texts.join(alloc, line.value)?,
+            "items" => self.items = Some(texts.join_escaped(alloc, line.value)?),
+            "prints" => self.prints = Some(texts.join_escaped(alloc, line.value)?),
             _ => {
                 if line.text != "no page" {
                     return Err(Fault::Malformed);
                 }
             }
         }
+        Ok(())
     }
-    Ok(Verdict::of(page_case.wanted(alloc)?, page_case.got(alloc)?))
-}
 
-impl PageCase {
     /// What is wanted.
     fn wanted(&self, alloc: Global) -> Result<String, Fault> {
         let Some(items) = &self.items else {
@@ -60,7 +78,11 @@ impl PageCase {
     /// What comes.
     fn got(&self, alloc: Global) -> Result<String, Fault> {
         match read_page(alloc, &self.text) {
-            Ok(page) => shown_twice(alloc, &page),
+            Ok(page) => {
+                let shown = shown_twice(alloc, &page);
+                drop(page);
+                shown
+            }
             Err(fault) => shown_page(alloc, Err(fault)),
         }
     }
@@ -75,7 +97,9 @@ fn shown_twice(alloc: Global, page: &Tree) -> Result<String, Fault> {
 
 fn shown_print(alloc: Global, page: &Tree) -> Result<String, Fault> {
     let sheet = Sheet::of(alloc, page)?;
-    shown_bytes(alloc, sheet.as_bytes())
+    let shown = shown_bytes(alloc, sheet.as_bytes());
+    drop(sheet);
+    shown
 }
 
 /// The bytes of a page, and what they are read as.
@@ -87,7 +111,11 @@ fn shown_bytes(alloc: Global, bytes: &[u8]) -> Result<String, Fault> {
 
 fn shown_page(alloc: Global, page: Result<Tree, PageFault>) -> Result<String, Fault> {
     match page {
-        Ok(page) => Ok(shown_items(alloc, &page.items)?),
+        Ok(page) => {
+            let shown = shown_items(alloc, &page.items);
+            drop(page);
+            Ok(shown?)
+        }
         Err(PageFault::NotAPage) => Ok(String::from_str(alloc, "no page")?),
         Err(PageFault::Memory) => Err(Fault::Memory),
     }

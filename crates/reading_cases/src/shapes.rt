@@ -1,7 +1,7 @@
 //! Cases of expressions. The name of a case is an expression, and its line `shape TEXT` says how it is read: with `{`
 //! and `}` around each operation, call and plug.
 
-use bw_lang::{Expr, Fun, Op, Pairs, Part, Stmt};
+use bw_lang::{Expr, Fun, Op, Pairs, Part, Service, Stmt};
 use bw_syntax::{SyntaxFault, read_service};
 use case_files::{Case, Fault, Verdict};
 use std::alloc::{AllocError, Global};
@@ -21,14 +21,36 @@ pub fn try_case(alloc: Global, case: &Case<'_>) -> Result<Verdict, Fault> {
 /// The shape of an expression, as it is read within a service.
 fn shape_of(alloc: Global, expression: &str) -> Result<String, Fault> {
     let text = format!(in alloc; "service A {{ session s() {{ exit {expression}; }} }}")?;
-    match read_service(alloc, text.as_bytes()) {
-        Ok(service) => match service.sessions.as_slice() {
-            [session] => shape_of_exit(alloc, session.body.as_slice()),
-            _ => Ok(String::from_str(alloc, "sessions")?),
-        },
-        Err(SyntaxFault::Syntax(_)) => Ok(String::from_str(alloc, "syntax")?),
-        Err(SyntaxFault::Memory) => Err(Fault::Memory),
-        Err(_) => Ok(String::from_str(alloc, "refused")?),
+    let read = read_service(alloc, text.as_bytes());
+    drop(text);
+    match read {
+        Ok(service) => {
+            let shape = shape_of_service(alloc, &service);
+            drop(service);
+            shape
+        }
+        Err(fault) => {
+            let shape = shape_of_fault(alloc, &fault);
+            drop(fault);
+            shape
+        }
+    }
+}
+
+/// The shape of the expression in a service of one session.
+fn shape_of_service(alloc: Global, service: &Service) -> Result<String, Fault> {
+    match service.sessions.as_slice() {
+        [session] => shape_of_exit(alloc, session.body.as_slice()),
+        _ => Ok(String::from_str(alloc, "sessions")?),
+    }
+}
+
+/// The word for a service that isn't read.
+fn shape_of_fault(alloc: Global, fault: &SyntaxFault) -> Result<String, Fault> {
+    match fault {
+        SyntaxFault::Syntax(_) => Ok(String::from_str(alloc, "syntax")?),
+        SyntaxFault::Memory => Err(Fault::Memory),
+        _ => Ok(String::from_str(alloc, "refused")?),
     }
 }
 

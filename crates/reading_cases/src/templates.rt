@@ -33,10 +33,9 @@ struct TemplateCase<'a> {
 /// Tries an inside of a template.
 pub fn try_case(alloc: Global, texts: &Texts<'_>, case: &Case<'_>) -> Result<Verdict, Fault> {
     let mut template_case = TemplateCase::new(alloc);
-    for line in &case.lines {
-        template_case.take(alloc, texts, *line)?;
-    }
-    Ok(Verdict::of(template_case.wanted(alloc)?, template_case.got(alloc)?))
+    let verdict = template_case.tried(alloc, texts, case);
+    drop(template_case);
+    verdict
 }
 
 impl<'a> TemplateCase<'a> {
@@ -50,6 +49,19 @@ impl<'a> TemplateCase<'a> {
             closed: None,
             left: None,
         }
+    }
+
+    /// Takes the lines of a case, and tries it.
+    fn tried(
+        &mut self,
+        alloc: Global,
+        texts: &Texts<'_>,
+        case: &Case<'a>,
+    ) -> Result<Verdict, Fault> {
+        for line in &case.lines {
+            self.take(alloc, texts, *line)?;
+        }
+        Ok(Verdict::of(self.wanted(alloc)?, self.got(alloc)?))
     }
 
     /// Takes the next line.
@@ -91,8 +103,15 @@ impl<'a> TemplateCase<'a> {
     /// What comes where gaps are allowed.
     fn open(&self, alloc: Global) -> Result<String, Fault> {
         let mut names = GapNames::new(alloc);
-        let (items, left) = shown_open(alloc, &self.text, &mut names)?;
-        let gaps = self.numbers(alloc, &names)?;
+        let shown = self.open_over(alloc, &mut names);
+        drop(names);
+        shown
+    }
+
+    /// What comes where gaps are allowed, behind gaps of these names.
+    fn open_over(&self, alloc: Global, names: &mut GapNames) -> Result<String, Fault> {
+        let (items, left) = shown_open(alloc, &self.text, names)?;
+        let gaps = self.numbers(alloc, names)?;
         let count = names.len();
         Ok(format!(in alloc; "{items}; {count} gaps{gaps}; left {left}")?)
     }
@@ -111,23 +130,32 @@ impl<'a> TemplateCase<'a> {
 /// The items that the text reads as, and what is left of them without their gaps.
 fn shown_open(alloc: Global, text: &[u8], names: &mut GapNames) -> Result<(String, String), Fault> {
     match read_template(alloc, text, names) {
-        Ok(items) => shown_both(alloc, Tree { items }),
+        Ok(items) => {
+            let tree = Tree { items };
+            let shown = shown_both(alloc, &tree);
+            drop(tree);
+            shown
+        }
         Err(fault) => Ok((shown_fault(alloc, fault)?, shown_fault(alloc, fault)?)),
     }
 }
 
-fn shown_both(alloc: Global, tree: Tree) -> Result<(String, String), Fault> {
+fn shown_both(alloc: Global, tree: &Tree) -> Result<(String, String), Fault> {
     let left = tree.close()?;
-    Ok((
-        shown_items(alloc, &tree.items)?,
-        shown_items(alloc, &left.items)?,
-    ))
+    let left_items = shown_items(alloc, &left.items);
+    drop(left);
+    let left_items = left_items?;
+    Ok((shown_items(alloc, &tree.items)?, left_items))
 }
 
 /// The items that the text reads as where no gap is allowed.
 fn shown_closed(alloc: Global, text: &[u8], most: u32) -> Result<String, AllocError> {
     match read_closed(alloc, text, most) {
-        Ok(items) => shown_items(alloc, &items),
+        Ok(items) => {
+            let shown = shown_items(alloc, &items);
+            drop(items);
+            shown
+        }
         Err(fault) => shown_fault(alloc, fault),
     }
 }

@@ -35,7 +35,11 @@ fn add_line(lines: &mut String, line: &str) -> Result<(), AllocError> {
 /// What the text becomes.
 fn shown(alloc: Global, text: &[u8]) -> Result<String, AllocError> {
     match lex(alloc, text) {
-        Ok(tokens) => shown_tokens(alloc, tokens.as_slice()),
+        Ok(tokens) => {
+            let shown = shown_tokens(alloc, tokens.as_slice());
+            drop(tokens);
+            shown
+        }
         Err(LexFault::BadByte(at)) => format!(in alloc; "bad byte at {at}"),
         Err(LexFault::OpenString(at)) => format!(in alloc; "open string at {at}"),
         Err(LexFault::OpenTemplate(at)) => format!(in alloc; "open template at {at}"),

@@ -20,8 +20,15 @@ pub fn begin_line(said: &mut String) -> Result<(), AllocError> {
     Ok(())
 }
 
+/// Says the page of a document that is at its end.
+pub fn say_doc(said: &mut String, word: &str, typed: &Typed, doc: Doc) -> Result<(), Fault> {
+    let page = say_page(said, word, typed, &doc);
+    drop(doc);
+    page
+}
+
 /// Says the document's page, or how many bytes the document prints to.
-pub fn say_page(said: &mut String, word: &str, typed: &Typed, doc: &Doc) -> Result<(), Fault> {
+fn say_page(said: &mut String, word: &str, typed: &Typed, doc: &Doc) -> Result<(), Fault> {
     begin_line(said)?;
     let length = doc.length()?;
     if length > MANY {

@@ -1,12 +1,13 @@
 //! Cases of turns.
 ghost use Rattle.std.specs.Prelude.{◌≡◌, ◌<◌, IfOk, OnOk};
 ghost use Rattle.bw_flow.specs.Layout.{plan_of};
+ghost use Rattle.bw_lang.specs.Service.Reads.{IsReadable};
 ghost use Rattle.bw_run.specs.Fit.{IsFitTurn};
 ghost use Rattle.turn_cases.specs.Fit.{IsFit};
 
-use crate::said::{say_fault, say_missing, say_page, say_shared};
+use crate::said::{say_doc, say_fault, say_missing, say_shared};
 use bw_flow::{Flow, lower};
-use bw_lang::{Submission, Text, TurnFault};
+use bw_lang::{Service, Submission, Text, TurnFault};
 use bw_out::Steps;
 use bw_run::{Frame, SharedValues, Turn, first_values, missing, resume, start};
 use bw_syntax::read_service;
@@ -14,8 +15,8 @@ use bw_types::{Typed, resolve};
 use case_files::{Case, Fault, Texts, Verdict};
 use std::alloc::{AllocError, Global};
 use std::marker::Brand;
-use std::str;
 use std::sync::ledger::{Blank, Ledger};
+use std::{mem, str};
 
 /// The shared variables of now, where sessions wait, and what was said of the turns so far.
 #[derive(Drop)]
@@ -23,6 +24,21 @@ pub struct Talk {
     pub shared: SharedValues,
     pub waiting: Vec<Frame>,
     said: String,
+}
+
+impl Talk {
+    /// What was said, where all turns were taken.
+    fn over(self, taken: Result<(), Fault>) -> Result<String, Fault> {
+        let Talk {
+            shared,
+            waiting,
+            said,
+        } = self;
+        drop(shared);
+        drop(waiting);
+        taken?;
+        Ok(said)
+    }
 }
 
 /// Tries the turns of a service.
@@ -34,7 +50,9 @@ pub fn try_case(alloc: Global, texts: &Texts<'_>, case: &Case<'_>) -> Result<Ver
 /// What comes of the turns of a case.
 fn got(alloc: Global, texts: &Texts<'_>, case: &Case<'_>) -> Result<String, Fault> {
     let typed = typed_service(alloc, texts, case)?;
-    got_of(alloc, texts, case, &typed)
+    let got = got_of(alloc, texts, case, &typed);
+    drop(typed);
+    got
 }
 
 fn got_of(
@@ -44,7 +62,9 @@ fn got_of(
     typed: &Typed,
 ) -> Result<String, Fault> {
     let flow = lowered(alloc, typed)?;
-    got_over(alloc, texts, case, typed, &flow)
+    let got = got_over(alloc, texts, case, typed, &flow);
+    drop(flow);
+    got
 }
 
 /// The same, where the service has this flow.
@@ -66,10 +86,33 @@ fn typed_service(alloc: Global, texts: &Texts<'_>, case: &Case<'_>) -> Result<Ty
         return Err(Fault::Malformed);
     };
     let text = texts.join(alloc, line.value)?;
-    let Ok(service) = read_service(alloc, &text) else {
-        return Err(Fault::Malformed);
-    };
-    resolve(alloc, service).map_err(|_| Fault::Malformed)
+    let typed = typed_text(alloc, &text);
+    drop(text);
+    typed
+}
+
+/// The service of a text.
+fn typed_text(alloc: Global, text: &[u8]) -> Result<Typed, Fault> {
+    match read_service(alloc, text) {
+        Ok(service) => resolved(alloc, service),
+        Err(fault) => {
+            drop(fault);
+            Err(Fault::Malformed)
+        }
+    }
+}
+
+/// The same of a service that was read.
+fn resolved(alloc: Global, service: Service) -> Result<Typed, Fault>
+    requires { IsReadable service }
+{
+    match resolve(alloc, service) {
+        Ok(typed) => Ok(typed),
+        Err(fault) => {
+            drop(fault);
+            Err(Fault::Malformed)
+        }
+    }
 }
 
 /// Its flow.
@@ -112,24 +155,60 @@ fn counted<L: Ledger>(
     requires some { 0 < blank.parts }
 {
     let mut steps: Steps<L> = Steps::new(blank);
-    let mut form = Submission::new(alloc);
     let mut talk = Talk {
         shared: first_values(alloc, typed)?,
         waiting: Vec::new(alloc),
         said: String::new(alloc),
     };
+    let held = hold(alloc, texts, case, typed, flow, &mut talk, &mut steps);
+    talk.over(held)
+}
+
+/// Gives the turns of a case.
+fn hold<L: Ledger>(
+    alloc: Global,
+    texts: &Texts<'_>,
+    case: &Case<'_>,
+    typed: &Typed,
+    flow: &Flow,
+    talk: &mut Talk,
+    steps: &mut Steps<L>,
+) -> Result<(), Fault>
+    requires flow { flow.now ≡ plan_of typed.now.service }
+    requires fit { IsFit typed.now.service flow.now.steps talk.old }
+{
+    let mut form = Submission::new(alloc);
+    let taken = take_lines(alloc, texts, case, typed, flow, &mut form, talk, steps);
+    drop(form);
+    taken
+}
+
+/// The same, where these fields were put into the form.
+fn take_lines<L: Ledger>(
+    alloc: Global,
+    texts: &Texts<'_>,
+    case: &Case<'_>,
+    typed: &Typed,
+    flow: &Flow,
+    form: &mut Submission,
+    talk: &mut Talk,
+    steps: &mut Steps<L>,
+) -> Result<(), Fault>
+    requires flow { flow.now ≡ plan_of typed.now.service }
+    requires fit { IsFit typed.now.service flow.now.steps talk.old }
+{
     for line in &case.lines {
         match line.key {
-            "start" => begin(alloc, typed, flow, line.value, &mut talk, &mut steps)?,
-            "field" => add_field(alloc, texts, line.value, &mut form)?,
+            "start" => begin(alloc, typed, flow, line.value, talk, steps)?,
+            "field" => add_field(alloc, texts, line.value, form)?,
             "answer" => {
-                answer(alloc, typed, flow, line.value, &form, &mut talk, &mut steps)?;
-                form = Submission::new(alloc);
+                answer(alloc, typed, flow, line.value, form, talk, steps)?;
+                drop(mem::replace(form, Submission::new(alloc)));
             }
             _ => {}
         }
     }
-    Ok(talk.said)
+    Ok(())
 }
 
 /// Puts `NAME PARTS` into a form.
@@ -211,13 +290,20 @@ fn end(
     match turn {
         Err(fault) => say_fault(&mut talk.said, fault)?,
         Ok(Turn::Shown(frame, doc, shared)) => {
-            say_page(&mut talk.said, "shown", typed, &doc)?;
+            if let Err(fault) = say_doc(&mut talk.said, "shown", typed, doc) {
+                drop(frame);
+                drop(shared);
+                return Err(fault);
+            }
+            drop(mem::replace(&mut talk.shared, shared));
             talk.waiting.push(frame)?;
-            talk.shared = shared;
         }
         Ok(Turn::Exited(doc, shared)) => {
-            say_page(&mut talk.said, "ended", typed, &doc)?;
-            talk.shared = shared;
+            if let Err(fault) = say_doc(&mut talk.said, "ended", typed, doc) {
+                drop(shared);
+                return Err(fault);
+            }
+            drop(mem::replace(&mut talk.shared, shared));
         }
     }
     say_shared(&mut talk.said, typed, &talk.shared)?;

@@ -56,7 +56,21 @@ pub fn answer_link<L: Ledger>(
         source: MemSource::new(bytes, usize::MAX, &[]),
         sink: MemSink::new(alloc, ROOM, taking.piece.get(), &taking.failing)?,
     };
-    let end = end_of(alloc, world, &mut link, keys, steps)?;
+    let answered = say_answer(alloc, &mut link, world, keys, steps, said);
+    drop(link);
+    answered
+}
+
+/// The same over this link.
+fn say_answer<L: Ledger>(
+    alloc: Global,
+    link: &mut MemLink<'_>,
+    world: &mut World,
+    keys: &mut MemKeys<'_>,
+    steps: &mut Steps<L>,
+    said: &mut String,
+) -> Result<(), Fault> {
+    let end = end_of(alloc, world, link, keys, steps)?;
     say_output(alloc, said, link.sink.bytes(), end)?;
     Ok(())
 }
@@ -70,7 +84,9 @@ fn end_of<L: Ledger>(
     steps: &mut Steps<L>,
 ) -> Result<StreamEnd, Memory> {
     let mut intake = Intake::new(alloc)?;
-    Ok(answer(alloc, world, &mut intake, link, keys, u32::MAX, steps))
+    let end = answer(alloc, world, &mut intake, link, keys, u32::MAX, steps);
+    drop(intake);
+    Ok(end)
 }
 
 fn say_output(

@@ -1,8 +1,10 @@
 //! Cases of worlds.
 ghost use Rattle.std.specs.Prelude.{◌≡◌, ◌<◌};
+ghost use Rattle.bw_lang.specs.Service.Reads.{IsReadable};
 
 use crate::links::{Taking, answer_link, say};
 use bw_check::{Checked, check};
+use bw_lang::Service;
 use bw_out::{MemKeys, Quiet, Steps};
 use bw_schema::built_in;
 use bw_syntax::read_service;
@@ -64,7 +66,9 @@ fn say_world<R: Threads + Sync>(
     said: &mut String,
 ) -> Result<(), Fault> {
     let mut world = world_of(rt, alloc, texts, case)?;
-    say_links(alloc, texts, case, &mut world, said)
+    let said = say_links(alloc, texts, case, &mut world, said);
+    drop(world);
+    said
 }
 
 /// The world as it begins.
@@ -98,10 +102,25 @@ fn typed_of(alloc: Global, texts: &Texts<'_>, case: &Case<'_>) -> Result<Typed, 
 }
 
 fn typed_service(alloc: Global, text: &[u8]) -> Result<Typed, Fault> {
-    let Ok(service) = read_service(alloc, text) else {
-        return Err(Fault::Malformed);
-    };
-    resolve(alloc, service).map_err(|_| Fault::Malformed)
+    match read_service(alloc, text) {
+        Ok(service) => resolved(alloc, service),
+        Err(fault) => {
+            drop(fault);
+            Err(Fault::Malformed)
+        }
+    }
+}
+
+fn resolved(alloc: Global, service: Service) -> Result<Typed, Fault>
+    requires { IsReadable service }
+{
+    match resolve(alloc, service) {
+        Ok(typed) => Ok(typed),
+        Err(fault) => {
+            drop(fault);
+            Err(Fault::Malformed)
+        }
+    }
 }
 
 /// The service, which has to be accepted by the built-in schema.
@@ -110,13 +129,23 @@ fn checked_service<R: Threads + Sync>(
     alloc: Global,
     typed: Typed,
 ) -> Result<Checked, Fault> {
-    let schema = built_in(alloc)?;
-    check(rt, alloc, typed, schema, 1, &Quiet).map_err(|_| Fault::Malformed)
+    let Ok(schema) = built_in(alloc) else {
+        drop(typed);
+        return Err(Fault::Memory);
+    };
+    match check(rt, alloc, typed, schema, 1, &Quiet) {
+        Ok(checked) => Ok(checked),
+        Err(fault) => {
+            drop(fault);
+            Err(Fault::Malformed)
+        }
+    }
 }
 
 fn new_world(alloc: Global, checked: Checked, next: u64, first: u64) -> Result<World, Fault> {
     let first = u32::try_from(first).unwrap_or(0);
     if next == 0 || next > 4_294_967_296 || first == 0 {
+        drop(checked);
         return Err(Fault::Malformed);
     }
     Ok(World::new_at(alloc, checked, next, first)?)

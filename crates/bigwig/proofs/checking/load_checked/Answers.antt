@@ -11,24 +11,17 @@ returns-in_err-typed-clause-answers g c =
     told_handed ruled_by _ (λ disk. accepted_file disk c.args.name.now c.args.judging.now.schema) c.from_residual.result _ c.from_residual.ensures.1
     (told_first _ (λ disk. service_file disk c.args.name.now) (λ disk. checked_by disk c.args.judging.now.schema) _ c.in_err-typed.ensures.answers)
 
-pub returns-in_err-schema-clause-answers : goal.returns-in_err-schema-clause-answers
-returns-in_err-schema-clause-answers g c =
+pub returns-in-Err-clause-answers : goal.returns-in-Err-clause-answers
+returns-in-Err-clause-answers g c =
     let tree = c.in_ok-typed.typed.service in
-    told_handed ruled_by _ (λ disk. accepted_file disk c.args.name.now c.args.judging.now.schema) c.from_residual-in_err-schema.result _
-    c.from_residual-in_err-schema.ensures.1
-    (told_next ruled_by _ _ (λ disk. service_file disk c.args.name.now) (λ disk. checked_by disk c.args.judging.now.schema) tree (Err _)
+    told_next ruled_by _ _ (λ disk. service_file disk c.args.name.now) (λ disk. checked_by disk c.args.judging.now.schema) tree (Err _)
     c.in_ok-typed.ensures.told c.in_ok-typed.ensures.answers
-    (told_first _ (λ disk. schema disk c.args.judging.now.schema) (λ disk. checked tree) _ c.in_err-schema.ensures.answers))
+    (told_first _ (λ disk. schema disk c.args.judging.now.schema) (λ disk. checked tree) _ c.in-Err.ensures.answers)
 
-pub returns-in_err-schema-clause-read_fault : goal.returns-in_err-schema-clause-read_fault
-returns-in_err-schema-clause-read_fault g c =
-    shows_handed c.in_ok-typed.typed c.from_residual-in_err-schema.result _ _ _ _ c.from_residual-in_err-schema.ensures.1
-    c.in_ok-typed.ensures.read_fault c.in_err-schema.ensures.read_fault
-
-pub returns-clause-answers : goal.returns-clause-answers
-returns-clause-answers g c =
+pub returns-in-Ok-clause-answers : goal.returns-in-Ok-clause-answers
+returns-in-Ok-clause-answers g c =
     let tree = c.in_ok-typed.typed.service in
     told_next ruled_by _ _ (λ disk. service_file disk c.args.name.now) (λ disk. checked_by disk c.args.judging.now.schema) tree c.checked.result
     c.in_ok-typed.ensures.told c.in_ok-typed.ensures.answers
-    (told_next ruled_by _ _ (λ disk. schema disk c.args.judging.now.schema) (λ disk. checked tree) c.in_ok-schema.schema c.checked.result
-    c.in_ok-schema.ensures.told c.in_ok-schema.ensures.answers (if_told _ c.checked.ensures.answers))
+    (told_next ruled_by _ _ (λ disk. schema disk c.args.judging.now.schema) (λ disk. checked tree) c.in-Ok.schema c.checked.result
+    c.in-Ok.ensures.told c.in-Ok.ensures.answers (if_told _ c.checked.ensures.answers))

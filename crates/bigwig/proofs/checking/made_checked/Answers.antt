@@ -11,14 +11,13 @@ returns-in_err-typed-clause-answers g c =
     stops_handed ruled_by (accepted_text c.args.text.now) c.from_residual.result _ c.from_residual.ensures.1
     (stops_first (service_text c.args.text.now) (λ tree. built_in >>= checked tree) _ c.in_err-typed.ensures.answers)
 
-pub returns-in_err-schema-clause-answers : goal.returns-in_err-schema-clause-answers
-returns-in_err-schema-clause-answers g c =
-    stops_handed ruled_by (accepted_text c.args.text.now) c.from_residual-in_err-schema.result _ c.from_residual-in_err-schema.ensures.1
-    (asks_next ruled_by (service_text c.args.text.now) (λ tree. built_in >>= checked tree) c.in_ok-typed.typed.service (Err _)
-    c.in_ok-typed.ensures.answers (stops_first built_in (checked c.in_ok-typed.typed.service) _ c.in_err-schema.ensures.answers))
+pub returns-in-Err-clause-answers : goal.returns-in-Err-clause-answers
+returns-in-Err-clause-answers g c =
+    asks_next ruled_by (service_text c.args.text.now) (λ tree. built_in >>= checked tree) c.in_ok-typed.typed.service (Err _)
+    c.in_ok-typed.ensures.answers (stops_first built_in (checked c.in_ok-typed.typed.service) _ c.in-Err.ensures.answers)
 
-pub returns-clause-answers : goal.returns-clause-answers
-returns-clause-answers g c =
+pub returns-in-Ok-clause-answers : goal.returns-in-Ok-clause-answers
+returns-in-Ok-clause-answers g c =
     asks_next ruled_by (service_text c.args.text.now) (λ tree. built_in >>= checked tree) c.in_ok-typed.typed.service c.checked.result
-    c.in_ok-typed.ensures.answers (asks_next ruled_by built_in (checked c.in_ok-typed.typed.service) c.in_ok-schema.schema c.checked.result
-    c.in_ok-schema.ensures.answers c.checked.ensures.answers)
+    c.in_ok-typed.ensures.answers (asks_next ruled_by built_in (checked c.in_ok-typed.typed.service) c.in-Ok.schema c.checked.result
+    c.in-Ok.ensures.answers c.checked.ensures.answers)

@@ -7,7 +7,7 @@ use Rattle.bigwig.proofs.judging.rule.Goals as goal
 pub returns-in-Ok-clause-answers : goal.returns-in-Ok-clause-answers
 returns-in-Ok-clause-answers g c =
     told_next _ _ _ (λ disk. schema disk c.args.named.now) (λ disk. judged c.args.tree.now.items) c.in-Ok.schema _ refl c.in-Ok.ensures.answers
-    (if_told _ c.judge.ensures.answers)
+    (if_told _ c.judge-judged.ensures.answers)
 
 pub returns-in-Err-clause-answers : goal.returns-in-Err-clause-answers
 returns-in-Err-clause-answers g c = told_first _ (λ disk. schema disk c.args.named.now)

@@ -1,5 +1,5 @@
 use Rattle.std.proofs.Common.{◌+◌, ap, length, arith}
-use Rattle.bw_shape.proofs.KnownTags.{longer}
+use Rattle.bw_sum.proofs.ReadGaps.{longer}
 use Rattle.bw_shape.proofs.Stays.{number_low}
 use Rattle.bw_shape.proofs.PairsNamed.{names_order}
 use Rattle.bw_shape.proofs.naming.name_order.Goals as goal

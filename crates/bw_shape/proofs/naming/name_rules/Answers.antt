@@ -2,7 +2,7 @@ use Rattle.std.proofs.Common.{◌≡◌, ◌⊎◌, inl, inr, ℕ, ◌+◌, ◌<
 use Rattle.std.specs.List.{Contains}
 use Rattle.std.proofs.lemmas.List.{get_or_default}
 use Rattle.bw_schema.specs.declared.rules.Rule.{Rule}
-use Rattle.bw_shape.proofs.KnownTags.{longer}
+use Rattle.bw_sum.proofs.ReadGaps.{longer}
 use Rattle.bw_shape.specs.Formulas.{AreNamed}
 use Rattle.bw_shape.specs.Formulas.{Names}
 use Rattle.bw_shape.proofs.Stays.{named_stay}

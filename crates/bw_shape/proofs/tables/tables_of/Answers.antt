@@ -4,7 +4,7 @@ use Rattle.bw_nodes.specs.Templates.{template_at}
 use Rattle.bw_shape.specs.Follows.{miss_follows}
 use Rattle.bw_rows.specs.Least.{IsLeast}
 use Rattle.bw_shape.specs.Columns.{AreKnown}
-use Rattle.bw_shape.proofs.KnownTags.{longer}
+use Rattle.bw_sum.proofs.ReadGaps.{longer}
 use Rattle.bw_shape.specs.declared.tables.Tables.{Tables}
 use Rattle.bw_shape.proofs.Outlines.{Made, hold_facts, are_tables}
 use Rattle.bw_shape.proofs.tables.tables_of.Goals.{In_ok-cross}

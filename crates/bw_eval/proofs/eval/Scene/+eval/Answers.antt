@@ -7,8 +7,9 @@ use Rattle.bw_lang.specs.Service.Term.{Fillings}
 use Rattle.bw_lang.specs.Service.TermView.{fillings}
 use Rattle.bw_eval.specs.View.{value, values}
 use Rattle.bw_eval.specs.Bases.{HaveBases}
-use Rattle.bw_eval.proofs.Fills.{next_at, stops_at, stops_with, pairs_from, pair_size_at_read}
+use Rattle.bw_eval.proofs.Fills.{next_at, stops_at, stops_with, pairs_from}
 use Rattle.bw_eval.proofs.eval.Scene.+eval.Goals as goal
+use Rattle.bw_types.proofs.Pairs.{pair_size_at_read}
 
 pub fill-eval-requires : goal.fill-eval-requires
 fill-eval-requires g t c lives within =

@@ -6,6 +6,6 @@ use Rattle.bw_world.proofs.world.World.new_at.Goals as goal
 
 pub invariant_of-result : goal.invariant_of-result
 invariant_of-result c =
-    kept_empty c.args.checked.typed c.in_ok-shared.shared
-    (subst (λ (t : Typed). AreShared t.service c.in_ok-shared.shared) c.typed.ensures c.in_ok-shared.ensures.fit) c.args.next c.args.first
-    c.in_ok-live.live _ c.in_ok-live.ensures (search rules)
+    kept_empty c.args.checked.typed c.in-Ok.shared
+    (subst (λ (t : Typed). AreShared t.service c.in-Ok.shared) c.typed.ensures c.in-Ok.ensures.fit) c.args.next c.args.first
+    c.in-Ok-new.live _ c.in-Ok-new.ensures (search rules)

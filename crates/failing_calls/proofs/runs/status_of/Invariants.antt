@@ -1,4 +1,4 @@
-use Rattle.failing_calls.proofs.runs.check.Given as goal
+use Rattle.failing_calls.proofs.runs.status_of.Given as goal
 
 abbrev pub ghosts-counted : goal.ghosts-counted
 ghosts-counted g a = record { name = a.blank.name; parts = a.blank.parts }
