@@ -1,16 +1,14 @@
 //! The files of a case.
+use crate::channels::CaseSource;
 use bw_out::MemFile;
 use case_files::{Fault, Line, Texts};
-use std::alloc::Global;
-use std::num::NonZeroUsize;
+use std::alloc::{AllocError, Global};
 
 /// A file of a case.
 #[derive(Drop)]
 pub struct CaseFile<'a> {
     name: &'a str,
-    content: Vec<u8>,
-    piece: NonZeroUsize,
-    failing_reads: Vec<u64>,
+    content: CaseSource,
 }
 
 impl<'a> CaseFile<'a> {
@@ -23,39 +21,25 @@ impl<'a> CaseFile<'a> {
         let (name, parts) = definition.split_once(' ').unwrap_or((definition, ""));
         Ok(CaseFile {
             name,
-            content: texts.join(alloc, parts)?,
-            piece: NonZeroUsize::MAX,
-            failing_reads: Vec::new(alloc),
+            content: CaseSource::of(alloc, texts.join(alloc, parts)?),
         })
     }
 
     /// The file of this name with this content.
-    pub fn with(alloc: Global, name: &'a str, content: &str) -> Result<CaseFile<'a>, Fault> {
+    pub fn with(alloc: Global, name: &'a str, content: &str) -> Result<CaseFile<'a>, AllocError> {
         Ok(CaseFile {
             name,
-            content: content.as_bytes().to_vec(alloc)?,
-            piece: NonZeroUsize::MAX,
-            failing_reads: Vec::new(alloc),
+            content: CaseSource::of(alloc, content.as_bytes().to_vec(alloc)?),
         })
     }
 
     /// Takes the next line, which says how the file is read.
-    pub fn take(&mut self, alloc: Global, line: Line<'a>) -> Result<(), Fault> {
-        match line.key {
-            "read_piece" => self.piece = line.value.parse()?,
-            "failing_reads" => self.failing_reads = line.numbers(alloc)?,
-            _ => return Err(Fault::Malformed),
-        }
-        Ok(())
+    pub fn take(&mut self, alloc: Global, line: Line<'_>) -> Result<(), Fault> {
+        self.content.take(alloc, line)
     }
 
     /// The file in memory.
     pub fn in_memory(&self) -> MemFile<'_> {
-        MemFile {
-            name: self.name,
-            content: &self.content,
-            piece: self.piece.get(),
-            failing: &self.failing_reads,
-        }
+        self.content.file_in_memory(self.name)
     }
 }

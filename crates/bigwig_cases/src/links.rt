@@ -1,58 +1,39 @@
 //! The links of a case.
-use bw_out::{MemLink, MemSink, MemSource};
+use crate::channels::{CaseSink, CaseSource};
+use bw_out::MemLink;
 use case_files::{Fault, Line};
 use std::alloc::{AllocError, Global};
-use std::num::NonZeroUsize;
-
-/// The room of a link's sink.
-const ROOM: usize = 65_536;
 
 /// A link: what its client sends, and how it is read and written.
 #[derive(Drop)]
 pub struct CaseLink {
-    sent: Vec<u8>,
-    read_piece: NonZeroUsize,
-    failing_reads: Vec<u64>,
-    room: usize,
-    write_piece: NonZeroUsize,
-    failing_writes: Vec<u64>,
+    source: CaseSource,
+    sink: CaseSink,
 }
 
 impl CaseLink {
-    /// A link whose client sends this.
-    pub fn of(alloc: Global, sent: Vec<u8>) -> CaseLink {
+    /// A link whose client sends this, and which is written so.
+    pub fn of(alloc: Global, sent: Vec<u8>, sink: CaseSink) -> CaseLink {
         CaseLink {
-            sent,
-            read_piece: NonZeroUsize::MAX,
-            failing_reads: Vec::new(alloc),
-            room: ROOM,
-            write_piece: NonZeroUsize::MAX,
-            failing_writes: Vec::new(alloc),
+            source: CaseSource::of(alloc, sent),
+            sink,
         }
     }
 
     /// Takes the next line, which says how the link is read or written.
     pub fn take(&mut self, alloc: Global, line: Line<'_>) -> Result<(), Fault> {
         match line.key {
-            "link_read_piece" => self.read_piece = line.value.parse()?,
-            "link_failing_reads" => self.failing_reads = line.numbers(alloc)?,
-            "link_room" => self.room = line.value.parse()?,
-            "link_write_piece" => self.write_piece = line.value.parse()?,
-            "link_failing_writes" => self.failing_writes = line.numbers(alloc)?,
-            _ => return Err(Fault::Malformed),
+            "read_piece" | "failing_reads" => self.source.take(alloc, line),
+            _ => self.sink.take(alloc, line),
         }
-        Ok(())
     }
 
-    fn in_memory(&self, alloc: Global) -> Result<MemLink<'_>, AllocError> {
-        let source = MemSource::new(&self.sent, self.read_piece.get(), &self.failing_reads);
-        let sink = MemSink::new(
-            alloc,
-            self.room,
-            self.write_piece.get(),
-            &self.failing_writes,
-        )?;
-        Ok(MemLink { source, sink })
+    /// The link in memory.
+    pub fn in_memory(&self, alloc: Global) -> Result<MemLink<'_>, AllocError> {
+        Ok(MemLink {
+            sink: self.sink.in_memory(alloc)?,
+            source: self.source.in_memory(),
+        })
     }
 }
 

@@ -1,12 +1,19 @@
-//! Worked examples of the whole program, kept as data: runs over files, keys, an output and a door in memory, and
-//! reads and writes that are interrupted. `case_files` says how the files are written.
+//! Worked examples of the whole program, kept as data: runs over files, keys, an output and a door in memory, worlds at
+//! their limits, and reads and writes that are interrupted. `case_files` says how the files are written, and the module that
+//! reads a file which lines a case has. Behind them two workers of a check have to meet.
 #![tactic(auto)]
 
+mod answers;
+mod channels;
 mod door;
 mod files;
 mod links;
+mod outcomes;
+mod outside;
 mod retries;
 mod runs;
+mod workers;
+mod worlds;
 
 use case_files::{Case, Fault, Table, Tally, Texts, Verdict};
 use std::alloc::Global;
@@ -21,7 +28,7 @@ enum Subject {
     /// Runs of the whole program.
     Runs,
     /// Runs of the whole program over requests that interleave sessions.
-    Worlds,
+    Sessions,
     /// Runs of the whole program that serve links.
     Serves,
     /// Runs of the whole program that check services.
@@ -30,6 +37,8 @@ enum Subject {
     Services,
     /// Reads and writes that are interrupted.
     Retries,
+    /// Worlds at their limits.
+    Worlds,
 }
 
 impl Subject {
@@ -37,23 +46,25 @@ impl Subject {
     fn file_name(self) -> &'static str {
         match self {
             Subject::Runs => "run.cases",
-            Subject::Worlds => "world.cases",
+            Subject::Sessions => "world.cases",
             Subject::Serves => "serve.cases",
             Subject::Checks => "check.cases",
             Subject::Services => "services.cases",
             Subject::Retries => "retries.cases",
+            Subject::Worlds => "worlds.cases",
         }
     }
 }
 
 /// What is tried, in this order.
-const SUBJECTS: [Subject; 6] = [
+const SUBJECTS: [Subject; 7] = [
     Subject::Runs,
-    Subject::Worlds,
+    Subject::Sessions,
     Subject::Serves,
     Subject::Checks,
     Subject::Services,
     Subject::Retries,
+    Subject::Worlds,
 ];
 
 /// Tries a case. The check makes its threads by `rt`.
@@ -64,32 +75,58 @@ fn try_case<R: Threads + Sync>(
     texts: &Texts<'_>,
     case: &Case<'_>,
 ) -> Result<Verdict, Fault> {
-    match subject {
-        Subject::Runs | Subject::Worlds | Subject::Serves | Subject::Checks => {
+    let tried = match subject {
+        Subject::Runs | Subject::Sessions | Subject::Serves | Subject::Checks => {
             runs::try_case(rt, alloc, texts, case)
         }
         Subject::Services => runs::try_service(rt, alloc, case),
         Subject::Retries => retries::try_case(alloc, case),
+        Subject::Worlds => worlds::try_case(rt, alloc, texts, case),
+    };
+    match tried {
+        Err(Fault::Malformed) => Ok(Verdict::Malformed),
+        tried => tried,
     }
 }
 
+/// Tries the cases of a table, and prints those that are wrong.
+fn try_cases<R: AllocGlobal + Print + Threads + Sync>(
+    rt: &R,
+    subject: Subject,
+    table: &Table<'_>,
+) -> Result<Tally, Fault> {
+    let mut tally = Tally::default();
+    for case in &table.cases {
+        let verdict = try_case(rt, rt.alloc(), subject, &table.texts, case)?;
+        tally.count(&verdict);
+        let printed = verdict.print(rt, case.name);
+        drop(verdict);
+        printed?;
+    }
+    Ok(tally)
+}
+
+/// The same of a file's text.
+fn try_text<R: AllocGlobal + Print + Threads + Sync>(
+    rt: &R,
+    subject: Subject,
+    text: &str,
+) -> Result<Tally, Fault> {
+    let table = Table::read(rt.alloc(), text)?;
+    let tally = try_cases(rt, subject, &table);
+    drop(table);
+    tally
+}
+
 /// Tries the cases of a file, and prints those that are wrong and the tally.
-fn try_cases<R: Files + AllocGlobal + Print + Threads + Sync>(
+fn try_file<R: Files + AllocGlobal + Print + Threads + Sync>(
     rt: &R,
     subject: Subject,
 ) -> Result<Tally, Fault> {
-    let alloc = rt.alloc();
-    let file = fs::read_to_string(rt, subject.file_name())?;
-    let table = Table::read(alloc, &file)?;
-    let mut tally = Tally::default();
-    for case in &table.cases {
-        let verdict = match try_case(rt, alloc, subject, &table.texts, case) {
-            Err(Fault::Malformed) => Verdict::Malformed,
-            tried => tried?,
-        };
-        verdict.print(rt, case.name)?;
-        tally.count(&verdict);
-    }
+    let text = fs::read_to_string(rt, subject.file_name())?;
+    let tally = try_text(rt, subject, &text);
+    drop(text);
+    let tally = tally?;
     println!(rt; "{}: {tally}", subject.file_name())?;
     Ok(tally)
 }
@@ -97,7 +134,7 @@ fn try_cases<R: Files + AllocGlobal + Print + Threads + Sync>(
 fn main(rt: HostRuntime) -> ExitCode {
     let mut code = ExitCode::SUCCESS;
     for subject in SUBJECTS {
-        match try_cases(&rt, subject) {
+        match try_file(&rt, subject) {
             Ok(tally) => {
                 if tally.has_wrong() {
                     code = ExitCode::FAILURE;
@@ -108,6 +145,10 @@ fn main(rt: HostRuntime) -> ExitCode {
                 code = ExitCode::FAILURE;
             }
         }
+    }
+    if let Err(fault) = workers::try_meeting(&rt) {
+        let _ = println!(&rt; "workers: {fault}");
+        code = ExitCode::FAILURE;
     }
     code
 }

@@ -3,12 +3,14 @@
 
 mod arranging;
 mod cross;
+mod field_tables;
 mod fields;
 mod gaps;
 mod naming;
 pub mod outline;
 mod reach;
 pub mod tables;
+mod tag_tables;
 pub mod tags;
 pub mod tops;
 

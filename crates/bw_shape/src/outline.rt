@@ -3,6 +3,7 @@ ghost use Rattle.std.specs.Prelude.{◌≡◌, ℕ, ◌<◌, length, IfOk};
 ghost use Rattle.std.specs.List.{All};
 ghost use Rattle.bw_strings.specs.Literals.{literals_of};
 ghost use Rattle.bw_nodes.specs.Nodes.{node_at};
+ghost use Rattle.bw_sum.specs.Templates.{all_items};
 ghost use Rattle.bw_shape.specs.Formulas.{AreColumns};
 ghost use Rattle.bw_shape.specs.Outlines as spec;
 
@@ -95,7 +96,7 @@ fn outlined<'a>(
 {
     let Named { tags, pairs } = named;
     let first = tags.len();
-    let tables = tables_of(
+    let Ok(tables) = tables_of(
         alloc,
         templates,
         graphed.nodes.as_slice(),
@@ -103,13 +104,46 @@ fn outlined<'a>(
         root,
         tags,
         pairs.as_slice(),
-    )?;
+    ) else {
+        drop(graphed);
+        drop(pairs);
+        return Err(Memory);
+    };
     Ok(Outline {
         graphed,
         tables,
         pairs,
         first,
     })
+}
+
+/// The shape of a page graph of a service whose templates, with the wrappers behind them, these are.
+fn shape_within(
+    alloc: Global,
+    templates: &TemplateItems,
+    page: &Summary,
+    typed: &Typed,
+    literals: &Literals,
+    schema: &Schema,
+) -> Result<Outline, Memory>
+    requires templates { templates.now ≡ all_items typed.now.service }
+    requires page { spec.IsPageGraph typed.now.service page.now }
+    requires literals { literals.now ≡ literals_of typed.now.service }
+    ensures { IfOk result (λ o. spec.IsShape typed.now.service page.now schema.now o) }
+{
+    let graphed = nodes_of(alloc, templates.len(), literals, page)?;
+    let Ok(named) = name_rules(alloc, schema.elements()) else {
+        drop(graphed);
+        return Err(Memory);
+    };
+    outlined(
+        alloc,
+        templates,
+        typed.fields(),
+        root_of(page),
+        graphed,
+        named,
+    )
 }
 
 /// The shape of a page graph of a service, for the tags that the formulas of a schema name. `literals` are those of the
@@ -132,16 +166,13 @@ pub fn shape(
     readable_is_small();
     let service = typed.service();
     let show = show_wrapper(alloc, &service.gaps)?;
-    let exit = exit_wrapper(alloc, &service.gaps)?;
+    let Ok(exit) = exit_wrapper(alloc, &service.gaps) else {
+        drop(show);
+        return Err(Memory);
+    };
     let templates = TemplateItems::of(service, &show, &exit);
-    let graphed = nodes_of(alloc, templates.len(), literals, page)?;
-    let named = name_rules(alloc, schema.elements())?;
-    outlined(
-        alloc,
-        &templates,
-        typed.fields(),
-        root_of(page),
-        graphed,
-        named,
-    )
+    let outline = shape_within(alloc, &templates, page, typed, literals, schema);
+    drop(exit);
+    drop(show);
+    outline
 }

@@ -1,5 +1,5 @@
 //! Which templates are reached from a root.
-ghost use Rattle.std.specs.Prelude.{◌≡◌, ℕ, ◌<◌, true, IfOk, OnOk, length};
+ghost use Rattle.std.specs.Prelude.{◌≡◌, ℕ, ◌<◌, [], true, false, IfOk, OnOk, length, replicate};
 ghost use Rattle.std.specs.List.{All};
 ghost use Rattle.bw_nodes.specs.Nodes.{node_at};
 ghost use Rattle.bw_shape.specs.Reach.{Takes, Visit, Reaches};
@@ -33,6 +33,24 @@ fn visit(links: &[(GapId, TemplateId)], seen: &mut Row, order: &mut Vec<u32>) ->
     Ok(())
 }
 
+/// Takes the templates in that are reached from the root, where none was seen yet: the root is the first of them.
+fn reach(nodes: &[Node], root: u32, seen: &mut Row, order: &mut Vec<u32>) -> Result<(), Memory>
+    requires root { root < length nodes.now }
+    requires links { (n : ℕ) → All (λ l. l.1 < length nodes.now) (node_at nodes.now n).links }
+    requires seen { seen.old ≡ replicate (length nodes.now) false }
+    requires order { order.old.items ≡ [] }
+    ensures { OnOk result (Reaches nodes.now root order.new.items) }
+{
+    take_in(root, seen, order)?;
+    let mut next = 0;
+    while next < order.len() {
+        let template = order[next] as usize;
+        visit(nodes[template].links(), seen, order)?;
+        next += 1;
+    }
+    Ok(())
+}
+
 /// The templates that are reached from the root, it being the first of them.
 pub fn reached(alloc: Global, nodes: &[Node], root: u32) -> Result<Vec<u32>, Memory>
     requires root { root < length nodes.now }
@@ -41,12 +59,6 @@ pub fn reached(alloc: Global, nodes: &[Node], root: u32) -> Result<Vec<u32>, Mem
 {
     let mut seen = Row::of(alloc, nodes.len(), false)?;
     let mut order = Vec::new(alloc);
-    take_in(root, &mut seen, &mut order)?;
-    let mut next = 0;
-    while next < order.len() {
-        let template = order[next] as usize;
-        visit(nodes[template].links(), &mut seen, &mut order)?;
-        next += 1;
-    }
+    reach(nodes, root, &mut seen, &mut order)?;
     Ok(order)
 }

@@ -8,21 +8,18 @@ ghost use Rattle.bw_nodes.specs.Fits.{Fits};
 ghost use Rattle.bw_nodes.specs.Nodes.{node_at};
 ghost use Rattle.bw_nodes.specs.Templates.{template_at};
 ghost use Rattle.bw_sum.specs.Graph.{Graph};
-ghost use Rattle.bw_rows.specs.Least.{IsLeast};
-ghost use Rattle.bw_rows.specs.Rows.{at};
 ghost use Rattle.bw_shape.specs.Columns.{AreKnown};
 ghost use Rattle.bw_shape.specs.Exact.{HoldFacts, AreTables};
-ghost use Rattle.bw_shape.specs.Follows.{have_follows, lack_follows, twice_follows, top_follows, miss_follows, cross_follows};
+ghost use Rattle.bw_shape.specs.Reach.{Reaches};
 
 use crate::arranging::arranged;
-use crate::cross::Crosses;
-use crate::fields::{Doubled, MayLack, Spread, Stands};
+use crate::field_tables::{FieldTables, fields_of};
 use crate::reach::reached;
+use crate::tag_tables::{TagTables, tags_of};
 use crate::tags::Tags;
-use crate::tops::{MayMiss, Tops};
 use bw_lang::{FieldNames, Item, Items, Memory};
 use bw_nodes::{Node, TemplateItems};
-use bw_rows::{Table, least};
+use bw_rows::Table;
 use std::alloc::Global;
 
 /// The facts of a page graph, as rows of flags by the numbers of templates. Templates that aren't reached have empty rows.
@@ -85,140 +82,24 @@ fn take_tops(templates: &TemplateItems, order: &[u32], tags: &mut Tags) -> Resul
     Ok(())
 }
 
-/// What each template may have at its top.
-fn tops_of<'a>(
+/// The templates that are reached from the root. Their tags are taken in.
+fn order_of<'a>(
     alloc: Global,
     templates: &'a TemplateItems<'a>,
     nodes: &'a [Node],
-    tags: &Tags,
-    back: &[u32],
-) -> Result<Table, Memory>
+    root: u32,
+    tags: &mut Tags,
+) -> Result<Vec<u32>, Memory>
     requires both { length nodes.now ≡ length templates.now }
-    requires order { All (λ n. n < length nodes.now) back.now }
-    ensures { IfOk result (λ t. IsLeast (length tags.now + 1) (top_follows templates.now nodes.now tags.now) back.now t) }
+    requires root { root < length nodes.now }
+    requires links { (n : ℕ) → All (λ l. l.1 < length nodes.now) (node_at nodes.now n).links }
+    ensures reached { IfOk result (λ v. Reaches nodes.now root v.items) }
+    ensures front { OnOk result (Extends tags.old tags.new) }
+    ensures known { IfOk result (λ v. All (λ n. AreKnown tags.new (template_at templates.now n)) v.items) }
 {
-    let rule = Tops {
-        templates,
-        nodes,
-        tags,
-    };
-    least(alloc, &rule, nodes.len(), back)
-}
-
-/// The fields that each template may have.
-fn have_of<'a>(
-    alloc: Global,
-    templates: &'a TemplateItems<'a>,
-    nodes: &'a [Node],
-    names: &'a FieldNames,
-    back: &[u32],
-) -> Result<Table, Memory>
-    requires both { length nodes.now ≡ length templates.now }
-    requires order { All (λ n. n < length nodes.now) back.now }
-    ensures { IfOk result (λ t. IsLeast (length names.now) (have_follows templates.now nodes.now names.now) back.now t) }
-{
-    let own = least(alloc, &Stands { templates, names }, nodes.len(), back)?;
-    let rule = Spread {
-        nodes,
-        own: &own,
-        width: names.len(),
-    };
-    least(alloc, &rule, nodes.len(), back)
-}
-
-/// The fields that each template may lack.
-fn lack_of<'a>(
-    alloc: Global,
-    templates: &'a TemplateItems<'a>,
-    nodes: &'a [Node],
-    names: &'a FieldNames,
-    back: &[u32],
-) -> Result<Table, Memory>
-    requires both { length nodes.now ≡ length templates.now }
-    requires order { All (λ n. n < length nodes.now) back.now }
-    ensures { IfOk result (λ t. IsLeast (length names.now) (lack_follows templates.now nodes.now names.now) back.now t) }
-{
-    let rule = MayLack {
-        templates,
-        nodes,
-        names,
-    };
-    least(alloc, &rule, nodes.len(), back)
-}
-
-/// The fields that each template may have twice, where it is known which of them may have one.
-fn twice_of<'a>(
-    alloc: Global,
-    templates: &'a TemplateItems<'a>,
-    nodes: &'a [Node],
-    names: &'a FieldNames,
-    have: &Table,
-    back: &[u32],
-) -> Result<Table, Memory>
-    requires both { length nodes.now ≡ length templates.now }
-    requires order { All (λ n. n < length nodes.now) back.now }
-    ensures { IfOk result (λ t. IsLeast (length names.now) (twice_follows templates.now nodes.now names.now (at have.now)) back.now t) }
-{
-    let doubled = Doubled {
-        templates,
-        nodes,
-        names,
-        have,
-    };
-    let own = least(alloc, &doubled, nodes.len(), back)?;
-    let rule = Spread {
-        nodes,
-        own: &own,
-        width: names.len(),
-    };
-    least(alloc, &rule, nodes.len(), back)
-}
-
-/// The first tags of which each template may have none at its top.
-fn miss_of<'a>(
-    alloc: Global,
-    templates: &'a TemplateItems<'a>,
-    nodes: &'a [Node],
-    tags: &Tags,
-    first: usize,
-    back: &[u32],
-) -> Result<Table, Memory>
-    requires both { length nodes.now ≡ length templates.now }
-    requires order { All (λ n. n < length nodes.now) back.now }
-    ensures { IfOk result (λ t. IsLeast first (miss_follows templates.now nodes.now tags.now) back.now t) }
-{
-    let rule = MayMiss {
-        templates,
-        nodes,
-        tags,
-        first,
-    };
-    least(alloc, &rule, nodes.len(), back)
-}
-
-/// The pairs of tags of which each template may have the first before the second at its top, where the tops are known.
-fn cross_of<'a>(
-    alloc: Global,
-    templates: &'a TemplateItems<'a>,
-    nodes: &'a [Node],
-    tags: &Tags,
-    tops: &Table,
-    pairs: &'a [(usize, usize)],
-    back: &[u32],
-) -> Result<Table, Memory>
-    requires both { length nodes.now ≡ length templates.now }
-    requires pairs { All (λ p. (p.0 < length tags.now + 1) × (p.1 < length tags.now + 1)) pairs.now }
-    requires order { All (λ n. n < length nodes.now) back.now }
-    ensures { IfOk result (λ t. IsLeast (length pairs.now) (cross_follows templates.now nodes.now tags.now (at tops.now) pairs.now) back.now t) }
-{
-    let rule = Crosses {
-        templates,
-        nodes,
-        tags,
-        tops,
-        pairs,
-    };
-    least(alloc, &rule, nodes.len(), back)
+    let order = reached(alloc, nodes, root)?;
+    take_tops(templates, order.as_slice(), tags)?;
+    Ok(order)
 }
 
 /// The tables of the facts of a page graph, which is given by the nodes of its templates. `tags` has the tags of formulas,
@@ -244,17 +125,26 @@ pub(crate) fn tables_of<'a>(
 {
     let first = tags.len();
     let mut tags = tags;
-    let order = reached(alloc, nodes, root)?;
-    let list = order.as_slice();
-    take_tops(templates, list, &mut tags)?;
-    let sorted = arranged(alloc, nodes, list, root)?;
+    let Ok(order) = order_of(alloc, templates, nodes, root, &mut tags) else {
+        drop(tags);
+        return Err(Memory);
+    };
+    let Ok(sorted) = arranged(alloc, nodes, order.as_slice(), root) else {
+        drop(tags);
+        return Err(Memory);
+    };
     let back = sorted.as_slice();
-    let tops = tops_of(alloc, templates, nodes, &tags, back)?;
-    let have = have_of(alloc, templates, nodes, names, back)?;
-    let lack = lack_of(alloc, templates, nodes, names, back)?;
-    let twice = twice_of(alloc, templates, nodes, names, &have, back)?;
-    let miss = miss_of(alloc, templates, nodes, &tags, first, back)?;
-    let cross = cross_of(alloc, templates, nodes, &tags, &tops, pairs, back)?;
+    let Ok(fields) = fields_of(alloc, templates, nodes, names, back) else {
+        drop(tags);
+        return Err(Memory);
+    };
+    let Ok(at_top) = tags_of(alloc, templates, nodes, &tags, first, pairs, back) else {
+        drop(fields);
+        drop(tags);
+        return Err(Memory);
+    };
+    let FieldTables { have, lack, twice } = fields;
+    let TagTables { tops, miss, cross } = at_top;
     Ok(Tables {
         order,
         tags,

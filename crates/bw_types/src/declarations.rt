@@ -66,8 +66,22 @@ impl Names<'_> {
         ensures first { IfErr result (λ e. IsFirst e (spec.faults_behind self.now.service.now [] (map seen declarations.now))) }
     {
         let mut earlier = NameTable::new(self.alloc);
+        let status = self.declarations_behind(&mut earlier, declarations);
+        drop(earlier);
+        status
+    }
+
+    /// The tests of declarations that stand behind those of these names.
+    fn declarations_behind(
+        &self,
+        earlier: &mut NameTable,
+        declarations: &[Declared],
+    ) -> Result<(), TypeFault>
+        ensures none { OnOk result (spec.faults_behind self.now.service.now earlier.old (map seen declarations.now) ≡ []) }
+        ensures first { IfErr result (λ e. IsFirst e (spec.faults_behind self.now.service.now earlier.old (map seen declarations.now))) }
+    {
         for declaration in declarations {
-            take_name(&mut earlier, name(declaration))?;
+            take_name(earlier, name(declaration))?;
             self.declaration(declaration)?;
         }
         Ok(())
@@ -117,7 +131,9 @@ impl Names<'_> {
         ensures first { IfErr result (λ e. IsFirst e (spec.own_faults self.now.service.now (declarations.Session session.now))) }
     {
         let mut locals = Locals::new(self.alloc);
-        self.block(&mut locals, &session.body)?;
+        let status = self.block(&mut locals, &session.body);
+        drop(locals);
+        status?;
         if !ends_in_exit(&session.body) {
             return Err(TypeFault::NoExit(session.name.copy()?));
         }

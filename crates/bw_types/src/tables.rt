@@ -144,47 +144,70 @@ impl Tables {
     pub fn of(alloc: Global, service: &Service) -> Result<Tables, Memory>
         ensures { IfOk result (IsKnown service.now) }
     {
-        let mut gaps = GapKinds::new(alloc);
-        let mut fields = Kinds::new(alloc);
-        note_templates(&mut gaps, &mut fields, service.templates.as_slice())?;
-        Ok(Tables {
-            templates: template_names(alloc, service.templates.as_slice())?,
-            sessions: session_names(alloc, service.sessions.as_slice())?,
-            shared: shared_kinds(alloc, service.shared.as_slice())?,
-            gaps,
-            fields,
-        })
+        let mut tables = Tables {
+            templates: NameTable::new(alloc),
+            sessions: NameTable::new(alloc),
+            shared: Kinds::new(alloc),
+            gaps: GapKinds::new(alloc),
+            fields: Kinds::new(alloc),
+        };
+        match tables.take_in(service) {
+            Ok(()) => Ok(tables),
+            Err(Memory) => {
+                drop(tables);
+                Err(Memory)
+            }
+        }
+    }
+
+    /// Takes in the names of a service, where the tables are empty.
+    fn take_in(&mut self, service: &Service) -> Result<(), Memory>
+        requires templates { self.old.templates ≡ [] }
+        requires sessions { self.old.sessions ≡ [] }
+        requires shared { self.old.shared ≡ [] }
+        requires gaps { self.old.gaps ≡ [] }
+        requires fields { self.old.fields ≡ [] }
+        ensures { OnOk result (IsKnown service.now self.new) }
+    {
+        note_templates(
+            &mut self.gaps,
+            &mut self.fields,
+            service.templates.as_slice(),
+        )?;
+        add_templates(&mut self.templates, service.templates.as_slice())?;
+        add_sessions(&mut self.sessions, service.sessions.as_slice())?;
+        note_shared(&mut self.shared, service.shared.as_slice())
     }
 }
 
-fn template_names(alloc: Global, templates: &[Template]) -> Result<NameTable, Memory>
-    ensures { IfOk result (λ names. names ≡ with_names [] (map (λ t. t.name) templates.now)) }
+/// Takes in the names of templates.
+fn add_templates(names: &mut NameTable, templates: &[Template]) -> Result<(), Memory>
+    ensures { OnOk result (names.new ≡ with_names names.old (map (λ t. t.name) templates.now)) }
 {
-    let mut names = NameTable::new(alloc);
     for template in templates {
         names.add(template.name.as_str())?;
     }
-    Ok(names)
+    Ok(())
 }
 
-fn session_names(alloc: Global, sessions: &[Session]) -> Result<NameTable, Memory>
-    ensures { IfOk result (λ names. names ≡ with_names [] (map (λ s. s.name) sessions.now)) }
+/// Takes in the names of sessions.
+fn add_sessions(names: &mut NameTable, sessions: &[Session]) -> Result<(), Memory>
+    ensures { OnOk result (names.new ≡ with_names names.old (map (λ s. s.name) sessions.now)) }
 {
-    let mut names = NameTable::new(alloc);
     for session in sessions {
         names.add(session.name.as_str())?;
     }
-    Ok(names)
+    Ok(())
 }
 
-fn shared_kinds(alloc: Global, shared: &[Shared]) -> Result<Kinds<Kind>, Memory>
-    ensures { IfOk result (λ kinds. kinds ≡ with_kinds [] (map (λ v. (v.name, v.kind)) shared.now)) }
+/// Takes in shared variables with their kinds.
+fn note_shared(kinds: &mut Kinds<Kind>, shared: &[Shared]) -> Result<(), Memory>
+    ensures { OnOk result (kinds.new ≡ with_kinds kinds.old (map (λ v. (v.name, v.kind)) shared.now)) }
 {
-    let mut kinds = Kinds::new(alloc);
     for variable in shared {
         kinds.note(variable.name.as_str(), variable.kind)?;
     }
-    Ok(kinds)
+    Ok(())
 }
 
 /// Takes in the gaps of templates and the fields of their controls.

@@ -1,7 +1,9 @@
 //! Services that are well typed.
-ghost use Rattle.std.specs.Prelude.{◌≡◌, ◌⊎◌, [], Some, None, IfOk, IfErr, MatchOption, slice_get};
-ghost use Rattle.bw_lang.specs.Table.Names.{with_names};
+ghost use Rattle.std.specs.Prelude.{◌≡◌, ◌⊎◌, [], Some, None, IfOk, IfErr, OnOk, MatchOption, slice_get, map, flat_map};
+ghost use Rattle.bw_lang.specs.Service.Limits.{declared_fields};
+ghost use Rattle.bw_lang.specs.Service.Order.{seen};
 ghost use Rattle.bw_lang.specs.Service.Reads.{IsReadable};
+ghost use Rattle.bw_lang.specs.Table.Names.{with_names};
 ghost use Rattle.bw_types.specs.declared.fault.TypeFault.TheVariants as faults;
 ghost use Rattle.bw_types.specs.Faults.{IsWellTyped, first_fault};
 ghost use Rattle.bw_types.specs.Fields.{field_names, field_number, kind_of_field};
@@ -37,15 +39,35 @@ pub fn resolve(alloc: Global, service: Service) -> Result<Typed, TypeFault>
     ensures ok { IfOk result (λ t. (t.service ≡ service) × IsWellTyped service) }
     ensures fault { IfErr result (λ e. (e ≡ faults.Memory) ⊎ (first_fault service ≡ Some e)) }
 {
-    let tables = Tables::of(alloc, &service)?;
-    check(alloc, &service, &tables)?;
-    let names = names_of_fields(alloc, &service)?;
-    let fields = FieldNames::of(names);
-    Ok(Typed {
-        service,
-        fields,
-        tables,
-    })
+    let Ok(tables) = Tables::of(alloc, &service) else {
+        drop(service);
+        return Err(TypeFault::Memory);
+    };
+    match fields_of(alloc, &service, &tables) {
+        Ok(fields) => Ok(Typed {
+            service,
+            fields,
+            tables,
+        }),
+        Err(fault) => {
+            drop(tables);
+            drop(service);
+            Err(fault)
+        }
+    }
+}
+
+/// The names of the fields of a service, if it is well typed. Else the fault of the first test that fails; or `Memory`.
+fn fields_of(alloc: Global, service: &Service, tables: &Tables) -> Result<FieldNames, TypeFault>
+    requires readable { ∥ IsReadable service.now ∥₁ }
+    requires known { IsKnown service.now tables.now }
+    ensures well_typed { OnOk result (IsWellTyped service.now) }
+    ensures names { IfOk result (λ fields. fields ≡ with_names [] (field_names service.now)) }
+    ensures fault { IfErr result (λ e. (e ≡ faults.Memory) ⊎ (first_fault service.now ≡ Some e)) }
+{
+    check(alloc, service, tables)?;
+    let names = names_of_fields(alloc, service)?;
+    Ok(FieldNames::of(names))
 }
 
 /// The names of the controls and the fields of the receives of a service, each once, in source order.
@@ -54,14 +76,27 @@ fn names_of_fields(alloc: Global, service: &Service) -> Result<NameTable, Memory
 {
     let declarations = service.declarations(alloc)?;
     let mut names = NameTable::new(alloc);
-    for declaration in declarations.as_slice() {
+    match add_fields(&mut names, declarations.as_slice()) {
+        Ok(()) => Ok(names),
+        Err(Memory) => {
+            drop(names);
+            Err(Memory)
+        }
+    }
+}
+
+/// Takes in the names of the controls and the fields of the receives of declarations.
+fn add_fields(names: &mut NameTable, declarations: &[Declared]) -> Result<(), Memory>
+    ensures { OnOk result (names.new ≡ with_names names.old (flat_map declared_fields (map seen declarations.now))) }
+{
+    for declaration in declarations {
         match declaration {
             Declared::Template(template) => names.add_controls(&template.items)?,
             Declared::Session(session) => names.add_received(&session.body)?,
             Declared::Shared(_) => {}
         }
     }
-    Ok(names)
+    Ok(())
 }
 
 impl Typed {

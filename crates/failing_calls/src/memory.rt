@@ -105,13 +105,24 @@ pub fn try_replay<R: Threads + Sync>(rt: &R, alloc: Global) -> Result<Came, Wron
     let got = book(rt, alloc, all, b"")?;
     let first = book(rt, alloc, all, b"")?;
     let second = book(rt, alloc, all, b"")?;
-    if got.output == first.output || got.output == second.output {
+    came_of_replay(rt, alloc, &got, &first.output, &second.output)
+}
+
+/// What a refused request for memory led to where this came, beside what two later runs printed.
+fn came_of_replay<R: Threads + Sync>(
+    rt: &R,
+    alloc: Global,
+    got: &Replayed,
+    first: &[u8],
+    second: &[u8],
+) -> Result<Came, Wrong> {
+    if got.output.as_slice() == first || got.output.as_slice() == second {
         return Ok(Came::Nothing);
     }
     if got.status == NO_MEMORY && got.output.is_empty() {
         return Ok(Came::Stopped);
     }
-    for place in 0..all {
+    for place in 0..REQUESTS.len() {
         if got.status == 0 && is_without(rt, alloc, &got.output, place)? {
             return Ok(Came::Answered);
         }
@@ -124,6 +135,11 @@ pub fn try_check<R: Threads + Sync>(rt: &R, alloc: Global) -> Result<Came, Wrong
     let service = make(alloc, PAGES)?;
     let got = check(rt, alloc, service.as_bytes())?;
     let again = check(rt, alloc, service.as_bytes())?;
+    came_of_check(&got, &again)
+}
+
+/// What a refused request for memory led to where this came, beside a later run.
+fn came_of_check(got: &Replayed, again: &Replayed) -> Result<Came, Wrong> {
     if got.status == 0 && got.output.as_slice() == ACCEPTED {
         return Ok(Came::Nothing);
     }

@@ -88,6 +88,16 @@ pub struct Replayed {
     pub output: Vec<u8>,
 }
 
+/// The file of a service, which is read as a whole.
+fn service_file(content: &[u8]) -> MemFile<'_> {
+    MemFile {
+        name: "s",
+        content,
+        piece: usize::MAX,
+        failing: &[],
+    }
+}
+
 /// Answers the requests of a file by a service, at most `limit` of them, with calls that go so for the request file and the
 /// output.
 pub fn replay<R: Threads + Sync>(
@@ -98,54 +108,50 @@ pub fn replay<R: Threads + Sync>(
     limit: &str,
     calls: Calls<'_>,
 ) -> Result<Replayed, Wrong> {
-    let words = words_of(alloc, &["replay", "s", "r", "--limit", limit])?;
-    let folder = [
-        MemFile {
-            name: "s",
-            content: service,
-            piece: usize::MAX,
-            failing: &[],
-        },
-        MemFile {
-            name: "r",
-            content: requests,
-            piece: calls.piece.get(),
-            failing: calls.failing_reads,
-        },
-    ];
+    let requests = MemFile {
+        name: "r",
+        content: requests,
+        piece: calls.piece.get(),
+        failing: calls.failing_reads,
+    };
     let out = MemSink::new(alloc, ROOM, calls.piece.get(), calls.failing_writes)?;
-    printed(rt, alloc, &words, &folder, out)
+    printed(
+        rt,
+        alloc,
+        &["replay", "s", "r", "--limit", limit],
+        &[service_file(service), requests],
+        out,
+    )
 }
 
 /// Checks a service by four workers.
 pub fn check<R: Threads + Sync>(rt: &R, alloc: Global, service: &[u8]) -> Result<Replayed, Wrong> {
-    let words = words_of(alloc, &["check", "s", "--workers", "4"])?;
-    let folder = [MemFile {
-        name: "s",
-        content: service,
-        piece: usize::MAX,
-        failing: &[],
-    }];
     let out = MemSink::new(alloc, ROOM, usize::MAX, &[])?;
-    printed(rt, alloc, &words, &folder, out)
+    printed(
+        rt,
+        alloc,
+        &["check", "s", "--workers", "4"],
+        &[service_file(service)],
+        out,
+    )
 }
 
-// What a run that serves nothing prints to this output.
+/// What a run that serves nothing prints to this output.
 fn printed<R: Threads + Sync>(
     rt: &R,
     alloc: Global,
-    words: &Words,
+    words: &[&str],
     folder: &[MemFile<'_>],
     out: MemSink<'_>,
 ) -> Result<Replayed, Wrong> {
     let mut out = out;
     let mut door = MemDoor::new(alloc, Vec::new(alloc))?;
-    let status = counted::<Brand, _>(rt, alloc, words, folder, &mut door, &mut out, Blank::new(1));
+    let status = status_of(rt, alloc, words, folder, &mut door, &mut out);
     drop(door);
     let output = Vec::from_slice(alloc, out.bytes());
     drop(out);
     Ok(Replayed {
-        status,
+        status: status?,
         output: output?,
     })
 }
@@ -179,6 +185,22 @@ fn door_of<'a>(
     calls: Calls<'a>,
 ) -> Result<MemDoor<'a>, Wrong> {
     let mut links = Vec::new(alloc);
+    match add_links(alloc, &mut links, requests, place, calls) {
+        Ok(()) => Ok(MemDoor::new(alloc, links)?),
+        Err(wrong) => {
+            drop(links);
+            Err(wrong)
+        }
+    }
+}
+
+fn add_links<'a>(
+    alloc: Global,
+    links: &mut Vec<MemLink<'a>>,
+    requests: &[&'a [u8]],
+    place: usize,
+    calls: Calls<'a>,
+) -> Result<(), Wrong> {
     for (number, request) in requests.iter().enumerate() {
         let these = if number == place {
             calls
@@ -187,7 +209,7 @@ fn door_of<'a>(
         };
         links.push(link_of(alloc, request, these)?)?;
     }
-    Ok(MemDoor::new(alloc, links)?)
+    Ok(())
 }
 
 /// A link whose client sends this request.
@@ -205,32 +227,14 @@ fn serve_at<R: Threads + Sync>(
     alloc: Global,
     door: &mut MemDoor<'_>,
 ) -> Result<Served, Wrong> {
-    let words = words_of(alloc, &["serve", "s"])?;
-    let status = status_of(rt, alloc, &words, door);
-    drop(words);
+    let mut out = MemSink::new(alloc, ROOM, usize::MAX, &[])?;
+    let folder = [service_file(TWICE)];
+    let status = status_of(rt, alloc, &["serve", "s"], &folder, door, &mut out);
+    drop(out);
     Ok(Served {
         status: status?,
         held: held_by(alloc, door.returned())?,
     })
-}
-
-/// The exit code of a run by these words over the service alone.
-fn status_of<R: Threads + Sync>(
-    rt: &R,
-    alloc: Global,
-    words: &Words,
-    door: &mut MemDoor<'_>,
-) -> Result<u8, Wrong> {
-    let folder = [MemFile {
-        name: "s",
-        content: TWICE,
-        piece: usize::MAX,
-        failing: &[],
-    }];
-    let mut out = MemSink::new(alloc, ROOM, usize::MAX, &[])?;
-    let status = counted::<Brand, _>(rt, alloc, words, &folder, door, &mut out, Blank::new(1));
-    drop(out);
-    Ok(status)
 }
 
 /// What each of these links holds.
@@ -248,6 +252,21 @@ fn words_of(alloc: Global, words: &[&str]) -> Result<Words, Memory> {
         all.push(Text::of(alloc, word)?)?;
     }
     Ok(all)
+}
+
+/// The exit code of a run by these words.
+fn status_of<R: Threads + Sync>(
+    rt: &R,
+    alloc: Global,
+    words: &[&str],
+    folder: &[MemFile<'_>],
+    door: &mut MemDoor<'_>,
+    out: &mut MemSink<'_>,
+) -> Result<u8, Wrong> {
+    let words = words_of(alloc, words)?;
+    let status = counted::<Brand, _>(rt, alloc, &words, folder, door, out, Blank::new(1));
+    drop(words);
+    Ok(status)
 }
 
 /// Runs the program with keys from 1, and a count of steps that nobody reads, and gives its exit code.

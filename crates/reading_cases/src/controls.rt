@@ -1,5 +1,5 @@
-//! Cases of controls in templates. A case has the line `text PARTS`, the inside of a template that stands in no service,
-//! and wants the line `fields NAME KIND, ..`, the names and kinds of its fields in order, or `fields none`.
+//! Cases of controls in templates. A case has the line `text PARTS`, the inside of a template that stands in no
+//! service, and wants the line `fields NAME KIND, ..`, the names and kinds of its fields in order, or `fields none`.
 
 use bw_lang::{FieldKind, GapNames, Tree};
 use bw_page::{FieldUse, fields};

@@ -1,12 +1,16 @@
-//! Worked examples of reading, kept as data: texts that become tokens, insides of templates that become items, the
-//! controls in them, pages that are read, and expressions that are grouped. `case_files` says how the files are written.
+//! Worked examples of reading, kept as data: expressions that are grouped, texts that become tokens, insides of
+//! templates that become items, the controls in them, pages that are read, schemas that are read, and pages that are
+//! judged by them. `case_files` says how the files are written, and the head of each module which lines its cases have.
 #![tactic(auto)]
 
 mod controls;
+mod lines;
 mod pages;
+mod schemas;
 mod shapes;
 mod templates;
 mod tokens;
+mod valid;
 
 use case_files::{Case, Fault, Kind, Texts, Verdict, try_files};
 use std::alloc::Global;
@@ -25,6 +29,10 @@ enum Reading {
     Controls,
     /// Bytes that are a page or none.
     Pages,
+    /// Texts of schemas.
+    Schemas,
+    /// Pages that are judged by schemas.
+    Valid,
 }
 
 impl Kind for Reading {
@@ -35,6 +43,8 @@ impl Kind for Reading {
             Reading::Templates => "templates.cases",
             Reading::Controls => "controls.cases",
             Reading::Pages => "pages.cases",
+            Reading::Schemas => "schemas.cases",
+            Reading::Valid => "valid.cases",
         }
     }
 
@@ -45,6 +55,8 @@ impl Kind for Reading {
             Reading::Templates => templates::try_case(alloc, texts, case),
             Reading::Controls => controls::try_case(alloc, texts, case),
             Reading::Pages => pages::try_case(alloc, texts, case),
+            Reading::Schemas => schemas::try_case(alloc, texts, case),
+            Reading::Valid => valid::try_case(alloc, texts, case),
         }
     }
 }
@@ -58,6 +70,8 @@ fn main(rt: HostRuntime) -> ExitCode {
             Reading::Templates,
             Reading::Controls,
             Reading::Pages,
+            Reading::Schemas,
+            Reading::Valid,
         ],
     )
 }

@@ -10,52 +10,48 @@
 //! and else `no page`.
 
 use crate::templates::shown_items;
-use bw_lang::Tree;
+use bw_lang::{Items, Tree};
 use bw_page::Sheet;
 use bw_read::{PageFault, read_page};
 use case_files::{Case, Fault, Line, Texts, Verdict, escaped};
-use std::alloc::Global;
+use std::alloc::{AllocError, Global};
 
-/// Bytes, and what is wanted of them.
-#[derive(Drop)]
-struct PageCase {
-    text: Vec<u8>,
-    items: Option<String>,
-    prints: Option<String>,
+/// The lines of a case: the bytes, and what is wanted of them, in parts.
+#[derive(Clone, Copy)]
+struct PageCase<'a> {
+    text: &'a str,
+    items: Option<&'a str>,
+    prints: Option<&'a str>,
 }
 
 /// Tries bytes.
 pub fn try_case(alloc: Global, texts: &Texts<'_>, case: &Case<'_>) -> Result<Verdict, Fault> {
-    let mut page_case = PageCase {
-        text: Vec::new(alloc),
-        items: None,
-        prints: None,
-    };
-    let verdict = page_case.tried(alloc, texts, case);
-    drop(page_case);
-    verdict
+    let page_case = PageCase::of(case)?;
+    let text = texts.join(alloc, page_case.text)?;
+    let got = got(alloc, &text)?;
+    Ok(Verdict::of(page_case.wanted(alloc, texts)?, got))
 }
 
-impl PageCase {
-    /// Takes the lines of a case, and tries it.
-    fn tried(
-        &mut self,
-        alloc: Global,
-        texts: &Texts<'_>,
-        case: &Case<'_>,
-    ) -> Result<Verdict, Fault> {
+impl<'a> PageCase<'a> {
+    /// The lines of this case.
+    fn of(case: &Case<'a>) -> Result<PageCase<'a>, Fault> {
+        let mut page_case = PageCase {
+            text: "",
+            items: None,
+            prints: None,
+        };
         for line in &case.lines {
-            self.take(alloc, texts, *line)?;
+            page_case.take(*line)?;
         }
-        Ok(Verdict::of(self.wanted(alloc)?, self.got(alloc)?))
+        Ok(page_case)
     }
 
     /// Takes the next line.
-    fn take(&mut self, alloc: Global, texts: &Texts<'_>, line: Line<'_>) -> Result<(), Fault> {
+    fn take(&mut self, line: Line<'a>) -> Result<(), Fault> {
         match line.key {
-            "text" => self.text = texts.join(alloc, line.value)?,
-            "items" => self.items = Some(texts.join_escaped(alloc, line.value)?),
-            "prints" => self.prints = Some(texts.join_escaped(alloc, line.value)?),
+            "text" => self.text = line.value,
+            "items" => self.items = Some(line.value),
+            "prints" => self.prints = Some(line.value),
             _ => {
                 if line.text != "no page" {
                     return Err(Fault::Malformed);
@@ -66,47 +62,52 @@ impl PageCase {
     }
 
     /// What is wanted.
-    fn wanted(&self, alloc: Global) -> Result<String, Fault> {
-        let Some(items) = &self.items else {
+    fn wanted(&self, alloc: Global, texts: &Texts<'_>) -> Result<String, Fault> {
+        let Some(items) = self.items else {
             return Ok(String::from_str(alloc, "no page")?);
         };
-        let text = escaped(alloc, &self.text)?;
-        let prints = self.prints.as_ref().unwrap_or(&text);
-        Ok(format!(in alloc; "{items}; prints {prints}; again {items}")?)
+        let items = texts.join_escaped(alloc, items)?;
+        let prints = texts.join_escaped(alloc, self.prints.unwrap_or(self.text))?;
+        Ok(in_a_row(alloc, &items, &prints, &items)?)
     }
+}
 
-    /// What comes.
-    fn got(&self, alloc: Global) -> Result<String, Fault> {
-        match read_page(alloc, &self.text) {
-            Ok(page) => {
-                let shown = shown_twice(alloc, &page);
-                drop(page);
-                shown
-            }
-            Err(fault) => shown_page(alloc, Err(fault)),
+/// The items of a page, what it prints to, and what this is read as.
+fn in_a_row(alloc: Global, items: &str, prints: &str, again: &str) -> Result<String, AllocError> {
+    let mut row = String::from_str(alloc, items)?;
+    row.push_str("; prints ")?;
+    row.push_str(prints)?;
+    row.push_str("; again ")?;
+    row.push_str(again)?;
+    Ok(row)
+}
+
+/// What comes of bytes.
+fn got(alloc: Global, bytes: &[u8]) -> Result<String, Fault> {
+    match read_page(alloc, bytes) {
+        Ok(page) => {
+            let shown = shown_twice(alloc, &page);
+            drop(page);
+            shown
         }
+        Err(fault) => shown_page(alloc, Err(fault)),
     }
 }
 
 /// A page, what it prints to, and what this is read as.
 fn shown_twice(alloc: Global, page: &Tree) -> Result<String, Fault> {
-    let items = shown_items(alloc, &page.items)?;
-    let again = shown_print(alloc, page)?;
-    Ok(format!(in alloc; "{items}; {again}")?)
-}
-
-fn shown_print(alloc: Global, page: &Tree) -> Result<String, Fault> {
     let sheet = Sheet::of(alloc, page)?;
-    let shown = shown_bytes(alloc, sheet.as_bytes());
+    let shown = shown_again(alloc, &page.items, sheet.as_bytes());
     drop(sheet);
     shown
 }
 
-/// The bytes of a page, and what they are read as.
-fn shown_bytes(alloc: Global, bytes: &[u8]) -> Result<String, Fault> {
-    let prints = escaped(alloc, bytes)?;
+/// Items, the bytes that they print to, and what these are read as.
+fn shown_again(alloc: Global, items: &Items, bytes: &[u8]) -> Result<String, Fault> {
     let again = shown_page(alloc, read_page(alloc, bytes))?;
-    Ok(format!(in alloc; "prints {prints}; again {again}")?)
+    let items = shown_items(alloc, items)?;
+    let prints = escaped(alloc, bytes)?;
+    Ok(in_a_row(alloc, &items, &prints, &again)?)
 }
 
 fn shown_page(alloc: Global, page: Result<Tree, PageFault>) -> Result<String, Fault> {

@@ -14,116 +14,142 @@
 //! as `(TAG NAME='VALUE' NAME=<NUMBER> ITEMS)`. The faults are `malformed`, `repeated attribute`, `mismatched` and
 //! `nesting`.
 
-use bw_lang::{Attr, AttrValue, GapNames, Item, Items, Tree};
+use bw_lang::{Attr, AttrValue, Attrs, GapId, GapNames, Item, Items, Text, Tree};
 use bw_tmpl::{TEMPLATE_NESTING, TmplFault, read_closed, read_template};
 use case_files::{Case, Fault, Line, Texts, Verdict, escaped};
 use std::alloc::{AllocError, Global};
 
-/// An inside of a template, and what is wanted of it.
-#[derive(Drop)]
+/// What a text is to be read as.
+#[derive(Clone, Copy)]
+enum Outcome<'a> {
+    /// These items, in parts.
+    Items(&'a str),
+    /// A fault of these words.
+    Fault(&'a str),
+}
+
+impl Outcome<'_> {
+    /// Puts it behind other words.
+    fn put(&self, alloc: Global, texts: &Texts<'_>, words: &mut String) -> Result<(), Fault> {
+        match self {
+            Outcome::Items(parts) => words.push_str(&texts.join_escaped(alloc, parts)?)?,
+            Outcome::Fault(fault) => words.push_str(fault)?,
+        }
+        Ok(())
+    }
+}
+
+/// The lines of a case: an inside of a template, in parts, and what is wanted of it.
+#[derive(Clone, Copy)]
 struct TemplateCase<'a> {
-    text: Vec<u8>,
+    text: &'a str,
     most: u32,
-    items: String,
+    items: Outcome<'a>,
     gaps: &'a str,
-    closed: Option<String>,
-    left: Option<String>,
+    closed: Option<Outcome<'a>>,
+    left: Option<Outcome<'a>>,
 }
 
 /// Tries an inside of a template.
 pub fn try_case(alloc: Global, texts: &Texts<'_>, case: &Case<'_>) -> Result<Verdict, Fault> {
-    let mut template_case = TemplateCase::new(alloc);
-    let verdict = template_case.tried(alloc, texts, case);
-    drop(template_case);
-    verdict
+    let template_case = TemplateCase::of(case)?;
+    let text = texts.join(alloc, template_case.text)?;
+    let got = template_case.got(alloc, &text)?;
+    Ok(Verdict::of(template_case.wanted(alloc, texts)?, got))
 }
 
 impl<'a> TemplateCase<'a> {
-    /// The case without a line.
-    fn new(alloc: Global) -> TemplateCase<'a> {
-        TemplateCase {
-            text: Vec::new(alloc),
+    /// The lines of this case.
+    fn of(case: &Case<'a>) -> Result<TemplateCase<'a>, Fault> {
+        let mut template_case = TemplateCase {
+            text: "",
             most: TEMPLATE_NESTING,
-            items: String::new(alloc),
+            items: Outcome::Items(""),
             gaps: "",
             closed: None,
             left: None,
-        }
-    }
-
-    /// Takes the lines of a case, and tries it.
-    fn tried(
-        &mut self,
-        alloc: Global,
-        texts: &Texts<'_>,
-        case: &Case<'a>,
-    ) -> Result<Verdict, Fault> {
+        };
         for line in &case.lines {
-            self.take(alloc, texts, *line)?;
+            template_case.take(*line)?;
         }
-        Ok(Verdict::of(self.wanted(alloc)?, self.got(alloc)?))
+        Ok(template_case)
     }
 
     /// Takes the next line.
-    fn take(&mut self, alloc: Global, texts: &Texts<'_>, line: Line<'a>) -> Result<(), Fault> {
+    fn take(&mut self, line: Line<'a>) -> Result<(), Fault> {
         match line.key {
-            "text" => self.text = texts.join(alloc, line.value)?,
+            "text" => self.text = line.value,
             "most" => self.most = line.value.parse()?,
-            "items" => self.items = texts.join_escaped(alloc, line.value)?,
-            "fault" => self.items = String::from_str(alloc, line.value)?,
+            "items" => self.items = Outcome::Items(line.value),
+            "fault" => self.items = Outcome::Fault(line.value),
             "gaps" => self.gaps = line.value,
-            "closed_items" => self.closed = Some(texts.join_escaped(alloc, line.value)?),
-            "closed_fault" => self.closed = Some(String::from_str(alloc, line.value)?),
-            "left" => self.left = Some(texts.join_escaped(alloc, line.value)?),
+            "closed_items" => self.closed = Some(Outcome::Items(line.value)),
+            "closed_fault" => self.closed = Some(Outcome::Fault(line.value)),
+            "left" => self.left = Some(Outcome::Items(line.value)),
             _ => return Err(Fault::Malformed),
         }
         Ok(())
     }
 
     /// What is wanted.
-    fn wanted(&self, alloc: Global) -> Result<String, AllocError> {
-        let items = &self.items;
-        let left = self.left.as_ref().unwrap_or(items);
-        let closed = self.closed.as_ref().unwrap_or(items);
-        let mut gaps = String::new(alloc);
-        for (number, name) in self.gaps.split_whitespace().enumerate() {
-            write!(gaps, " {name} {number}")?;
-        }
+    fn wanted(&self, alloc: Global, texts: &Texts<'_>) -> Result<String, Fault> {
+        let mut wanted = String::new(alloc);
+        self.items.put(alloc, texts, &mut wanted)?;
+        self.put_gaps(&mut wanted)?;
+        wanted.push_str("; left ")?;
+        let left = self.left.unwrap_or(self.items);
+        left.put(alloc, texts, &mut wanted)?;
+        wanted.push_str("; closed ")?;
+        let closed = self.closed.unwrap_or(self.items);
+        closed.put(alloc, texts, &mut wanted)?;
+        Ok(wanted)
+    }
+
+    /// Puts the gaps that are wanted behind other words.
+    fn put_gaps(&self, words: &mut String) -> Result<(), AllocError> {
         let count = self.gaps.split_whitespace().count();
-        format!(in alloc; "{items}; {count} gaps{gaps}; left {left}; closed {closed}")
+        write!(words, "; {count} gaps")?;
+        for (number, name) in self.gaps.split_whitespace().enumerate() {
+            write!(words, " {name} {number}")?;
+        }
+        Ok(())
     }
 
     /// What comes.
-    fn got(&self, alloc: Global) -> Result<String, Fault> {
-        let open = self.open(alloc)?;
-        let closed = shown_closed(alloc, &self.text, self.most)?;
-        Ok(format!(in alloc; "{open}; closed {closed}")?)
+    fn got(&self, alloc: Global, text: &[u8]) -> Result<String, Fault> {
+        let mut got = self.open(alloc, text)?;
+        let closed = shown_closed(alloc, text, self.most)?;
+        got.push_str("; closed ")?;
+        got.push_str(&closed)?;
+        Ok(got)
     }
 
     /// What comes where gaps are allowed.
-    fn open(&self, alloc: Global) -> Result<String, Fault> {
+    fn open(&self, alloc: Global, text: &[u8]) -> Result<String, Fault> {
         let mut names = GapNames::new(alloc);
-        let shown = self.open_over(alloc, &mut names);
+        let shown = self.open_over(alloc, text, &mut names);
         drop(names);
         shown
     }
 
     /// What comes where gaps are allowed, behind gaps of these names.
-    fn open_over(&self, alloc: Global, names: &mut GapNames) -> Result<String, Fault> {
-        let (items, left) = shown_open(alloc, &self.text, names)?;
-        let gaps = self.numbers(alloc, names)?;
-        let count = names.len();
-        Ok(format!(in alloc; "{items}; {count} gaps{gaps}; left {left}")?)
+    fn open_over(&self, alloc: Global, text: &[u8], names: &mut GapNames) -> Result<String, Fault> {
+        let (mut shown, left) = shown_open(alloc, text, names)?;
+        self.put_numbers(names, &mut shown)?;
+        shown.push_str("; left ")?;
+        shown.push_str(&left)?;
+        Ok(shown)
     }
 
-    /// The gaps that are wanted, with their numbers.
-    fn numbers(&self, alloc: Global, names: &GapNames) -> Result<String, AllocError> {
-        let mut gaps = String::new(alloc);
+    /// Puts how many gaps there are, and the numbers of those that are wanted, behind other words.
+    fn put_numbers(&self, names: &GapNames, words: &mut String) -> Result<(), AllocError> {
+        let count = names.len();
+        write!(words, "; {count} gaps")?;
         for name in self.gaps.split_whitespace() {
             let number = names.number(name).number();
-            write!(gaps, " {name} {number}")?;
+            write!(words, " {name} {number}")?;
         }
-        Ok(gaps)
+        Ok(())
     }
 }
 
@@ -190,37 +216,45 @@ fn write_items(items: &Items, out: &mut String) -> Result<(), AllocError> {
 
 #[cycle(write)]
 fn write_item(item: &Item, out: &mut String) -> Result<(), AllocError> {
+    out.push(' ')?;
     match item {
-        Item::Text(text) => {
-            let text = text.as_str();
-            write!(out, " '{text}'")
-        }
-        Item::Gap(gap) => {
-            let number = gap.number();
-            write!(out, " <{number}>")
-        }
+        Item::Text(text) => write_quoted(text, out),
+        Item::Gap(gap) => write_gap(*gap, out),
         Item::Element(element) => {
-            let tag = element.tag.as_str();
-            write!(out, " ({tag}")?;
-            for attr in element.attrs.as_slice() {
-                write_attr(attr, out)?;
-            }
+            out.push('(')?;
+            out.push_str(element.tag.as_str())?;
+            write_attrs(&element.attrs, out)?;
             write_items(&element.items, out)?;
             out.push(')')
         }
     }
 }
 
-fn write_attr(attr: &Attr, out: &mut String) -> Result<(), AllocError> {
-    let name = attr.name.as_str();
-    match &attr.value {
-        AttrValue::Fixed(value) => {
-            let value = value.as_str();
-            write!(out, " {name}='{value}'")
-        }
-        AttrValue::Hole(gap) => {
-            let number = gap.number();
-            write!(out, " {name}=<{number}>")
-        }
+/// Writes attributes, each behind a blank.
+fn write_attrs(attrs: &Attrs, out: &mut String) -> Result<(), AllocError> {
+    for attr in attrs.as_slice() {
+        write_attr(attr, out)?;
     }
+    Ok(())
+}
+
+fn write_attr(attr: &Attr, out: &mut String) -> Result<(), AllocError> {
+    out.push(' ')?;
+    out.push_str(attr.name.as_str())?;
+    out.push('=')?;
+    match &attr.value {
+        AttrValue::Fixed(value) => write_quoted(value, out),
+        AttrValue::Hole(gap) => write_gap(*gap, out),
+    }
+}
+
+fn write_quoted(text: &Text, out: &mut String) -> Result<(), AllocError> {
+    out.push('\'')?;
+    out.push_str(text.as_str())?;
+    out.push('\'')
+}
+
+fn write_gap(gap: GapId, out: &mut String) -> Result<(), AllocError> {
+    let number = gap.number();
+    write!(out, "<{number}>")
 }

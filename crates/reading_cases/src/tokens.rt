@@ -6,6 +6,7 @@
 //!
 //! or `no tokens`, or a fault: `bad byte at N`, `open string at N`, `open template at N`, `number too big at N`.
 
+use crate::lines::{begin_line, text_and_wanted};
 use bw_lang::{Token, TokenKind};
 use bw_lex::{LexFault, lex};
 use case_files::{Case, Fault, Texts, Verdict, escaped};
@@ -13,23 +14,8 @@ use std::alloc::{AllocError, Global};
 
 /// Tries a text.
 pub fn try_case(alloc: Global, texts: &Texts<'_>, case: &Case<'_>) -> Result<Verdict, Fault> {
-    let mut text = Vec::new(alloc);
-    let mut wanted = String::new(alloc);
-    for line in &case.lines {
-        match line.key {
-            "text" => text = texts.join(alloc, line.value)?,
-            _ => add_line(&mut wanted, line.text)?,
-        }
-    }
+    let (text, wanted) = text_and_wanted(alloc, texts, case)?;
     Ok(Verdict::of(wanted, shown(alloc, &text)?))
-}
-
-/// Puts a line behind others, parted from them by `;`.
-fn add_line(lines: &mut String, line: &str) -> Result<(), AllocError> {
-    if !lines.is_empty() {
-        lines.push_str("; ")?;
-    }
-    lines.push_str(line)
 }
 
 /// What the text becomes.
@@ -54,22 +40,39 @@ fn shown_tokens(alloc: Global, tokens: &[Token]) -> Result<String, AllocError> {
     }
     let mut shown = String::new(alloc);
     for token in tokens {
-        add_line(&mut shown, &shown_token(alloc, token)?)?;
+        begin_line(&mut shown)?;
+        put_token(alloc, &mut shown, token)?;
     }
     Ok(shown)
 }
 
-fn shown_token(alloc: Global, token: &Token) -> Result<String, AllocError> {
+/// Puts a token behind others.
+fn put_token(alloc: Global, shown: &mut String, token: &Token) -> Result<(), AllocError> {
     let start = token.start;
     let end = token.end;
+    shown.push_str(kind_word(&token.what))?;
+    write!(shown, " {start} {end}")?;
     match &token.what {
-        TokenKind::Word => format!(in alloc; "word {start} {end}"),
-        TokenKind::Number(value) => format!(in alloc; "number {start} {end} = {value}"),
-        TokenKind::Str(text) => {
-            let text = escaped(alloc, text.as_bytes())?;
-            format!(in alloc; "string {start} {end} = \"{text}\"")
-        }
-        TokenKind::Template => format!(in alloc; "template {start} {end}"),
-        TokenKind::Sign => format!(in alloc; "sign {start} {end}"),
+        TokenKind::Number(value) => write!(shown, " = {value}"),
+        TokenKind::Str(text) => put_text(alloc, shown, text.as_bytes()),
+        TokenKind::Word | TokenKind::Template | TokenKind::Sign => Ok(()),
     }
+}
+
+/// The word of a kind of tokens.
+fn kind_word(kind: &TokenKind) -> &'static str {
+    match kind {
+        TokenKind::Word => "word",
+        TokenKind::Number(_) => "number",
+        TokenKind::Str(_) => "string",
+        TokenKind::Template => "template",
+        TokenKind::Sign => "sign",
+    }
+}
+
+/// Puts the text of a string behind its token.
+fn put_text(alloc: Global, shown: &mut String, text: &[u8]) -> Result<(), AllocError> {
+    shown.push_str(" = \"")?;
+    shown.push_str(&escaped(alloc, text)?)?;
+    shown.push('"')
 }

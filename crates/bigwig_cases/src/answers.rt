@@ -1,0 +1,85 @@
+//! Answers to links over a world, and what is said of them.
+
+use crate::links::CaseLink;
+use bw_answer::{StreamEnd, answer};
+use bw_http::Intake;
+use bw_lang::Memory;
+use bw_out::{MemKeys, MemLink, Steps};
+use bw_world::World;
+use case_files::{Fault, escaped};
+use std::alloc::{AllocError, Global};
+use std::sync::ledger::Ledger;
+
+/// A longer output is told by its number of bytes alone.
+const LONG: usize = 4_096;
+
+/// Answers a link, and says what was written to it.
+pub fn answer_link<L: Ledger>(
+    alloc: Global,
+    link: &CaseLink,
+    world: &mut World,
+    keys: &mut MemKeys<'_>,
+    steps: &mut Steps<L>,
+    said: &mut String,
+) -> Result<(), Fault> {
+    let mut link = link.in_memory(alloc)?;
+    let answered = say_answer(alloc, &mut link, world, keys, steps, said);
+    drop(link);
+    answered
+}
+
+/// The same over the link in memory.
+fn say_answer<L: Ledger>(
+    alloc: Global,
+    link: &mut MemLink<'_>,
+    world: &mut World,
+    keys: &mut MemKeys<'_>,
+    steps: &mut Steps<L>,
+    said: &mut String,
+) -> Result<(), Fault> {
+    let end = end_of(alloc, world, link, keys, steps)?;
+    say_output(alloc, said, link.sink.bytes(), end)?;
+    Ok(())
+}
+
+/// Answers the link, and gives how it ends.
+fn end_of<L: Ledger>(
+    alloc: Global,
+    world: &mut World,
+    link: &mut MemLink<'_>,
+    keys: &mut MemKeys<'_>,
+    steps: &mut Steps<L>,
+) -> Result<StreamEnd, Memory> {
+    let mut intake = Intake::new(alloc)?;
+    let end = answer(alloc, world, &mut intake, link, keys, u32::MAX, steps);
+    drop(intake);
+    Ok(end)
+}
+
+/// Says what was written to a link that ended so.
+fn say_output(
+    alloc: Global,
+    said: &mut String,
+    bytes: &[u8],
+    end: StreamEnd,
+) -> Result<(), AllocError> {
+    if bytes.len() > LONG {
+        say(said, "bytes ")?;
+        write!(said, "{}", bytes.len())?;
+    } else {
+        say(said, "output ")?;
+        said.push_str(&escaped(alloc, bytes)?)?;
+    }
+    if end == StreamEnd::WriteFault {
+        say(said, "write fault")?;
+    }
+    Ok(())
+}
+
+/// Puts a line behind others, parted from them by `;`.
+pub fn say(said: &mut String, line: &str) -> Result<(), AllocError> {
+    if !said.is_empty() {
+        said.push_str("; ")?;
+    }
+    said.push_str(line)
+}

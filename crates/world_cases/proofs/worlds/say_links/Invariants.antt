@@ -1,4 +1,0 @@
-use Rattle.world_cases.proofs.worlds.say_links.Given as goal
-
-abbrev pub ghosts-counted : goal.ghosts-counted
-ghosts-counted a = record { name = a.blank.name; parts = a.blank.parts }
