@@ -3,3 +3,4 @@ pub mod Points
 pub mod RoundLaws
 pub mod PageLaws
 pub mod GapLaws
+pub mod BareLaws

@@ -5,9 +5,12 @@ use Rattle.bw_faults.specs.Order.{fault_cmp}
 use Rattle.bw_lang.specs.declared.service.Service.{Service}
 use Rattle.bw_lang.specs.Table.Names.{name_number}
 use Rattle.bw_lang.specs.Service.Term.{Term, int, truth, string, name, paren, not, neg, binary, call, plug, nothing, Fillings, no_more, filling}
+use Rattle.bw_flow.specs.declared.point.Local.{Local}
 use Rattle.bw_flow.specs.Steps.{Step}
 use Rattle.bw_solve.specs.Sets.{merge}
+use Rattle.bw_sum.specs.declared.summary.Summary.{Summary}
 use Rattle.bw_analyse.specs.declared.abstracts.Abstract.{Abstract}
+use Rattle.bw_analyse.specs.declared.abstracts.Abstract.TheVariants.{Nothing, Str, Html}
 use Rattle.bw_analyse.specs.Abstracts.{plugged_by}
 use Rattle.bw_analyse.specs.GapFaults.{lacks, term_of, gap_fault}
 use Rattle.bw_analyse.specs.Known.{look, known}
@@ -48,3 +51,19 @@ abbrev pub noted_all : Service → (ℕ → List Abstract) → List Abstract →
 noted_all service f shared p [] faults = faults
 noted_all service f shared p (x ∷ xs) faults =
     noted_all service f shared (p + 1) xs (noted_term service (look service x.scope (f p) shared) x.number (term_of x.act) faults)
+
+-- ---- what the walk keeps of documents
+
+-- the gaps that documents may lack, and no other members
+abbrev pub lacks_alone : Summary → Summary
+lacks_alone s = record { roots = []; edges = []; texts = []; tracks = []; lacks = s.lacks }
+
+-- the same, and of documents the gaps alone that they may lack
+abbrev pub bare : Abstract → Abstract
+bare Nothing = Nothing
+bare (Str s) = Str s
+bare (Html s) = Html (lacks_alone s)
+
+-- that of what names stand for
+abbrev pub bares : Service → List Local → List Abstract → List Abstract → List ℕ → Abstract
+bares service scope row shared w = bare (look service scope row shared w)

@@ -10,6 +10,7 @@ ghost use Rattle.bw_analyse.specs.Facts.{AreFacts, rows_of};
 ghost use Rattle.bw_analyse.specs.GapFaults.{lacks, term_of, gap_fault, IsGapFault};
 ghost use Rattle.bw_analyse.specs.Known.{look, known, known_filled};
 ghost use Rattle.bw_analyse.specs.Least.{flow_of};
+ghost use Rattle.bw_analyse.specs.Noting as spec;
 ghost use Rattle.bw_analyse.specs.Noting.{noted_if, noted, noted_filled, noted_term, noted_all};
 
 use crate::abstracts::Abstract;
@@ -91,8 +92,8 @@ impl Scene<'_, '_, '_> {
         base.plug(alloc, gap, value)
     }
 
-    /// What is known of an expression's value. The gaps of its plugs that may be missing are noted as faults of the
-    /// statement of that number.
+    /// What is known of an expression's value, and of documents the gaps alone that they may lack. The gaps of its plugs
+    /// that may be missing are noted as faults of the statement of that number.
     #[cycle(noted)]
     fn noted(
         &self,
@@ -102,14 +103,14 @@ impl Scene<'_, '_, '_> {
         faults: &mut Faults,
     ) -> Result<Abstract, Memory>
         ensures value { IfOk result (λ a. a ≡ known self.now.ground.now.typed.now.service
-            (look self.now.ground.now.typed.now.service self.now.scope.now self.now.locals.now self.now.shared.now) (term expr.now)) }
+            (spec.bares self.now.ground.now.typed.now.service self.now.scope.now self.now.locals.now self.now.shared.now) (term expr.now)) }
         ensures faults { OnOk result (faults.new ≡ noted self.now.ground.now.typed.now.service
-            (look self.now.ground.now.typed.now.service self.now.scope.now self.now.locals.now self.now.shared.now) statement (term expr.now) faults.old) }
+            (spec.bares self.now.ground.now.typed.now.service self.now.scope.now self.now.locals.now self.now.shared.now) statement (term expr.now) faults.old) }
     {
         match expr {
             Expr::Int(_) | Expr::Bool(_) | Expr::Nothing => Ok(Abstract::Nothing),
             Expr::Str(text) => self.ground.string(alloc, text),
-            Expr::Name(name) => self.named(alloc, name),
+            Expr::Name(name) => self.bare(alloc, name),
             Expr::Paren(part) => self.noted(alloc, part.expr(), statement, faults),
             Expr::Not(part) | Expr::Neg(part) => {
                 drop(self.noted(alloc, part.expr(), statement, faults)?);
@@ -152,9 +153,9 @@ impl Scene<'_, '_, '_> {
         faults: &mut Faults,
     ) -> Result<Abstract, Memory>
         ensures value { IfOk result (λ a. a ≡ known_filled self.now.ground.now.typed.now.service
-            (look self.now.ground.now.typed.now.service self.now.scope.now self.now.locals.now self.now.shared.now) pairs.now base) }
+            (spec.bares self.now.ground.now.typed.now.service self.now.scope.now self.now.locals.now self.now.shared.now) pairs.now base) }
         ensures faults { OnOk result (faults.new ≡ noted_filled self.now.ground.now.typed.now.service
-            (look self.now.ground.now.typed.now.service self.now.scope.now self.now.locals.now self.now.shared.now) statement pairs.now base faults.old) }
+            (spec.bares self.now.ground.now.typed.now.service self.now.scope.now self.now.locals.now self.now.shared.now) statement pairs.now base faults.old) }
     {
         let mut filled = base;
         for pair in pairs.as_slice() {

@@ -5,6 +5,7 @@
 pub mod abstracts;
 pub mod analysis;
 pub mod arrows;
+mod bare;
 pub mod equations;
 pub mod facts;
 pub mod fault;

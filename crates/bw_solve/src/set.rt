@@ -1,5 +1,5 @@
 //! Sets.
-ghost use Rattle.std.specs.Prelude.{◌≡◌, ℕ, ◌<◌, Bool, true, List, [], ◌∷◌, length, IfOk, OnOk, OnErr};
+ghost use Rattle.std.specs.Prelude.{◌≡◌, ℕ, ◌<◌, ◌≤◌, Bool, true, List, [], ◌∷◌, length, take, IfOk, OnOk, OnErr};
 ghost use Rattle.std.specs.List.{AllByRecursion};
 ghost use Rattle.std.specs.declared.cmp.Ordering.TheVariants.{Less};
 ghost use Rattle.bw_solve.specs.Sets.{IsSet, has, is_within, merge};
@@ -138,18 +138,39 @@ fn within<T: Ord + Copy>(a: &[T], b: &[T]) -> bool
     i == a.len()
 }
 
-// The items of two ascending lists, in order and without doubles.
+// How many of some ascending items surely stand below a value, where the first does: at least half of those that do. The
+// more there are, the fewer are looked at.
+fn run_below<T: Ord + Copy>(items: &[T], value: &T) -> usize
+    requires set { IsSet T.cmp items.now }
+    requires some { 0 < length items.now }
+    requires first { AllByRecursion (λ y. T.cmp y value.now ≡ Less) (take 1 items.now) }
+    ensures some { 0 < result }
+    ensures within { result ≤ length items.now }
+    ensures below { AllByRecursion (λ y. T.cmp y value.now ≡ Less) (take result items.now) }
+{
+    let mut run = 1;
+    while run < items.len() - run && ends_below(&items[..run + run], value) {
+        run += run;
+    }
+    run
+}
+
+// The items of two ascending lists, in order and without doubles. What stands in one list below the next item of the other
+// is taken in one piece.
 fn merged<T: Ord + Copy>(alloc: Global, a: &[T], b: &[T]) -> Result<Vec<T>, AllocError>
+    requires a { IsSet T.cmp a.now }
+    requires b { IsSet T.cmp b.now }
     ensures { IfOk result (λ v. v.items ≡ merge T.cmp a.now b.now) }
 {
-    let mut all = Vec::new(alloc);
+    let mut all = Vec::with_capacity(alloc, a.len().saturating_add(b.len()))?;
     let mut i = 0;
     let mut j = 0;
     while i < a.len() && j < b.len() {
         match a[i].cmp(&b[j]) {
             Ordering::Less => {
-                all.push(a[i])?;
-                i += 1;
+                let end = i + run_below(&a[i..], &b[j]);
+                all.extend_from_slice(&a[i..end])?;
+                i = end;
             }
             Ordering::Equal => {
                 all.push(a[i])?;
@@ -157,8 +178,9 @@ fn merged<T: Ord + Copy>(alloc: Global, a: &[T], b: &[T]) -> Result<Vec<T>, Allo
                 j += 1;
             }
             Ordering::Greater => {
-                all.push(b[j])?;
-                j += 1;
+                let end = j + run_below(&b[j..], &a[i]);
+                all.extend_from_slice(&b[j..end])?;
+                j = end;
             }
         }
     }
