@@ -1,7 +1,9 @@
 -- Rows and names, one after the other.
 use Rattle.std.proofs.Common.{◌≡◌, ◌⊎◌, inl, inr, ℕ, zero, suc, ◌+◌, ◌<◌, ◌≤◌, ◌++◌, Bool, true, false, cond, List, [], ◌∷◌, length, get_or, drop}
 use Rattle.std.proofs.Common.{map, Option, Some, None, refl, sym, ap, ◌∙◌, arith}
-use Rattle.std.specs.Prelude.{slice_get, if◌then◌else◌, filter, nat_lt, position}
+use denote.Ref.{Bor}
+use Rattle.std.specs.Slice.{IsItemAt}
+use Rattle.std.specs.Prelude.{slice_get, if◌then◌else◌, filter, nat_lt, position, MatchOption}
 use Rattle.std.specs.List.{All, position_or_len}
 use Rattle.std.proofs.lemmas.Bool.{cases_lt, ltb-true}
 use Rattle.std.proofs.lemmas.List.{append-nil, at_drop_all, length_push}
@@ -19,7 +21,7 @@ use Rattle.bw_sum.specs.Templates.{template_items}
 use Rattle.bw_sum.specs.declared.summary.Summary.{Summary}
 use Rattle.bw_types.specs.Scopes.{template_of}
 use Rattle.bw_analyse.specs.declared.abstracts.Abstract.{Abstract}
-use Rattle.bw_analyse.specs.declared.abstracts.Abstract.TheVariants.{Html}
+use Rattle.bw_analyse.specs.declared.abstracts.Abstract.TheVariants.{Nothing, Html}
 use Rattle.bw_analyse.specs.Abstracts.{AreAlike, both}
 use Rattle.bw_analyse.specs.Constants.{first_constants}
 use Rattle.bw_analyse.specs.Known.{of_name, constant_at}
@@ -153,7 +155,7 @@ found_below p xs n e = by_test (nat_lt (position_or_len p xs) (length xs)) refl 
     by_test false t k = absurd (cc)
 
 -- what is known of the template of a name is its constant
-pub constant_is : (service : Service) (w : List ℕ) (constants : List Summary) (n : ℕ) (s : Summary)
+constant_is : (service : Service) (w : List ℕ) (constants : List Summary) (n : ℕ) (s : Summary)
     → constants ≡ first_constants service (length service.templates) → template_of service w ≡ Some n → s ≡ get_or constants n s
     → Html s ≡ constant_at service (template_of service w)
 constant_is service w constants n s is e at =
@@ -164,7 +166,7 @@ constant_is service w constants n s is e at =
     ∙ sym (ap (constant_at service) e)
 
 -- and each has one
-pub constant_there : (service : Service) (w : List ℕ) (constants : List Summary) (n : ℕ)
+constant_there : (service : Service) (w : List ℕ) (constants : List Summary) (n : ℕ)
     → constants ≡ first_constants service (length service.templates) → template_of service w ≡ Some n → length constants ≤ n → ⊥
 constant_there service w constants n is e above =
     let l = found_below (λ (t : Template). same w t.name) service.templates n e in
@@ -173,6 +175,13 @@ constant_there service w constants n is e above =
     let below = slice_get_within (first_constants service (length service.templates)) n known k in
     let same_length : length constants ≡ length (first_constants service (length service.templates)) = ap length is in
     omega arith
+
+-- so what is found at the place of a template of that name is its summary
+pub constant_found : (service : Service) (w : List ℕ) (constants : List Summary) (n : ℕ) (found : Option (Bor Summary))
+    → constants ≡ first_constants service (length service.templates) → template_of service w ≡ Some n → IsItemAt constants n found
+    → MatchOption found (constant_at service (template_of service w) ≡ Nothing) (λ s. constant_at service (template_of service w) ≡ Html s.now)
+constant_found service w constants n None is e item = absurd (constant_there service w constants n is e item.3)
+constant_found service w constants n (Some s) is e item = sym (constant_is service w constants n s.now is e item.1)
 
 -- ---- pairs
 

@@ -45,11 +45,8 @@ impl Ground<'_> {
     fn bare_template(&self, alloc: Global, name: &Name) -> Result<Abstract, Memory>
         ensures { IfOk result (λ a. a ≡ spec.bare (constant_at self.now.typed.now.service (template_of self.now.typed.now.service name.now))) }
     {
-        match self.typed.template(name.as_str()) {
-            Some(template) => match self.constants.get(template.number() as usize) {
-                Some(summary) => Ok(Abstract::Html(lacks_alone(alloc, summary)?)),
-                None => Ok(Abstract::Nothing),
-            },
+        match self.constant(name) {
+            Some(summary) => Ok(Abstract::Html(lacks_alone(alloc, summary)?)),
             None => Ok(Abstract::Nothing),
         }
     }

@@ -2,6 +2,7 @@
 ghost use Rattle.std.specs.Prelude.{◌≡◌, IfOk, MatchOption, None, Some};
 ghost use Rattle.bw_lang.specs.Service.TermView.{term};
 ghost use Rattle.bw_types.specs.Scopes.{template_of};
+ghost use Rattle.bw_analyse.specs.declared.abstracts.Abstract.TheVariants.{Nothing, Html};
 ghost use Rattle.bw_analyse.specs.Known as spec;
 ghost use Rattle.bw_analyse.specs.Known.{of_local, of_shared, constant_at, one_string, look, known_filled};
 
@@ -11,6 +12,7 @@ use bw_flow::Scope;
 use bw_lang::{Expr, Fun, Memory, Name, Op, Pairs, Text};
 use bw_solve::Set;
 use bw_strings::StrSet;
+use bw_sum::Summary;
 use std::alloc::Global;
 
 /// What an expression sees: its service, the locals in scope, and what is known of these and of the shared variables.
@@ -51,15 +53,24 @@ impl Ground<'_> {
         Ok(Abstract::Str(StrSet::Of(one)))
     }
 
+    /// The summary of the template of that name, if there is one.
+    pub fn constant(&self, name: &Name) -> Option<&Summary>
+        ensures { MatchOption result
+            (constant_at self.now.typed.now.service (template_of self.now.typed.now.service name.now) ≡ Nothing)
+            (λ s. constant_at self.now.typed.now.service (template_of self.now.typed.now.service name.now) ≡ Html s.now) }
+    {
+        match self.typed.template(name.as_str()) {
+            Some(template) => self.constants.get(template.number() as usize),
+            None => None,
+        }
+    }
+
     /// The documents of the template of that name. Nothing is known of a name that stands for nothing.
     pub fn template(&self, alloc: Global, name: &Name) -> Result<Abstract, Memory>
         ensures { IfOk result (λ a. a ≡ constant_at self.now.typed.now.service (template_of self.now.typed.now.service name.now)) }
     {
-        match self.typed.template(name.as_str()) {
-            Some(template) => match self.constants.get(template.number() as usize) {
-                Some(summary) => Ok(Abstract::Html(summary.copy(alloc)?)),
-                None => Ok(Abstract::Nothing),
-            },
+        match self.constant(name) {
+            Some(summary) => Ok(Abstract::Html(summary.copy(alloc)?)),
             None => Ok(Abstract::Nothing),
         }
     }

@@ -1,8 +1,5 @@
 //! The tests on a whole head, in their order.
 ghost use Rattle.std.specs.Prelude.{◌≡◌, ℕ, List, length, map, reverse, ◌≤◌, All, true};
-ghost use Rattle.std.specs.List.{list_all};
-ghost use Rattle.std.specs.Char.{is_ascii_digit};
-ghost use Rattle.std.specs.Str.Parse.{digits_value};
 ghost use Rattle.httparse.specs.Grammar.{skip_ows, trim_ows};
 ghost use Rattle.httparse.specs.Spans.{IsHeaderWithin, header_bytes};
 ghost use Rattle.bw_http.specs.Decisions.{
@@ -23,6 +20,7 @@ ghost use Rattle.bw_http.specs.Decisions.{
 };
 
 use crate::request::{Method, ReadOutcome};
+use bw_lang::{are_digits, decimal_value};
 use httparse::spans::{HeaderSpan, Span};
 
 /// What the tests on a whole head come to.
@@ -74,30 +72,11 @@ fn find(buf: &[u8], headers: &[HeaderSpan], name: &[u8]) -> Found
     found
 }
 
-fn all_digits(value: &[u8]) -> bool
-    ensures { result ≡ list_all is_ascii_digit value.now }
-{
-    value.iter().all(|b| b.is_ascii_digit())
-}
-
 /// Whether it is 1 to 18 digits. A sign is none (RFC 9110, section 8.6).
 fn is_size(value: &[u8]) -> bool
     ensures { result ≡ is_size value.now }
 {
-    !value.is_empty() && value.len() <= 18 && all_digits(value)
-}
-
-/// The number that these digits write.
-fn number(digits: &[u8]) -> u64
-    requires short { length digits.now ≤ 18 }
-    requires digits { list_all is_ascii_digit digits.now ≡ true }
-    ensures { result ≡ digits_value 10 digits.now }
-{
-    let mut n: u64 = 0;
-    for b in digits {
-        n = n * 10 + u64::from(*b - b'0');
-    }
-    n
+    !value.is_empty() && value.len() <= 18 && are_digits(value)
 }
 
 fn trim_start(mut s: &[u8]) -> &[u8]
@@ -167,7 +146,7 @@ fn length_of(buf: &[u8], found: Found) -> Length
         Found::One(span) => {
             let value = span.of(buf);
             if is_size(value) {
-                Length::Bytes(number(value))
+                Length::Bytes(decimal_value(value))
             } else {
                 Length::Wrong
             }

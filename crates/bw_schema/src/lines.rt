@@ -5,10 +5,10 @@ ghost use Rattle.bw_schema.specs.Steps.Reading as spec;
 
 use crate::fault::SchemaFault;
 use crate::formulas::{copied, formula_of};
-use crate::names::{are_names, is_name, is_number, number};
+use crate::names::{are_names, is_name, is_number};
 use crate::needs::Formula;
 use bw_lang::pieces::NameClass;
-use bw_lang::{Name, Text, Words};
+use bw_lang::{Name, Text, Words, decimal_value};
 use std::alloc::Global;
 
 /// A line of a schema's text behind its first two.
@@ -143,7 +143,9 @@ pub fn version_of(words: &[Text]) -> Option<u64>
     ensures { spec.Found (λ n. n) result (spec.version_of words.now) }
 {
     match words {
-        [key, word] if key.as_str() == "schema" && is_number(word) => Some(number(word.as_bytes())),
+        [key, word] if key.as_str() == "schema" && is_number(word) => {
+            Some(decimal_value(word.as_bytes()))
+        }
         _ => None,
     }
 }

@@ -1,13 +1,11 @@
 //! Names and numbers.
 ghost use Rattle.std.specs.Prelude.{◌≡◌, ◌≤◌, ◌^◌, ◌<◌, length, true};
-ghost use Rattle.std.specs.Char.{is_ascii_digit};
 ghost use Rattle.std.specs.List.{list_all};
-ghost use Rattle.std.specs.Str.Parse.{digits_value};
 ghost use Rattle.bw_lang.specs.Template.MarkupNames.{first_of, later_of};
 ghost use Rattle.bw_schema.specs.Forms as spec;
 
-use bw_lang::Text;
 use bw_lang::pieces::NameClass;
+use bw_lang::{Text, are_digits};
 
 /// Whether a name of the class may begin with the byte.
 fn is_first(class: NameClass, byte: u8) -> bool
@@ -61,29 +59,10 @@ pub fn are_names(class: NameClass, words: &[Text]) -> bool
     !words.is_empty() && all_names(class, words)
 }
 
-fn all_digits(word: &[u8]) -> bool
-    ensures { result ≡ list_all is_ascii_digit word.now }
-{
-    word.iter().all(|byte| byte.is_ascii_digit())
-}
-
 /// Whether a word is a number of one to nine digits.
 pub fn is_number(word: &Text) -> bool
     ensures { result ≡ spec.is_number word.now }
 {
     let word = word.as_bytes();
-    !word.is_empty() && word.len() <= 9 && all_digits(word)
-}
-
-/// The number that these digits write.
-pub fn number(digits: &[u8]) -> u64
-    requires short { length digits.now ≤ 9 }
-    requires digits { list_all is_ascii_digit digits.now ≡ true }
-    ensures { result ≡ digits_value 10 digits.now }
-{
-    let mut n: u64 = 0;
-    for b in digits {
-        n = n * 10 + u64::from(*b - b'0');
-    }
-    n
+    !word.is_empty() && word.len() <= 9 && are_digits(word)
 }

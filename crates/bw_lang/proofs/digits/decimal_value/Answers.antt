@@ -4,7 +4,7 @@ use Rattle.std.proofs.lemmas.List.Sums.{AllPass-from_list_all}
 use Rattle.std.proofs.lemmas.Bool.Decides.{nat_tests}
 use Rattle.std.proofs.lemmas.Int.Digits.{digits_value_more}
 use Rattle.std.specs.Char.{is_ascii_digit, digit_value}
-use Rattle.bw_http.proofs.decide.number.Goals as goal
+use Rattle.bw_lang.proofs.digits.decimal_value.Goals as goal
 
 digit_more : (n d at : ℕ) → n < 10 ^ at → d < 10 → n * 10 + d < 10 ^ (at + 1)
 digit_more n d at below small = omega (arith, pow-add 10 at 1)
