@@ -1,24 +1,17 @@
 -- Adding the faults of lists and of forests.
-use Rattle.std.proofs.Common.{◌≡◌, ◌⊎◌, inl, inr, ℕ, suc, ◌+◌, ◌<◌, ◌≤◌, List, length, take, drop, get_or, sym, ap, ◌∙◌, subst, arith}
-use denote.Param.Weighed.{at_most}
+use Rattle.std.proofs.Common.{◌≡◌, ◌⊎◌, inl, inr, ℕ, suc, ◌+◌, ◌<◌, List, length, take, get_or, sym, ap, ◌∙◌, subst, arith}
 use Rattle.bw_lang.specs.declared.items.Attr.{Attr}
 use Rattle.bw_lang.specs.declared.items.Item.{Item}
-use Rattle.bw_lang.specs.declared.items.Items.TheDeep.{deep-Item}
-use Rattle.bw_lang.specs.Encoding.Falls.{most_le-forest_size}
-use Rattle.bw_lang.specs.Document.Forest.{Forest, none, text, gap, element, forest_size}
+use Rattle.bw_lang.specs.Document.Forest.{Forest, none, text, gap, element}
 use Rattle.bw_lang.specs.Document.View.{forest, before}
 use Rattle.bw_lang.specs.Document.Documents.{append, elements}
 use Rattle.bw_lang.proofs.Counts.{elements-append}
-use Rattle.bw_lang.proofs.Forests.{forest-take, forest-split}
+use Rattle.bw_lang.proofs.Forests.{forest-take}
 use Rattle.bw_faults.specs.declared.fault.Fault.{Fault}
 use Rattle.bw_judge.specs.declared.content.Spot.{Spot}
 use Rattle.bw_faults.specs.Lists.{Adds}
 use Rattle.bw_judge.specs.Found.{OfForest, moved}
 use Rattle.bw_faults.proofs.Adding.{adds_then}
-
--- an item is smaller than the list
-pub item_le-size : (xs : List Item) (i : ℕ) (x : Item) → x ≡ get_or xs i x → i < length xs → deep-Item x ≤ forest_size (forest xs)
-item_le-size xs i x e h = let a = at_most (λ y. deep-Item y) xs i x h in let b = ap (λ y. deep-Item y) e in omega (arith, a, b, most_le-forest_size xs)
 
 -- the faults of an element at a spot
 abbrev pub Of : Type 1
@@ -63,18 +56,6 @@ pub adds_element : (P : Of) (s : Spot) (tag : List ℕ) (at : List Attr) (i : Fo
     → Adds (P (moved s (s.place + 1)) tag at i) a b → Adds (OfForest P (moved s (s.place + 1)) i) b c → Adds (OfForest P s (element tag at i none)) a c
 adds_element P s tag at i a b c p q = adds_then (OfForest P s (element tag at i none)) p q (λ f k. elim k [ inl l ↦ inl l | inr l ↦ inr (inl l) ])
     (λ f k. elim k [ inl l ↦ inl l | inr l ↦ elim l [ inl m ↦ inr m | inr m ↦ absurd m ] ])
-
--- the elements up to an item and in it are among all
-pub elements_upto : (xs : List Item) (i : ℕ) (x : Item) → x ≡ get_or xs i x → i < length xs
-    → elements (forest (take i xs)) + elements (before x none) ≤ elements (forest xs)
-elements_upto xs i x e h =
-    omega (
-      arith,
-      elements-append (forest (take i xs)) (before x none),
-      ap elements (forest-take xs i x e h),
-      elements-append (forest (take (i + 1) xs)) (forest (drop (i + 1) xs)),
-      ap elements (forest-split xs (i + 1)),
-    )
 
 pub elements_next : (xs : List Item) (i : ℕ) (x : Item) → x ≡ get_or xs i x → i < length xs
     → elements (forest (take (i + 1) xs)) ≡ elements (forest (take i xs)) + elements (before x none)

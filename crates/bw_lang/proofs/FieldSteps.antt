@@ -1,4 +1,4 @@
--- Laws of taking in the names of fields.
+-- Laws of fields, and of taking in their names.
 use Rattle.std.proofs.Common.{◌≡◌, ℕ, ◌+◌, ◌<◌, List, [], ◌∷◌, ◌++◌, length, get_or, take, refl, ap, ◌∙◌, append_assoc}
 use Rattle.bw_lang.specs.declared.items.Item.{Item}
 use Rattle.bw_lang.specs.declared.stmt.Stmt.{Stmt}
@@ -7,7 +7,7 @@ use Rattle.bw_lang.specs.Service.Code as codes
 use Rattle.bw_lang.specs.Service.CodeNames.{received_fields}
 use Rattle.bw_lang.specs.Service.CodeView.{code}
 use Rattle.bw_lang.specs.Service.CodeView as code_view
-use Rattle.bw_lang.specs.Template.Controls.{control_names}
+use Rattle.bw_lang.specs.Template.Controls.{control_names, fields}
 use Rattle.bw_lang.specs.Document.Documents as doc
 use Rattle.bw_lang.specs.Document.Forest.{Forest, none, text, gap, element}
 use Rattle.bw_lang.specs.Table.Names.{with_name, with_names}
@@ -25,6 +25,12 @@ control_names-append none b = refl
 control_names-append (text s r) b = control_names-append r b
 control_names-append (gap g r) b = control_names-append r b
 control_names-append (element t a i r) b = rw (control_names-append r b) (simp append_assoc)
+
+pub fields-append : (a b : Forest) → fields (doc.append a b) ≡ fields a ++ fields b
+fields-append none b = refl
+fields-append (text s r) b = fields-append r b
+fields-append (gap g r) b = fields-append r b
+fields-append (element t a i r) b = rw (fields-append r b) (simp append_assoc)
 
 received_fields-append : (a b : Code) → received_fields (codes.append a b) ≡ received_fields a ++ received_fields b
 received_fields-append done b = refl

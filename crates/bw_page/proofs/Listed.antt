@@ -1,21 +1,12 @@
 -- Laws of lists of fields.
-use Rattle.std.proofs.Common.{◌≡◌, ℕ, ◌+◌, ◌<◌, List, [], ◌∷◌, ◌++◌, length, get_or, take, refl, ap, sym, ◌∙◌}
+use Rattle.std.proofs.Common.{◌≡◌, ℕ, ◌+◌, ◌<◌, List, ◌++◌, length, get_or, take, refl, ap, ◌∙◌}
 use Rattle.std.proofs.lemmas.List.{append_assoc, append-nil}
 use Rattle.bw_lang.specs.declared.items.Item.{Item}
-use Rattle.bw_lang.specs.Document.Forest.{Forest, none, text, gap, element}
+use Rattle.bw_lang.specs.Document.Forest.{none}
 use Rattle.bw_lang.specs.Document.View.{forest, before}
-use Rattle.bw_lang.specs.Document.Documents.{append}
-use Rattle.bw_lang.specs.Template.Controls.{fields, field_of}
+use Rattle.bw_lang.specs.Template.Controls.{fields}
+use Rattle.bw_lang.proofs.FieldSteps.{fields-append}
 use Rattle.bw_lang.proofs.Forests.{forest_at_read, size_at_read}
-
-pub fields-append : (a b : Forest) → fields (append a b) ≡ fields a ++ fields b
-fields-append none b = refl
-fields-append (text s r) b = fields-append r b
-fields-append (gap g r) b = fields-append r b
-fields-append (element t a i r) b =
-    ap (λ x. field_of t a ++ (fields i ++ x)) (fields-append r b)
-    ∙ ap (λ x. field_of t a ++ x) (sym (append_assoc (fields i) (fields r) (fields b)))
-    ∙ sym (append_assoc (field_of t a) (fields i ++ fields r) (fields b))
 
 -- one item more
 pub fields_at_read : (xs : List Item) (i : ℕ) (d : Item) → i < length xs → (get_or xs i d ≡ get_or xs i d)

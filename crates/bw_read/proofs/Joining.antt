@@ -9,6 +9,7 @@ use Rattle.bw_lang.specs.Document.Forest.{Forest, none, text, gap, element}
 use Rattle.bw_lang.specs.Template.PieceItems.{ReadsPieces}
 use Rattle.bw_lang.specs.Template.Pieces.{Each, IsPiece, begins_with_text, Apart, SpellsPieces}
 use Rattle.bw_lang.specs.Document.Print.{text_before, joined}
+use Rattle.bw_lang.proofs.Counts.{text_elements}
 use Rattle.bw_tmpl.proofs.Back.{joined_tidy}
 use Rattle.bw_tmpl.proofs.BackPieces.{starts_text, Tidy}
 use Rattle.bw_tmpl.proofs.GapLaws.{Ways}
@@ -31,13 +32,6 @@ joins_no_field (gap g d) = joins_no_field d
 joins_no_field (element tag attrs inner d) =
     let own = field_of tag attrs in
     (λ i. own ++ (joins_no_field inner i ++ joins_no_field d i))
-
-text_elements : (s : List ℕ) (d : Forest) → elements (text_before s d) ≡ elements d
-text_elements [] d = refl
-text_elements (b ∷ s) none = refl
-text_elements (b ∷ s) (text t d) = refl
-text_elements (b ∷ s) (gap g d) = refl
-text_elements (b ∷ s) (element tag attrs inner d) = refl
 
 pub joins_no_element : JoinsNoElement
 joins_no_element none = refl

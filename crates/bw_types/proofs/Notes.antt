@@ -7,6 +7,7 @@ use Rattle.bw_lang.specs.Template.Controls.{fields}
 use Rattle.bw_lang.specs.Document.Documents.{append}
 use Rattle.bw_lang.specs.Document.Forest.{Forest, none, text, gap, element}
 use Rattle.bw_lang.specs.Document.View.{forest, before}
+use Rattle.bw_lang.proofs.FieldSteps.{fields-append}
 use Rattle.bw_lang.proofs.Forests.{forest_at_read}
 use Rattle.bw_types.specs.declared.fault.GapKind.{GapKind}
 use Rattle.bw_types.specs.declared.fault.GapKind.TheVariants.{Content}
@@ -24,12 +25,6 @@ gap_uses-append none b = refl
 gap_uses-append (text s r) b = gap_uses-append r b
 gap_uses-append (gap g r) b = ap (λ l. (g, Content) ∷ l) (gap_uses-append r b)
 gap_uses-append (element t xs i r) b = rw (gap_uses-append r b) (simp append_assoc)
-
-fields-append : (a b : Forest) → fields (append a b) ≡ fields a ++ fields b
-fields-append none b = refl
-fields-append (text s r) b = fields-append r b
-fields-append (gap g r) b = fields-append r b
-fields-append (element t xs i r) b = rw (fields-append r b) (simp append_assoc)
 
 pub uses_at_read : (t : List (ℕ × GapKind)) (xs : List Item) (i : ℕ) (d : Item) → i < length xs
     → (get_or xs i d ≡ get_or xs i d) × (with_uses t (gap_uses (forest (take (i + 1) xs))) ≡ with_uses (with_uses t (gap_uses (forest (take i xs))))

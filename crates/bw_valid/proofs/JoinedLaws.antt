@@ -7,6 +7,7 @@ use Rattle.bw_lang.specs.Text.Bytes as bytes
 use Rattle.bw_lang.specs.Document.Documents.{elements}
 use Rattle.bw_lang.specs.Document.Forest.{Forest, none, text, gap, element}
 use Rattle.bw_lang.specs.Document.Print.{text_before, joined}
+use Rattle.bw_lang.proofs.Counts.{text_elements}
 use Rattle.bw_schema.specs.declared.rules.Rule.{Rule}
 use Rattle.bw_schema.specs.Needs.{Needs, nothing, all_of, some_of, attr, one_value, content, order}
 use Rattle.bw_schema.specs.Rules.{allows, permits, rule_of}
@@ -17,13 +18,6 @@ use Rattle.bw_valid.specs.Laws.{BreachJoined}
 use Rattle.std.proofs.Math.Bool.{and_assoc}
 
 -- ---- a text in front
-
-text_elements : (s : List ℕ) (d : Forest) → elements (text_before s d) ≡ elements d
-text_elements [] d = refl
-text_elements (b ∷ s) none = refl
-text_elements (b ∷ s) (text t d) = refl
-text_elements (b ∷ s) (gap g d) = refl
-text_elements (b ∷ s) (element tag attrs inner d) = refl
 
 text_child : (p : List ℕ → Bool) (s : List ℕ) (d : Forest) → v.each_child p (text_before s d) ≡ v.each_child p d
 text_child p [] d = refl

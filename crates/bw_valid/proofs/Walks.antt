@@ -36,12 +36,9 @@ use Rattle.std.proofs.lemmas.List.{drop_more}
 use Rattle.bw_lang.specs.declared.items.Attr.{Attr}
 use Rattle.bw_lang.specs.declared.items.Item.{Item}
 use Rattle.bw_lang.specs.declared.items.Item.TheVariants.{Text, Element, Gap}
-use Rattle.bw_lang.specs.Document.Forest.{Forest, none, text, gap, element, forest_size}
+use Rattle.bw_lang.specs.Document.Forest.{Forest, none, text, gap, element}
 use Rattle.bw_lang.specs.Document.View.{forest, before}
 use Rattle.bw_lang.specs.Document.Documents.{append, elements}
-use denote.Param.Weighed.{at_most}
-use Rattle.bw_lang.specs.declared.items.Items.TheDeep.{deep-Item}
-use Rattle.bw_lang.specs.Encoding.Falls.{most_le-forest_size}
 use Rattle.bw_lang.proofs.Counts.{elements-append}
 use Rattle.bw_lang.proofs.Forests.{forest_steps, forest-take, forest-split}
 use Rattle.bw_schema.specs.declared.needs.Formula.{Formula}
@@ -88,22 +85,6 @@ first_broken-append rules n (element tag a i r) b =
     ∙ ap (λ k. or_then (first_broken rules (n + 1 + elements i) r) (first_broken rules k b)) e)
     ∙ ap (or_then x) (or_then_assoc y (first_broken rules (n + 1 + elements i) r) (first_broken rules (n + suc (elements i + elements r)) b))
     ∙ or_then_assoc x (or_then y (first_broken rules (n + 1 + elements i) r)) (first_broken rules (n + suc (elements i + elements r)) b)
-
--- an item of a list is smaller than the list
-pub item_le-size : (xs : List Item) (i : ℕ) (x : Item) → x ≡ get_or xs i x → i < length xs → deep-Item x ≤ forest_size (forest xs)
-item_le-size xs i x e h = omega (arith, at_most (λ y. deep-Item y) xs i x h, ap (λ y. deep-Item y) e, most_le-forest_size xs)
-
--- the elements up to an item and in it are among all
-pub elements_upto : (xs : List Item) (i : ℕ) (x : Item) → x ≡ get_or xs i x → i < length xs
-    → elements (forest (take i xs)) + elements (before x none) ≤ elements (forest xs)
-elements_upto xs i x e h =
-    omega (
-      arith,
-      elements-append (forest (take i xs)) (before x none),
-      ap elements (forest-take xs i x e h),
-      elements-append (forest (take (i + 1) xs)) (forest (drop (i + 1) xs)),
-      ap elements (forest-split xs (i + 1)),
-    )
 
 -- what is first broken in an item, where nothing before it is, is first broken in all
 pub broken_there : (rules : List Rule) (n : ℕ) (xs : List Item) (i : ℕ) (x : Item) (b : Breach) → x ≡ get_or xs i x → i < length xs

@@ -6,7 +6,9 @@ use Rattle.bw_lang.specs.Document.View.{before}
 use Rattle.bw_lang.specs.Document.Documents.{elements}
 use Rattle.bw_lang.specs.Document.Forest.{none, element, forest_size}
 use Rattle.bw_judge.specs.Found as found
-use Rattle.bw_judge.proofs.Lists.{item_le-size, elements_upto, elements_next, adds_item}
+use Rattle.bw_lang.proofs.Counts.{elements_upto}
+use Rattle.bw_lang.proofs.Forests.{item_le-size}
+use Rattle.bw_judge.proofs.Lists.{elements_next, adds_item}
 use Rattle.bw_shape.proofs.Outcomes.{on_ok}
 use Rattle.bw_judge.proofs.elements.+walk.Goals as goal
 

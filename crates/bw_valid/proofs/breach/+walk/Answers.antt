@@ -2,7 +2,9 @@ use Rattle.std.proofs.Common.{arith, ap, ◌∙◌, sym, subst}
 use Rattle.bw_lang.specs.Document.Documents.{elements}
 use Rattle.bw_lang.specs.Document.Forest.{forest_size}
 use Rattle.bw_valid.specs.Breaches.{first_broken}
-use Rattle.bw_valid.proofs.Walks.{broken_there, elements_upto, item_le-size}
+use Rattle.bw_lang.proofs.Counts.{elements_upto}
+use Rattle.bw_lang.proofs.Forests.{item_le-size}
+use Rattle.bw_valid.proofs.Walks.{broken_there}
 use Rattle.bw_valid.proofs.breach.+walk.Goals as goal
 
 pub first_broken-item_broken-requires : goal.first_broken-item_broken-requires
