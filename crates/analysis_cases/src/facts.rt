@@ -6,31 +6,26 @@
 //! - `shown POINT = VALUE` and `page POINT = VALUE`: the documents of a show or an exit, and the graph of its page
 //! - `faults = NUMBER GAP, ..`: at which statement which gap may be missing, or `none`
 //!
-//! A value is `nothing`, `any`, `strings "TEXT" ..`, or the parts of a summary that have members: `roots TEMPLATE ..`,
-//! `edges TEMPLATE.GAP.TEMPLATE ..`, `texts TEMPLATE.GAP STRINGS ..`, `tracks GAP.TEMPLATE ..`, `lacks GAP ..`, and
-//! `members` and their number. Templates go by their numbers and gaps by their names. Where there are too many members
-//! to answer, `too large` comes in place of all questions.
+//! The module `values` says how a value is written. Where there are too many members to answer, `too large` comes in
+//! place of all questions.
 ghost use Rattle.std.specs.Prelude.{◌≡◌};
 ghost use Rattle.bw_flow.specs.Layout.{plan_of};
 ghost use Rattle.bw_analyse.specs.Facts.{AreFacts};
 
 mod answers;
-mod values;
 
 use crate::facts::answers::Subject;
-use crate::lines::{put_line, wanted};
-use crate::service::{flow_of, service_of};
 use bw_analyse::{AnalyseFault, Facts, analyse};
 use bw_flow::Flow;
 use bw_strings::Literals;
 use bw_types::Typed;
-use case_files::{Case, Fault, Texts, Verdict};
+use case_files::{Case, Fault, Texts, Verdict, flow_of, put_line, service_of};
 use std::alloc::Global;
 
 /// Tries a service.
 pub fn try_case(alloc: Global, texts: &Texts<'_>, case: &Case<'_>) -> Result<Verdict, Fault> {
     let got = got(alloc, texts, case)?;
-    Ok(Verdict::of(wanted(alloc, case, &["text"])?, got))
+    Ok(Verdict::of(case.wanted(alloc, &["text"])?, got))
 }
 
 /// What comes of a case: its questions with what is answered.

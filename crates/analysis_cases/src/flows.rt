@@ -15,22 +15,20 @@
 mod points;
 
 use crate::flows::points::shown_point;
-use crate::lines::{put_line, value_of, wanted};
-use crate::service::service_of;
 use bw_flow::{Flow, FlowFault, lower};
 use bw_types::Typed;
-use case_files::{Case, Fault, Texts, Verdict};
+use case_files::{Case, Fault, Texts, Verdict, put_line, service_of};
 use std::alloc::{AllocError, Global};
 
 /// Tries a service.
 pub fn try_case(alloc: Global, texts: &Texts<'_>, case: &Case<'_>) -> Result<Verdict, Fault> {
     let got = got(alloc, texts, case)?;
-    Ok(Verdict::of(wanted(alloc, case, &["text"])?, got))
+    Ok(Verdict::of(case.wanted(alloc, &["text"])?, got))
 }
 
 /// What the service of a case lowers to.
 fn got(alloc: Global, texts: &Texts<'_>, case: &Case<'_>) -> Result<String, Fault> {
-    let counted = value_of(case, "points").is_some();
+    let counted = case.value_of("points").is_some();
     let typed = service_of(alloc, texts, case, "text")?;
     let shown = shown(alloc, &typed, counted);
     drop(typed);

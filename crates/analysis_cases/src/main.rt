@@ -1,13 +1,15 @@
 //! Worked examples of the analysis, kept as data: services with their flows, with what is found out of them, and with
-//! the faults of their page graphs. The modules `flows`, `facts` and `pages` say how the cases of their files are
-//! written, and `case_files` how a file is.
+//! the faults of their page graphs; and below these, summaries of documents, and least solutions beside the plain ones.
+//! The module of each file says how its cases are written, and `case_files` how a file is.
 #![tactic(auto)]
 
 mod facts;
 mod flows;
-mod lines;
+mod graphs;
 mod pages;
-mod service;
+mod sets;
+mod summaries;
+mod values;
 
 use case_files::{Case, Fault, Kind, Texts, Verdict, try_files};
 use std::alloc::Global;
@@ -22,6 +24,10 @@ enum Table {
     Facts,
     /// Services and their page graphs.
     Pages,
+    /// Summaries of documents.
+    Summaries,
+    /// Cells and what they hold.
+    Sets,
 }
 
 impl Kind for Table {
@@ -30,6 +36,8 @@ impl Kind for Table {
             Table::Flows => "flows.cases",
             Table::Facts => "facts.cases",
             Table::Pages => "pages.cases",
+            Table::Summaries => "summaries.cases",
+            Table::Sets => "sets.cases",
         }
     }
 
@@ -38,10 +46,21 @@ impl Kind for Table {
             Table::Flows => flows::try_case(alloc, texts, case),
             Table::Facts => facts::try_case(alloc, texts, case),
             Table::Pages => pages::try_case(alloc, texts, case),
+            Table::Summaries => summaries::try_case(alloc, texts, case),
+            Table::Sets => sets::try_case(alloc, case),
         }
     }
 }
 
 fn main(rt: HostRuntime) -> ExitCode {
-    try_files(&rt, &[Table::Flows, Table::Facts, Table::Pages])
+    try_files(
+        &rt,
+        &[
+            Table::Flows,
+            Table::Facts,
+            Table::Pages,
+            Table::Summaries,
+            Table::Sets,
+        ],
+    )
 }

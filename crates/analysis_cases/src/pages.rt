@@ -1,37 +1,30 @@
 //! Cases of page graphs. A case has the line `service PARTS`, and may have the line `schema PARTS`; without it the
-//! built-in schema is meant. Lines `graph STEP` make what is known of the document, from the bottom of a stack up:
-//!
-//! - `constant NAME` puts a template on the stack
-//! - `text GAP PARTS` plugs one of the service's string literals into the document on top, and `any GAP` any string
-//! - `plug GAP` takes the document on top and plugs it into the one below
-//! - `join` takes the two on top and puts both together
+//! built-in schema is meant. Lines `graph STEP` make what is known of the document, as the module `graphs` says.
 //!
 //! `page N` makes the page around that document for the statement of this number, a show or an exit, and judges it. What
 //! is wanted are the lines of its faults, in their order, or `accepted`.
 ghost use Rattle.std.specs.Prelude.{◌≡◌};
 ghost use Rattle.bw_strings.specs.Literals.{literals_of};
 
-mod graphs;
 mod judging;
 mod known;
 mod shown;
+mod wrapped;
 
-use crate::lines::{value_of, wanted};
-use crate::pages::graphs::document_of;
+use crate::graphs::document_of;
 use crate::pages::judging::faults_of;
 use crate::pages::shown::shown;
-use crate::service::service_of;
 use bw_schema::{Schema, built_in, read_schema};
 use bw_strings::Literals;
 use bw_sum::Summary;
 use bw_types::Typed;
-use case_files::{Case, Fault, Texts, Verdict};
+use case_files::{Case, Fault, Texts, Verdict, service_of};
 use std::alloc::Global;
 
 /// Tries a page graph.
 pub fn try_case(alloc: Global, texts: &Texts<'_>, case: &Case<'_>) -> Result<Verdict, Fault> {
     let got = got(alloc, texts, case)?;
-    let wanted = wanted(alloc, case, &["service", "schema", "graph", "page"])?;
+    let wanted = case.wanted(alloc, &["service", "schema", "graph", "page"])?;
     Ok(Verdict::of(wanted, got))
 }
 
@@ -82,7 +75,7 @@ fn got_by(
 ) -> Result<String, Fault>
     requires { literals.now ≡ literals_of typed.now.service }
 {
-    let number = value_of(case, "page").ok_or(Fault::Malformed)?.parse()?;
+    let number = case.value_of("page").ok_or(Fault::Malformed)?.parse()?;
     let document = document_of(alloc, typed, literals, case)?;
     let got = got_around(alloc, typed, literals, schema, &document, number);
     drop(document);
@@ -108,7 +101,7 @@ fn got_around(
 
 /// The schema of a case, or the built-in one.
 fn schema_of(alloc: Global, texts: &Texts<'_>, case: &Case<'_>) -> Result<Schema, Fault> {
-    match value_of(case, "schema") {
+    match case.value_of("schema") {
         Some(parts) => schema_of_text(alloc, &texts.join(alloc, parts)?),
         None => Ok(built_in(alloc)?),
     }

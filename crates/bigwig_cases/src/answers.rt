@@ -6,7 +6,7 @@ use bw_http::Intake;
 use bw_lang::Memory;
 use bw_out::{MemKeys, MemLink, Steps};
 use bw_world::World;
-use case_files::{Fault, escaped};
+use case_files::{Fault, escaped, put_line};
 use std::alloc::{AllocError, Global};
 use std::sync::ledger::Ledger;
 
@@ -64,22 +64,14 @@ fn say_output(
     end: StreamEnd,
 ) -> Result<(), AllocError> {
     if bytes.len() > LONG {
-        say(said, "bytes ")?;
+        put_line(said, "bytes ")?;
         write!(said, "{}", bytes.len())?;
     } else {
-        say(said, "output ")?;
+        put_line(said, "output ")?;
         said.push_str(&escaped(alloc, bytes)?)?;
     }
     if end == StreamEnd::WriteFault {
-        say(said, "write fault")?;
+        put_line(said, "write fault")?;
     }
     Ok(())
-}
-
-/// Puts a line behind others, parted from them by `;`.
-pub fn say(said: &mut String, line: &str) -> Result<(), AllocError> {
-    if !said.is_empty() {
-        said.push_str("; ")?;
-    }
-    said.push_str(line)
 }

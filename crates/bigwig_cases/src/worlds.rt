@@ -11,19 +11,16 @@
 //! or `bytes N` where that is long, and behind it `write fault` where a write failed; and then `live N`, how many sessions
 //! are live.
 ghost use Rattle.std.specs.Prelude.{◌≡◌, ◌<◌};
-ghost use Rattle.bw_lang.specs.Service.Reads.{IsReadable};
 
-use crate::answers::{answer_link, say};
+use crate::answers::answer_link;
 use crate::channels::CaseSink;
 use crate::links::CaseLink;
 use bw_check::{Checked, check};
-use bw_lang::Service;
 use bw_out::{MemKeys, Quiet, Steps};
 use bw_schema::built_in;
-use bw_syntax::read_service;
-use bw_types::{Typed, resolve};
+use bw_types::Typed;
 use bw_world::World;
-use case_files::{Case, Fault, Texts, Verdict};
+use case_files::{Case, Fault, Texts, Verdict, put_line, service_of};
 use std::alloc::{AllocError, Global};
 use std::marker::Brand;
 use std::mem;
@@ -47,17 +44,17 @@ pub fn try_case<R: Threads + Sync>(
     Ok(Verdict::of(wanted(alloc, texts, case)?, got))
 }
 
-/// What a case wants: its lines of answers, parted by `;`.
+/// What a case wants: its lines of answers, parted by `; `.
 fn wanted(alloc: Global, texts: &Texts<'_>, case: &Case<'_>) -> Result<String, Fault> {
     let mut wanted = String::new(alloc);
     for line in &case.lines {
         match line.key {
             "service" | "next" | "first" | "write_piece" | "failing_writes" | "link" => {}
             "output" => {
-                say(&mut wanted, "output ")?;
+                put_line(&mut wanted, "output ")?;
                 wanted.push_str(&texts.join_escaped(alloc, line.value)?)?;
             }
-            _ => say(&mut wanted, line.text)?,
+            _ => put_line(&mut wanted, line.text)?,
         }
     }
     Ok(wanted)
@@ -97,46 +94,15 @@ fn world_of<R: Threads + Sync>(
 ) -> Result<World, Fault> {
     let next = number_of(case, "next")?;
     let first = number_of(case, "first")?;
-    let checked = checked_service(rt, alloc, typed_of(alloc, texts, case)?)?;
+    let checked = checked_service(rt, alloc, service_of(alloc, texts, case, "service")?)?;
     new_world(alloc, checked, next, first)
 }
 
 /// The number of the line with that word; 1 where there is none.
-fn number_of(case: &Case<'_>, key: &str) -> Result<u64, Fault> {
-    for line in &case.lines {
-        if line.key == key {
-            return Ok(line.value.parse()?);
-        }
-    }
-    Ok(1)
-}
-
-/// The service of a case, which has to be well typed.
-fn typed_of(alloc: Global, texts: &Texts<'_>, case: &Case<'_>) -> Result<Typed, Fault> {
-    let line = case.lines.first().ok_or(Fault::Malformed)?;
-    let text = texts.join(alloc, line.value)?;
-    typed_service(alloc, &text)
-}
-
-fn typed_service(alloc: Global, text: &[u8]) -> Result<Typed, Fault> {
-    match read_service(alloc, text) {
-        Ok(service) => resolved(alloc, service),
-        Err(fault) => {
-            drop(fault);
-            Err(Fault::Malformed)
-        }
-    }
-}
-
-fn resolved(alloc: Global, service: Service) -> Result<Typed, Fault>
-    requires { IsReadable service }
-{
-    match resolve(alloc, service) {
-        Ok(typed) => Ok(typed),
-        Err(fault) => {
-            drop(fault);
-            Err(Fault::Malformed)
-        }
+fn number_of(case: &Case<'_>, word: &str) -> Result<u64, Fault> {
+    match case.value_of(word) {
+        Some(number) => Ok(number.parse()?),
+        None => Ok(1),
     }
 }
 
@@ -186,7 +152,7 @@ fn say_links(
         said,
         Blank::new(1),
     )?;
-    say(said, "live ")?;
+    put_line(said, "live ")?;
     write!(said, "{}", world.live())?;
     Ok(())
 }

@@ -12,12 +12,16 @@
 #![tactic(auto)]
 
 mod fault;
+mod lines;
+mod services;
 mod tables;
 mod texts;
 mod trials;
 mod verdicts;
 
 pub use fault::Fault;
+pub use lines::{begin_line, put_line};
+pub use services::{flow_of, service_of};
 pub use tables::{Case, Line, Table};
 pub use texts::{Texts, escaped};
 pub use trials::{Kind, try_files};

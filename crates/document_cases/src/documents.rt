@@ -16,10 +16,9 @@
 //! A plug that is over a limit shows the number, and ends the case. Where the two ways to make a document differ, the
 //! step that tells shows `differs`. `want PARTS` is a line of what the case has to show.
 
-use crate::lines::add_line;
 use crate::steps::Steps;
 use bw_types::Typed;
-use case_files::{Case, Fault, Texts, Verdict};
+use case_files::{Case, Fault, Texts, Verdict, put_line};
 use std::alloc::{AllocError, Global};
 
 /// Tries a case over its service.
@@ -38,7 +37,7 @@ fn wanted(alloc: Global, case: &Case<'_>) -> Result<String, AllocError> {
     let mut wanted = String::new(alloc);
     for line in &case.lines {
         if line.key == "want" {
-            add_line(&mut wanted, line.value)?;
+            put_line(&mut wanted, line.value)?;
         }
     }
     Ok(wanted)

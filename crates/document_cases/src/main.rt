@@ -4,19 +4,16 @@
 
 mod both;
 mod documents;
-mod lines;
 mod mix;
 mod plain;
 mod said;
-mod services;
 mod stack;
 mod steps;
 mod talks;
 mod turns;
 
-use crate::services::typed_service;
 use bw_types::Typed;
-use case_files::{Case, Fault, Kind, Texts, Verdict, try_files};
+use case_files::{Case, Fault, Kind, Texts, Verdict, service_of, try_files};
 use std::alloc::Global;
 use std::process::ExitCode;
 
@@ -54,7 +51,7 @@ impl Kind for Subject {
     }
 
     fn try_case(self, alloc: Global, texts: &Texts<'_>, case: &Case<'_>) -> Result<Verdict, Fault> {
-        let typed = typed_service(alloc, texts, case)?;
+        let typed = service_of(alloc, texts, case, "service")?;
         let verdict = self.tried(alloc, texts, case, &typed);
         drop(typed);
         verdict

@@ -1,12 +1,11 @@
 //! What is said of turns.
 
-use crate::lines::begin_line;
 use bw_doc::Doc;
 use bw_eval::Value;
 use bw_lang::{FieldId, TurnFault};
 use bw_run::{FieldFault, SharedValues};
 use bw_types::Typed;
-use case_files::Fault;
+use case_files::{Fault, begin_line};
 use std::alloc::AllocError;
 use std::str;
 

@@ -1,13 +1,12 @@
 //! Steps of cases of documents.
 
 use crate::both::{Both, Refusal};
-use crate::lines::add_line;
 use crate::mix::Mix;
 use crate::stack::Stack;
 use bw_doc::DocFault;
 use bw_lang::GapId;
 use bw_types::Typed;
-use case_files::{Case, Fault, Texts};
+use case_files::{Case, Fault, Texts, put_line};
 use std::alloc::Global;
 use std::str;
 
@@ -41,7 +40,7 @@ impl<'a> Steps<'a> {
             }
             if let Err(refusal) = self.take(line.key, line.value) {
                 let words = shown_refusal(self.alloc, refusal)?;
-                add_line(&mut self.shown, &words)?;
+                put_line(&mut self.shown, &words)?;
                 break;
             }
         }
@@ -91,7 +90,7 @@ impl<'a> Steps<'a> {
         let mixed = mix.steps(count);
         drop(mix);
         mixed?;
-        Ok(add_line(&mut self.shown, "alike").map_err(Fault::from)?)
+        Ok(put_line(&mut self.shown, "alike").map_err(Fault::from)?)
     }
 
     fn step(&mut self, key: &str, value: &str) -> Result<(), Refusal> {
@@ -132,7 +131,7 @@ impl<'a> Steps<'a> {
             "show" => top.show(alloc, first, second)?,
             _ => return Err(Fault::Malformed),
         };
-        Ok(add_line(&mut self.shown, &words)?)
+        Ok(put_line(&mut self.shown, &words)?)
     }
 
     /// The gap of that name.

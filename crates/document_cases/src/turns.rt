@@ -12,16 +12,14 @@
 //! - `failed N WORDS`, the number of the fault, and the fault
 //! - `lacking FIELD`, `repeated FIELD`, `too long FIELD` where the form isn't taken
 //! - `shared VALUES`, for a document its weight
-ghost use Rattle.std.specs.Prelude.{◌≡◌, IfOk};
+ghost use Rattle.std.specs.Prelude.{◌≡◌};
 ghost use Rattle.bw_flow.specs.Layout.{plan_of};
 
-use crate::lines::add_line;
-use crate::services::why_untried;
 use crate::talks::counted;
-use bw_flow::{Flow, FlowFault, lower};
+use bw_flow::Flow;
 use bw_types::Typed;
-use case_files::{Case, Fault, Texts, Verdict};
-use std::alloc::{AllocError, Global};
+use case_files::{Case, Fault, Texts, Verdict, flow_of};
+use std::alloc::Global;
 use std::marker::Brand;
 use std::sync::ledger::Blank;
 
@@ -33,36 +31,16 @@ pub fn try_case(
     typed: &Typed,
 ) -> Result<Verdict, Fault> {
     let got = got(alloc, texts, case, typed)?;
-    Ok(Verdict::of(wanted(alloc, case)?, got))
-}
-
-/// The lines that say what is wanted.
-fn wanted(alloc: Global, case: &Case<'_>) -> Result<String, AllocError> {
-    let mut wanted = String::new(alloc);
-    for line in &case.lines {
-        if !matches!(line.key, "service" | "start" | "field" | "answer") {
-            add_line(&mut wanted, line.text)?;
-        }
-    }
-    Ok(wanted)
+    let wanted = case.wanted(alloc, &["service", "start", "field", "answer"])?;
+    Ok(Verdict::of(wanted, got))
 }
 
 /// What comes of the turns of a case.
 fn got(alloc: Global, texts: &Texts<'_>, case: &Case<'_>, typed: &Typed) -> Result<String, Fault> {
-    let flow = lowered(alloc, typed)?;
+    let flow = flow_of(alloc, typed)?;
     let got = got_over(alloc, texts, case, typed, &flow);
     drop(flow);
     got
-}
-
-/// The flow of a service.
-fn lowered(alloc: Global, typed: &Typed) -> Result<Flow, Fault>
-    ensures { IfOk result (λ f. f ≡ plan_of typed.now.service) }
-{
-    match lower(alloc, typed) {
-        Ok(flow) => Ok(flow),
-        Err(fault) => Err(why_untried(fault == FlowFault::Memory)),
-    }
 }
 
 /// What comes of them, where the service has this flow.

@@ -4,7 +4,6 @@
 #![tactic(auto)]
 
 mod controls;
-mod lines;
 mod pages;
 mod schemas;
 mod shapes;

@@ -1,15 +1,15 @@
 //! Cases of texts of schemas. A case has the line `text PARTS`, a schema's text, and wants `read`, or why it is
 //! refused: `malformed`, `version N`, `repeated NAME`, `unknown NAME` or `too long`.
 
-use crate::lines::text_and_wanted;
 use bw_schema::{SchemaFault, read_schema};
 use case_files::{Case, Fault, Texts, Verdict};
 use std::alloc::Global;
 
 /// Tries a schema's text.
 pub fn try_case(alloc: Global, texts: &Texts<'_>, case: &Case<'_>) -> Result<Verdict, Fault> {
-    let (text, wanted) = text_and_wanted(alloc, texts, case)?;
-    Ok(Verdict::of(wanted, answer(alloc, &text)?))
+    let text = case.text_of(alloc, texts, "text")?;
+    let got = answer(alloc, &text)?;
+    Ok(Verdict::of(case.wanted(alloc, &["text"])?, got))
 }
 
 /// What comes of a schema's text.

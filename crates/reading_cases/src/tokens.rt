@@ -6,16 +6,16 @@
 //!
 //! or `no tokens`, or a fault: `bad byte at N`, `open string at N`, `open template at N`, `number too big at N`.
 
-use crate::lines::{begin_line, text_and_wanted};
 use bw_lang::{Token, TokenKind};
 use bw_lex::{LexFault, lex};
-use case_files::{Case, Fault, Texts, Verdict, escaped};
+use case_files::{Case, Fault, Texts, Verdict, begin_line, escaped};
 use std::alloc::{AllocError, Global};
 
 /// Tries a text.
 pub fn try_case(alloc: Global, texts: &Texts<'_>, case: &Case<'_>) -> Result<Verdict, Fault> {
-    let (text, wanted) = text_and_wanted(alloc, texts, case)?;
-    Ok(Verdict::of(wanted, shown(alloc, &text)?))
+    let text = case.text_of(alloc, texts, "text")?;
+    let got = shown(alloc, &text)?;
+    Ok(Verdict::of(case.wanted(alloc, &["text"])?, got))
 }
 
 /// What the text becomes.

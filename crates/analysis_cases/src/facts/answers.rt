@@ -3,7 +3,7 @@ ghost use Rattle.std.specs.Prelude.{◌≡◌};
 ghost use Rattle.bw_flow.specs.Layout.{plan_of};
 ghost use Rattle.bw_analyse.specs.Facts.{AreFacts};
 
-use crate::facts::values::{Names, put_summary, put_value};
+use crate::values::{Names, put_summary, put_value};
 use bw_analyse::{Abstract, Facts, gap_faults, page_graph};
 use bw_faults::Faults;
 use bw_flow::{Flow, PointId};

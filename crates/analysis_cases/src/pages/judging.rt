@@ -5,9 +5,8 @@ ghost use Rattle.bw_fields.specs.Received.{IsReceived};
 ghost use Rattle.bw_shape.specs.Outlines.{IsPageGraph, IsShape};
 ghost use Rattle.bw_strings.specs.Literals.{literals_of};
 
-use crate::pages::graphs::{exit_page, show_page};
 use crate::pages::known::{are_received, is_page_graph};
-use crate::service::flow_of;
+use crate::pages::wrapped::{exit_page, show_page};
 use bw_faults::Faults;
 use bw_fields::judge_fields;
 use bw_flow::{Flow, Receiveds, What};
@@ -18,7 +17,7 @@ use bw_shape::{Outline, shape};
 use bw_strings::Literals;
 use bw_sum::Summary;
 use bw_types::Typed;
-use case_files::Fault;
+use case_files::{Fault, flow_of};
 use std::alloc::Global;
 
 /// The faults of the page around a document, at the show or the exit of this number.

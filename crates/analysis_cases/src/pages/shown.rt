@@ -3,15 +3,14 @@
 use bw_faults::{Fault, Faults};
 use bw_lang::TemplateId;
 use bw_types::Typed;
+use case_files::begin_line;
 use std::alloc::{AllocError, Global};
 
-/// The lines of the faults, parted by `;`, or `accepted`.
+/// The lines of the faults, parted by `; `, or `accepted`.
 pub fn shown(alloc: Global, typed: &Typed, faults: &Faults) -> Result<String, AllocError> {
     let mut shown = String::new(alloc);
     for fault in faults.as_slice() {
-        if !shown.is_empty() {
-            shown.push_str("; ")?;
-        }
+        begin_line(&mut shown)?;
         put_fault(&mut shown, typed, fault)?;
     }
     if shown.is_empty() {

@@ -1,6 +1,0 @@
-use Rattle.std.proofs.Common.{◌≡◌, [], slice_index_or}
-use Rattle.sums_cases.specs.Flows.{gathered}
-use Rattle.sums_cases.proofs.flows.gathered.Given as goal
-
-abbrev pub invariant-loop-source : goal.invariant-loop-source
-invariant-loop-source l = l.all ≡ gathered l.cells l.cell (λ c. slice_index_or l.values c []) l.source

@@ -1,2 +1,0 @@
-pub mod FlowLaws
-pub mod Flows
