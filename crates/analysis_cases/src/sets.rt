@@ -11,7 +11,7 @@ use crate::sets::cells::Cell;
 use crate::sets::rounds::least_by_rounds;
 use crate::sets::systems::LinkedCells;
 use bw_solve::{Set, Solution, SolveFault, solve};
-use case_files::{Case, Fault, Verdict, begin_line};
+use case_files::{Case, Fault, Verdict, put_line};
 use std::alloc::{AllocError, Global};
 
 /// The limit where a case names none.
@@ -75,6 +75,7 @@ fn by_rounds(alloc: Global, system: &LinkedCells) -> Result<Vec<Set<u32>>, Fault
     least_by_rounds(alloc, system)
 }
 
+/// The lines of these values, and behind them those that rounds give, where these are others.
 fn compared(alloc: Global, values: &[Set<u32>], plain: &[Set<u32>]) -> Result<String, Fault> {
     let mut text = String::new(alloc);
     put_values(&mut text, values)?;
@@ -86,18 +87,24 @@ fn compared(alloc: Global, values: &[Set<u32>], plain: &[Set<u32>]) -> Result<St
     Ok(text)
 }
 
-/// Writes a line for each cell.
+/// Puts a line for each cell behind others.
 fn put_values(text: &mut String, values: &[Set<u32>]) -> Result<(), AllocError> {
     for value in values {
-        begin_line(text)?;
-        text.push_str("holds")?;
-        for member in value.as_slice() {
-            write!(text, " {member}")?;
-        }
+        put_line(text, "holds")?;
+        put_members(text, value.as_slice())?;
     }
     Ok(())
 }
 
+/// Puts the members of a cell behind its word.
+fn put_members(text: &mut String, members: &[u32]) -> Result<(), AllocError> {
+    for member in members {
+        write!(text, " {member}")?;
+    }
+    Ok(())
+}
+
+/// How many members there were when the solver stopped, and behind it how many rounds give, where the limit allows these.
 fn refused(alloc: Global, members: u64, limit: u64, plain: &[Set<u32>]) -> Result<String, Fault> {
     let mut all = 0u64;
     for value in plain {

@@ -32,6 +32,7 @@ pub fn put_value(text: &mut String, names: &Names<'_>, value: &Abstract) -> Resu
     }
 }
 
+/// Some strings, behind a blank each.
 fn put_strings(text: &mut String, names: &Names<'_>, strings: &StrSet) -> Result<(), AllocError> {
     match strings {
         StrSet::Any => text.push_str(" any"),
@@ -76,6 +77,7 @@ fn put_roots(text: &mut String, summary: &Summary) -> Result<(), AllocError> {
     Ok(())
 }
 
+/// Which template may be plugged at which gap of which.
 fn put_edges(text: &mut String, names: &Names<'_>, summary: &Summary) -> Result<(), AllocError> {
     if summary.edges.len() > 0 {
         text.push_str(" edges")?;
@@ -92,6 +94,7 @@ fn put_edges(text: &mut String, names: &Names<'_>, summary: &Summary) -> Result<
     Ok(())
 }
 
+/// Which strings may stand at which gap of which template.
 fn put_texts(text: &mut String, names: &Names<'_>, labels: &[Label]) -> Result<(), AllocError> {
     if !labels.is_empty() {
         text.push_str(" texts")?;
@@ -103,6 +106,7 @@ fn put_texts(text: &mut String, names: &Names<'_>, labels: &[Label]) -> Result<(
     Ok(())
 }
 
+/// Which gap of which template may still be open.
 fn put_tracks(text: &mut String, names: &Names<'_>, summary: &Summary) -> Result<(), AllocError> {
     if summary.tracks.len() > 0 {
         text.push_str(" tracks")?;
@@ -118,6 +122,7 @@ fn put_tracks(text: &mut String, names: &Names<'_>, summary: &Summary) -> Result
     Ok(())
 }
 
+/// The gaps that may not be there at all.
 fn put_lacks(text: &mut String, names: &Names<'_>, summary: &Summary) -> Result<(), AllocError> {
     if summary.lacks.len() > 0 {
         text.push_str(" lacks")?;

@@ -21,6 +21,7 @@ impl Cell {
         Ok(cell)
     }
 
+    /// Takes in `NUMBERS to CELLS`.
     fn take(&mut self, line: &str) -> Result<(), Fault> {
         let (numbers, cells) = line.split_once("to").unwrap_or((line, ""));
         put_numbers(&mut self.own, numbers)?;
@@ -28,6 +29,7 @@ impl Cell {
     }
 }
 
+/// Puts the numbers of these words behind others.
 fn put_numbers(numbers: &mut Vec<u32>, words: &str) -> Result<(), Fault> {
     for word in words.split_whitespace() {
         numbers.push(word.parse()?)?;
@@ -35,6 +37,7 @@ fn put_numbers(numbers: &mut Vec<u32>, words: &str) -> Result<(), Fault> {
     Ok(())
 }
 
+/// Puts the places of these words behind others.
 fn put_places(places: &mut Vec<usize>, words: &str) -> Result<(), Fault> {
     for word in words.split_whitespace() {
         places.push(word.parse()?)?;

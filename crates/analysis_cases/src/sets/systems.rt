@@ -37,6 +37,7 @@ fn are_in_range(cells: &[Cell]) -> bool
     true
 }
 
+/// Whether all places are below a length.
 fn are_below(places: &[usize], len: usize) -> bool
     ensures { result ≡ true → All (λ place. place < len) places.now }
 {
