@@ -1,10 +1,12 @@
 //! Worked examples of reading, kept as data: expressions that are grouped, texts that become tokens, insides of
-//! templates that become items, the controls in them, pages that are read, schemas that are read, and pages that are
-//! judged by them. `case_files` says how the files are written, and the head of each module which lines its cases have.
+//! templates that become items, the controls in them, pages that are read, schemas that are read, pages that are judged
+//! by them, and requests that are read, with the replies that are written. `case_files` says how the files are written,
+//! and the head of each module which lines its cases have.
 #![tactic(auto)]
 
 mod controls;
 mod pages;
+mod requests;
 mod schemas;
 mod shapes;
 mod templates;
@@ -32,6 +34,8 @@ enum Reading {
     Schemas,
     /// Pages that are judged by schemas.
     Valid,
+    /// Requests and replies.
+    Requests,
 }
 
 impl Kind for Reading {
@@ -44,6 +48,7 @@ impl Kind for Reading {
             Reading::Pages => "pages.cases",
             Reading::Schemas => "schemas.cases",
             Reading::Valid => "valid.cases",
+            Reading::Requests => "requests.cases",
         }
     }
 
@@ -56,6 +61,7 @@ impl Kind for Reading {
             Reading::Pages => pages::try_case(alloc, texts, case),
             Reading::Schemas => schemas::try_case(alloc, texts, case),
             Reading::Valid => valid::try_case(alloc, texts, case),
+            Reading::Requests => requests::try_case(alloc, texts, case),
         }
     }
 }
@@ -71,6 +77,7 @@ fn main(rt: HostRuntime) -> ExitCode {
             Reading::Pages,
             Reading::Schemas,
             Reading::Valid,
+            Reading::Requests,
         ],
     )
 }

@@ -1,8 +1,8 @@
 //! What comes of a stream, in pieces of different sizes.
 
-use crate::fault::Fault;
 use bw_http::{Intake, Method, Path, ReadOutcome, Request, read_request};
 use bw_out::MemSource;
+use case_files::Fault;
 use std::alloc::{AllocError, Global};
 
 /// The outcomes of at most so many requests, in pieces of 1, 7 and 4,096 bytes.

@@ -2,11 +2,11 @@
 ghost use Rattle.std.specs.Prelude.{[], IfOk};
 ghost use Rattle.bw_http.specs.Replies.{IsReply};
 
-use crate::fault::Fault;
 use bw_http::{Allow, Reply, write_reply};
 use bw_lang::{FieldNames, NameTable, Text, TurnFault};
-use bw_out::MemSink;
+use bw_out::{MemSink, WriteFault};
 use bw_page::Sheet;
+use case_files::Fault;
 use std::alloc::Global;
 
 /// The bytes of the reply of this kind, with `|` for CR LF and `/` for LF alone.
@@ -40,7 +40,7 @@ fn write_kind(alloc: Global, kind: &str, sink: &mut MemSink<'_>) -> Result<(), F
     let fields = FieldNames::of(NameTable::new(alloc));
     let wrote = write_reply(reply, &fields, sink);
     drop(fields);
-    Ok(wrote?)
+    wrote.map_err(untried)
 }
 
 /// Writes the reply to a form that lacks a field whose name has the ends of lines.
@@ -53,7 +53,12 @@ fn write_lacking(alloc: Global, sink: &mut MemSink<'_>) -> Result<(), Fault> {
     let fields = FieldNames::of(names);
     let wrote = write_reply(Reply::Lacking(fields.number("a\r\nb\n")), &fields, sink);
     drop(fields);
-    Ok(wrote?)
+    wrote.map_err(untried)
+}
+
+/// Why a case can't be tried whose reply doesn't fit into its sink.
+fn untried(_fault: WriteFault) -> Fault {
+    Fault::Malformed
 }
 
 /// A sheet with this text alone.
