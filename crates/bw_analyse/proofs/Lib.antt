@@ -4,3 +4,4 @@ pub mod RoundLaws
 pub mod PageLaws
 pub mod GapLaws
 pub mod BareLaws
+pub mod PlugLaws

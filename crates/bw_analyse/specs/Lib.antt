@@ -1,5 +1,6 @@
 pub mod AbstractLaws
 pub mod Abstracts
+pub mod Apart
 pub mod ArrowLaws
 pub mod Constants
 pub mod Facts

@@ -8,6 +8,7 @@ ghost use Rattle.bw_analyse.specs.Known.{of_local, of_shared, constant_at, one_s
 
 use crate::abstracts::Abstract;
 use crate::ground::Ground;
+use crate::plugging::Plugging;
 use bw_flow::Scope;
 use bw_lang::{Expr, Fun, Memory, Name, Op, Pairs, Text};
 use bw_solve::Set;
@@ -153,7 +154,7 @@ impl Scene<'_, '_, '_> {
         ensures { IfOk result (λ a. a ≡ known_filled self.now.ground.now.typed.now.service
             (look self.now.ground.now.typed.now.service self.now.scope.now self.now.locals.now self.now.shared.now) pairs.now base) }
     {
-        let mut filled = base;
+        let mut filled = Plugging::of(alloc, base);
         for pair in pairs.as_slice() {
             let Ok(value) = self.known(alloc, &pair.value) else {
                 drop(filled);
@@ -161,10 +162,9 @@ impl Scene<'_, '_, '_> {
             };
             let gap = self.ground.typed.service().gaps.number(pair.gap.as_str());
             let more = filled.plug(alloc, gap, &value);
-            drop(filled);
             drop(value);
             filled = more?;
         }
-        Ok(filled)
+        filled.done(alloc)
     }
 }

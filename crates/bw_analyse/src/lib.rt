@@ -14,6 +14,7 @@ pub mod ground;
 pub mod known;
 pub mod leaving;
 pub mod pages;
+mod plugging;
 pub mod readers;
 pub mod rounds;
 pub mod rows;

@@ -102,7 +102,7 @@ module _ {T : Type 0} {cmp : T → T → Ordering} (o : IsTotalOrder cmp) where
     | inr e ↦ absurd (false≢true (sym (below_lacks y x xs (o.antisymm y x ∙ ap ordering_reverse e) s) ∙ h y ∙ itself y ys))
   ]
 
-  merge_nothing : (xs : List T) → merge cmp xs [] ≡ xs
+  pub merge_nothing : (xs : List T) → merge cmp xs [] ≡ xs
   merge_nothing [] = refl
   merge_nothing (x ∷ xs) = refl
 

@@ -1,6 +1,7 @@
 -- What a page graph says of one template.
 use Rattle.std.specs.Prelude.{ℕ, ◌==◌, Bool, ◌&&◌, ◌||◌, List, [], slice_index_or}
 use Rattle.std.specs.List.{list_any}
+use Rattle.std.specs.List.Sorted.{IsNonDecreasingBy}
 
 -- links: a gap and a template that may stand there; open_gaps: the gaps that may be left open; said: those that some string may fill; wordy: those
 -- that a string may fill that isn't blank
@@ -9,6 +10,10 @@ pub record Node : Type 0 where
   pub open_gaps : List ℕ
   pub said : List ℕ
   pub wordy : List ℕ
+
+-- the links are in the order of their gaps
+abbrev pub Ascends : List (ℕ × ℕ) → Type 0
+Ascends links = IsNonDecreasingBy (λ l. l.0) links
 
 -- nothing is known
 abbrev pub no_node : Node

@@ -1,7 +1,9 @@
 //! The nodes of a page graph, from its summary.
-ghost use Rattle.std.specs.Prelude.{◌≡◌, ℕ, ◌<◌, ◌∷◌, [], replicate, length, IfOk, OnOk};
+ghost use Rattle.std.specs.Prelude.{◌≡◌, ℕ, ◌<◌, ◌≤◌, ◌∷◌, [], replicate, length, IfOk, OnOk};
 ghost use Rattle.std.specs.List.{All};
+ghost use Rattle.bw_solve.specs.Sets.{IsSet};
 ghost use Rattle.bw_strings.specs.Asking.{AreLiterals};
+ghost use Rattle.bw_sum.specs.Edges.{edge_cmp};
 ghost use Rattle.bw_sum.specs.Graph.{graph};
 ghost use Rattle.bw_nodes.specs.Fits.{Fits, AreStrings};
 ghost use Rattle.bw_nodes.specs.Nodes.{no_node, node_at};
@@ -43,18 +45,21 @@ fn fresh_sayings(alloc: Global, rows: usize) -> Result<Vec<Sayings>, Memory>
     Ok(list)
 }
 
-/// Takes an edge in.
+/// Takes an edge in, at a gap that is no lower than those of the links that its template has.
 fn add_edge(nodes: &mut Vec<Node>, edge: &(TemplateId, GapId, TemplateId)) -> Result<(), Memory>
-    requires { edge.now.0 < length nodes.old.items }
+    requires row { edge.now.0 < length nodes.old.items }
+    requires order { All (λ l. l.0 ≤ edge.now.1) (node_at nodes.old.items edge.now.0).links }
     ensures { OnOk result (spec.GrowsNodes nodes.old.items nodes.new.items (spec.link_part (edge.now ∷ []))) }
 {
     nodes[edge.0.number() as usize].add_link(edge.1, edge.2)?;
     Ok(())
 }
 
-/// Takes the edges in.
+/// Takes edges in their order into nodes that have no links.
 fn add_edges(nodes: &mut Vec<Node>, edges: &[(TemplateId, GapId, TemplateId)]) -> Result<(), Memory>
-    requires { All (λ e. e.0 < length nodes.old.items) edges.now }
+    requires rows { All (λ e. e.0 < length nodes.old.items) edges.now }
+    requires set { IsSet edge_cmp edges.now }
+    requires fresh { All (λ n. n.links ≡ []) nodes.old.items }
     ensures { OnOk result (spec.GrowsNodes nodes.old.items nodes.new.items (spec.link_part edges.now)) }
 {
     for edge in edges {

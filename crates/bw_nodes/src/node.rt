@@ -1,6 +1,6 @@
 //! What a page graph says of one template.
-ghost use Rattle.std.specs.Prelude.{◌≡◌, ℕ, ◌<◌, ◌==◌, ◌||◌, ◌&&◌, ◌++◌, ◌∷◌, [], if◌then◌else◌, IfOk, OnOk, length};
-ghost use Rattle.std.specs.List.{list_any};
+ghost use Rattle.std.specs.Prelude.{◌≡◌, ℕ, ◌<◌, ◌≤◌, Bool, ◌==◌, ◌||◌, ◌&&◌, ◌++◌, ◌∷◌, [], if◌then◌else◌, IfOk, OnOk, length};
+ghost use Rattle.std.specs.List.{list_any, All};
 ghost use Rattle.bw_rows.specs.Changes.{Sets};
 ghost use Rattle.bw_rows.specs.Rows.{flag, at};
 ghost use Rattle.bw_nodes.specs.Nodes as spec;
@@ -10,8 +10,8 @@ use bw_rows::{Row, Table};
 use std::alloc::Global;
 use std::marker::Model;
 
-/// What a page graph says of a template: its links, each a gap and a template that may stand there, and its gaps that may
-/// be left open, that some string may fill, and that a string may fill that isn't blank.
+/// What a page graph says of a template: its links, each a gap and a template that may stand there, in the order of the
+/// gaps, and its gaps that may be left open, that some string may fill, and that a string may fill that isn't blank.
 #[derive(Drop)]
 pub struct Node {
     links: Vec<(GapId, TemplateId)>,
@@ -26,6 +26,8 @@ impl Model for Node {
     ghost Value = { spec.Node };
 
     ghost view = { λ n. record { links = n.links.items; open_gaps = n.open_gaps.items; said = n.said.items; wordy = n.wordy.items } };
+
+    ghost invariant = { λ n. spec.Ascends n.links.items };
 }
 
 /// Whether a gap is in a list.
@@ -48,8 +50,9 @@ impl Node {
         }
     }
 
-    /// One link more.
+    /// One link more, at a gap that is no lower than those of the others.
     pub(crate) fn add_link(&mut self, gap: GapId, to: TemplateId) -> Result<(), Memory>
+        requires { All (λ l. l.0 ≤ gap) self.old.links }
         ensures ok { OnOk result (self.new ≡ record {
           links = self.old.links ++ (gap, to) ∷ [];
           open_gaps = self.old.open_gaps;
@@ -125,21 +128,31 @@ impl Node {
         among(&self.wordy, gap)
     }
 
+    /// The links of one gap. They stand together, since links are in the order of their gaps.
+    fn links_at(&self, gap: GapId) -> &[(GapId, TemplateId)]
+        ensures { (known : ℕ → Bool) → list_any (λ l. known l.1) result.now ≡ spec.led self.now known gap }
+    {
+        let links = self.links.as_slice();
+        let end = links.partition_point(|link: &(GapId, TemplateId)| link.0 <= gap);
+        let start = links[..end].partition_point(|link: &(GapId, TemplateId)| link.0 < gap);
+        &links[start..end]
+    }
+
     /// Whether a link of the gap leads to a template that has the flag of a column.
     pub fn is_led(&self, known: &Table, column: usize, gap: GapId) -> bool
         ensures { result ≡ spec.led self.now (λ m. at known.now m column) gap }
     {
-        self.links().iter().any(|link| link.0 == gap && known.has(link.1.number() as usize, column))
+        self.links_at(gap)
+            .iter()
+            .any(|link| known.has(link.1.number() as usize, column))
     }
 
     /// Sets in a row what is known of the templates that the gap's links lead to.
     pub fn join_led(&self, gap: GapId, known: &Table, row: &mut Row)
         ensures { Sets row.old row.new (λ c. spec.led self.now (λ m. at known.now m c) gap) }
     {
-        for link in self.links.as_slice() {
-            if link.0 == gap {
-                known.join_row(link.1.number() as usize, row);
-            }
+        for link in self.links_at(gap) {
+            known.join_row(link.1.number() as usize, row);
         }
     }
 

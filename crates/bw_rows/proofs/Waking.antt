@@ -1,10 +1,9 @@
 -- The lists of the rows that read a row, and the flags of those that are due.
-use Rattle.std.proofs.Common.{◌≡◌, ◌≢◌, ◌⊎◌, inl, inr, ℕ, ◌+◌, ◌<◌, ◌≤◌, ◌++◌, Bool, true, false, List, [], ◌∷◌, length, set, get_or, refl, ap, sym, ◌∙◌}
+use Rattle.std.proofs.Common.{◌≡◌, ◌≢◌, ◌⊎◌, inl, inr, ℕ, ◌+◌, ◌<◌, ◌≤◌, Bool, true, false, List, [], ◌∷◌, length, set, get_or, refl, ap, sym, ◌∙◌}
 use Rattle.std.proofs.Common.{subst, arith}
 use Rattle.std.specs.List.{Contains}
 use Rattle.std.proofs.lemmas.Bool.{false≢true}
 use Rattle.std.proofs.lemmas.List.{get_or_past, get_or_default, get_or-set_same, get_or-set_other, length-set}
-use Rattle.std.proofs.lemmas.List.Elements.{Contains-append_left, Contains-push}
 use Rattle.bw_rows.specs.Rows.{flag}
 use Rattle.bw_rows.specs.Rounds.{IsEntered, Entered}
 use Rattle.bw_rows.proofs.Rows.{split}
@@ -24,22 +23,22 @@ enter_past n link readers l = record {
   done = λ j d h. subst (λ k. IsEntered n readers (get_or (link ∷ []) k d)) (sym (only j h)) (λ k. absurd (omega (arith, k, l)));
 }
 
--- one reader more in the list of a row
-pub enter_row : (n : ℕ) (link : ℕ × ℕ) (readers : List (List ℕ)) → link.1 < length readers
-    → Entered n (link ∷ []) 1 readers (set readers link.1 (get_or readers link.1 [] ++ n ∷ []))
-enter_row n link readers l =
+-- the list of a row with one reader more
+pub enter_row : (n : ℕ) (link : ℕ × ℕ) (readers : List (List ℕ)) (list : List ℕ) → link.1 < length readers
+    → ((reader : ℕ) → Contains (get_or readers link.1 []) reader → Contains list reader) → Contains list n
+    → Entered n (link ∷ []) 1 readers (set readers link.1 list)
+enter_row n link readers list l keeps has =
     let row = link.1 in
-    let list : List ℕ = get_or readers row [] ++ n ∷ [] in
     record {
       len = length-set {A = List ℕ} readers row list;
       keeps = λ m reader h. elim (equal_or m row) [
         | inl here ↦ subst (λ k. Contains (get_or (set readers row list) k []) reader) (sym here)
             (subst (λ xs. Contains xs reader) (sym (get_or-set_same readers row list [] l))
-            (Contains-append_left (get_or readers row []) (n ∷ []) reader (subst (λ k. Contains (get_or readers k []) reader) here h)))
+            (keeps reader (subst (λ k. Contains (get_or readers k []) reader) here h)))
         | inr other ↦ subst (λ xs. Contains xs reader) (sym (get_or-set_other readers row m list [] other)) h
       ];
       done = λ j d h. subst (λ k. IsEntered n (set readers row list) (get_or (link ∷ []) k d)) (sym (only j h))
-          (λ _. subst (λ xs. Contains xs n) (sym (get_or-set_same readers row list [] l)) (Contains-push (get_or readers row []) n));
+          (λ _. subst (λ xs. Contains xs n) (sym (get_or-set_same readers row list [] l)) has);
     }
 
 -- one link more

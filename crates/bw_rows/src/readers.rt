@@ -34,10 +34,14 @@ impl Readers {
         }
     }
 
-    /// One row more.
+    /// One row more. Where it is the last one already, as after another link of the same row, it isn't listed again.
     fn add(&mut self, row: usize) -> Result<(), Memory>
-        ensures { OnOk result (self.new ≡ self.old ++ row ∷ []) }
+        ensures keeps { OnOk result ((reader : ℕ) → Contains self.old reader → Contains self.new reader) }
+        ensures has { OnOk result (Contains self.new row) }
     {
+        if self.list.last() == Some(&row) {
+            return Ok(());
+        }
         self.list.push(row)?;
         Ok(())
     }

@@ -7,7 +7,7 @@ use Rattle.std.specs.Cmp.{IsTotalOrder}
 use Rattle.std.specs.List.{AllByRecursion}
 use Rattle.std.proofs.lemmas.Bool.{false≢true, and_parts, cases_Bool}
 use Rattle.std.proofs.lemmas.Cmp.{nat_cmp_total, tied_itself}
-use Rattle.std.proofs.lemmas.Map.Lookups.{CmpEqualImpliesEq, exact_unsigned, exact_pairs}
+use Rattle.std.proofs.lemmas.Map.Lookups.{CmpEqualImpliesEq, exact_unsigned}
 use Rattle.bw_solve.specs.Sets.{IsSet, has, is_within}
 use Rattle.bw_solve.specs.SetLaws.{has_within, all_weaker, is_Equal, less_back, three}
 use Rattle.bw_solve.specs.TableLaws.{at_fine, below_at}
@@ -27,6 +27,7 @@ use Rattle.bw_analyse.specs.declared.abstracts.Abstract.{Abstract}
 use Rattle.bw_analyse.specs.declared.abstracts.Abstract.TheVariants.{Nothing, Str, Html}
 use Rattle.bw_analyse.specs.Abstracts.{AreAlike, is_below}
 use Rattle.bw_analyse.specs.Rows.{EachAlike, each_below}
+use Rattle.bw_analyse.proofs.PlugLaws.{pair_exact, edge_exact}
 
 -- ---- sets
 
@@ -39,14 +40,6 @@ within_equal : {T : Type 0} {cmp : T → T → Ordering} → IsTotalOrder cmp �
     → is_within cmp xs ys ≡ true → is_within cmp ys xs ≡ true → xs ≡ ys
 within_equal {cmp = cmp} o exact xs ys s t p q =
     set_equal o exact xs ys s t (λ z. is_true (has cmp xs z) (has cmp ys z) (has_within o xs ys z p) (has_within o ys xs z q))
-
-pair_exact : CmpEqualImpliesEq pair_cmp
-pair_exact = exact_pairs nat_cmp nat_cmp exact_unsigned exact_unsigned
-
-edge_exact : CmpEqualImpliesEq edge_cmp
-edge_exact x y e =
-    let k : ((x.0, x.1), x.2) ≡ ((y.0, y.1), y.2) = exact_pairs pair_cmp nat_cmp pair_exact exact_unsigned ((x.0, x.1), x.2) ((y.0, y.1), y.2) e in
-    λ i. ((k i).0.0, (k i).0.1, (k i).1)
 
 -- ---- strings
 

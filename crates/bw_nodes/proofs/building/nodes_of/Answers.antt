@@ -1,7 +1,19 @@
-use Rattle.std.proofs.Common.{subst}
+use Rattle.std.proofs.Common.{◌≡◌, [], refl, sym, subst}
+use Rattle.std.specs.List.{All}
+use Rattle.std.proofs.lemmas.List.Elements.{All-replicate}
+use Rattle.bw_solve.specs.Sets.{IsSet}
+use Rattle.bw_sum.specs.Edges.{edge_cmp}
+use Rattle.bw_nodes.specs.Nodes.{no_node}
 use Rattle.bw_nodes.specs.Parts.{GrowsNodes, GrowsSaid, link_part, open_part, said_part, sayings_of}
 use Rattle.bw_nodes.proofs.PastRows.{fits, small_links, strings}
 use Rattle.bw_nodes.proofs.building.nodes_of.Goals as goal
+
+pub add_edges-requires-clause-set : goal.add_edges-requires-clause-set
+add_edges-requires-clause-set c = subst (IsSet edge_cmp) (sym c.as_slice.ensures.value) c.as_slice.ensures.set
+
+pub add_edges-requires-clause-fresh : goal.add_edges-requires-clause-fresh
+add_edges-requires-clause-fresh c =
+    subst (All (λ n. n.links ≡ [])) (sym c.in_ok-nodes.ensures) (All-replicate (λ n. n.links ≡ []) c.args.rows no_node refl)
 
 pub returns-clause-fits : goal.returns-clause-fits
 returns-clause-fits c =
