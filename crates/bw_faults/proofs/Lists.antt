@@ -102,6 +102,7 @@ module _ {T : Type 0} {cmp : T → T → Ordering} (o : IsTotalOrder cmp) where
     | inr e ↦ absurd (false≢true (sym (below_lacks y x xs (o.antisymm y x ∙ ap ordering_reverse e) s) ∙ h y ∙ itself y ys))
   ]
 
+  -- nothing more joins a set without changing it
   pub merge_nothing : (xs : List T) → merge cmp xs [] ≡ xs
   merge_nothing [] = refl
   merge_nothing (x ∷ xs) = refl
@@ -224,10 +225,6 @@ all_front P (x ∷ xs) ys h = (h.0, all_front P xs ys h.1)
 set_front : (xs ys : List Fault) → IsSet fault_cmp (xs ++ ys) → IsSet fault_cmp xs
 set_front [] ys s = tt
 set_front (x ∷ xs) ys s = (all_front (λ y. fault_cmp x y ≡ Less) xs ys s.0, set_front xs ys s.1)
-
-pub merge_none : (xs : List Fault) → merge fault_cmp xs [] ≡ xs
-merge_none [] = refl
-merge_none (x ∷ xs) = refl
 
 -- a list without a first fault is empty
 pub no_front : (xs : List Fault) → IsItemAt xs 0 None → xs ≡ []

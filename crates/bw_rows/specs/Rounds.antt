@@ -1,5 +1,5 @@
 -- How the least facts are found: each row is looked at that may have a new fact. A link is a gap and a row.
-use Rattle.std.specs.Prelude.{◌≡◌, ◌≢◌, ℕ, ◌<◌, Bool, true, false, List, [], length, slice_index_or}
+use Rattle.std.specs.Prelude.{◌≡◌, ◌≢◌, ◌⊎◌, ℕ, ◌<◌, Bool, true, false, List, [], length, slice_index_or}
 use Rattle.std.specs.List.{All, Contains}
 use Rattle.bw_rows.specs.Rows.{flag, at, missing}
 use Rattle.bw_rows.specs.Least.{IsDerived, IsClosedAt}
@@ -12,16 +12,26 @@ ReadsLinks links follows = (n c : ℕ) (f g : ℕ → ℕ → Bool) → All (λ 
 abbrev pub IsEntered : ℕ → List (List ℕ) → ℕ × ℕ → Type 0
 IsEntered n readers link = link.1 < length readers → Contains (slice_index_or readers link.1 []) n
 
--- the lists of the rows that read each row
-pub record AreReaders (rows : ℕ) (links : ℕ → List (ℕ × ℕ)) (readers : List (List ℕ)) : Type 0 where
-  pub len : length readers ≡ rows
-  pub each : (n : ℕ) → n < rows → All (IsEntered n readers) (links n)
+-- one of the first k links leads to row m
+abbrev pub IsLed : List (ℕ × ℕ) → ℕ → ℕ → Type 0
+IsLed links k m = (j : ℕ) × (d : ℕ × ℕ) × (j < k) × ((slice_index_or links j d).1 ≡ m)
 
--- row n was entered as a reader of those that the first k links lead to
+-- of the first n rows, those that read each row, and no others
+pub record AreReadersBelow (n rows : ℕ) (links : ℕ → List (ℕ × ℕ)) (readers : List (List ℕ)) : Type 0 where
+  pub len : length readers ≡ rows
+  pub each : (m : ℕ) → m < n → All (IsEntered m readers) (links m)
+  pub only : (m reader : ℕ) → Contains (slice_index_or readers m []) reader → (reader < n) × IsLed (links reader) (length (links reader)) m
+
+-- the rows that read each row
+abbrev pub AreReaders : ℕ → (ℕ → List (ℕ × ℕ)) → List (List ℕ) → Type 0
+AreReaders rows = AreReadersBelow rows rows
+
+-- row n was entered as a reader of those that the first k links lead to, and nothing else was
 pub record Entered (n : ℕ) (links : List (ℕ × ℕ)) (k : ℕ) (old new : List (List ℕ)) : Type 0 where
   pub len : length new ≡ length old
   pub keeps : (m reader : ℕ) → Contains (slice_index_or old m []) reader → Contains (slice_index_or new m []) reader
   pub done : (j : ℕ) (d : ℕ × ℕ) → j < k → IsEntered n new (slice_index_or links j d)
+  pub only : (m reader : ℕ) → Contains (slice_index_or new m []) reader → Contains (slice_index_or old m []) reader ⊎ ((reader ≡ n) × IsLed links k m)
 
 -- what looking at one row did
 pub record Step (width : ℕ) (follows : (ℕ → ℕ → Bool) → ℕ → ℕ → Bool) (n : ℕ) (old new : List (List Bool)) (changed : Bool) : Type 0 where

@@ -1,5 +1,5 @@
 //! Which rows read a row.
-ghost use Rattle.std.specs.Prelude.{◌≡◌, ℕ, ◌<◌, ◌++◌, ◌∷◌, [], false, replicate, length, IfOk, OnOk};
+ghost use Rattle.std.specs.Prelude.{◌≡◌, ◌⊎◌, ℕ, ◌<◌, ◌++◌, ◌∷◌, [], false, replicate, length, IfOk, OnOk};
 ghost use Rattle.std.specs.List.{Contains};
 ghost use Rattle.bw_rows.specs.Rows.{flag};
 ghost use Rattle.bw_rows.specs.Rounds.{AreReaders, Entered};
@@ -38,6 +38,7 @@ impl Readers {
     fn add(&mut self, row: usize) -> Result<(), Memory>
         ensures keeps { OnOk result ((reader : ℕ) → Contains self.old reader → Contains self.new reader) }
         ensures has { OnOk result (Contains self.new row) }
+        ensures only { OnOk result ((reader : ℕ) → Contains self.new reader → Contains self.old reader ⊎ (reader ≡ row)) }
     {
         if self.list.last() == Some(&row) {
             return Ok(());

@@ -15,7 +15,7 @@ use Rattle.bw_types.specs.declared.typed.Typed.{Typed}
 use Rattle.bw_run.specs.declared.turn.Frame.{Frame}
 use Rattle.bw_run.specs.Fit.{AreShared}
 use Rattle.bw_world.specs.declared.suspended.Suspended.{Suspended}
-use Rattle.bw_world.specs.Changes.{begun, went_on, with_new, with_first, without}
+use Rattle.bw_world.specs.Changes.{shown_page, begun, went_on, with_new, with_first, without}
 use Rattle.bw_world.specs.Kept.{AreApart, IsSuspended, IsKept}
 use Rattle.bw_world.specs.Seen.{Seen, found}
 use Rattle.bw_world.proofs.Live.{Test, test, is_found}
@@ -131,7 +131,7 @@ pub put_new : (next : ℕ) (live : Sessions) (s : Suspended) → AreApart next l
 put_new next live s a = ap (λ o. option_map_or (λ e. (e.0, s) ∷ remove_entry (nat_eq next) live) o ((next, s) ∷ take 999 live))
     (no_entry next live (none_next next live a))
 
-pub put_old : (service : Service) (number next cap : ℕ) (live : Sessions) (s s1 : Suspended) → Looked service number next live s
+put_old : (service : Service) (number next cap : ℕ) (live : Sessions) (s s1 : Suspended) → Looked service number next live s
     → put_entries nat_eq (lru_cache live cap) number s1 ≡ (number, s1) ∷ remove_entry (nat_eq number) live
 put_old service number next cap live s s1 k = ap (λ o. option_map_or (λ e. (e.0, s1) ∷ remove_entry (nat_eq number) live) o
     ((number, s1) ∷ take (cap - 1) live)) k.entry
@@ -227,11 +227,8 @@ module _ (v w : Seen) (is : v ≡ w) (k : IsKept v) (shared : List (List ℕ × 
       is_with_new = new_is ∙ ap (λ (z : Seen). with_new z (begun z key session frame page) shared) is
 
 -- a live session with its next turn, as it is put together
-pub is_next : (number key : ℕ) (one : Suspended) (frame : Frame) (page : Made) → one.number ≡ number → one.key ≡ key
-    → record { number = number; key = key; session = one.session; turn = one.turn + 1; frame = frame; page = page } ≡ went_on one frame page
-is_next number key one frame page a b =
-    let t : one.turn + 1 ≡ suc one.turn = omega arith in
-    λ i. record { number = sym a i; key = sym b i; session = one.session; turn = t i; frame = frame; page = page }
+abbrev pub next_of : ℕ → ℕ → Suspended → Frame → Made → Suspended
+next_of number key one frame page = record { number = number; key = key; session = one.session; turn = one.turn + 1; frame = frame; page = page }
 
 -- a session that is live stands in front, with what has become of it
 module _ (v w : Seen) (is : v ≡ w) (k : IsKept v) (shared : List (List ℕ × Value)) (number key : ℕ) (one : Suspended)
@@ -256,6 +253,39 @@ module _ (v w : Seen) (is : v ≡ w) (k : IsKept v) (shared : List (List ℕ × 
 
     pub is_with_first : record v { shared = shared; live = n.entries } ≡ with_first w s1 shared
     is_with_first = first_is ∙ ap (λ (z : Seen). with_first z s1 shared) is
+
+-- so does one with its next turn
+module _ (v w : Seen) (is : v ≡ w) (k : IsKept v) (shared : List (List ℕ × Value)) (c n : LruCache ℕ Suspended) (cap : c.cap ≡ 1000)
+    (same : c.entries ≡ v.live) (number key : ℕ) (one : Suspended) (e : found number key w.live ≡ Some one) (frame : Frame) (page : Made)
+    (put : n ≡ lru_cache (put_entries nat_eq c number (next_of number key one frame page)) c.cap) where
+  abbrev next : Suspended
+  next = next_of number key one frame page
+
+  went : next ≡ went_on one frame page
+  went =
+      let own = is_found number key v.next v.live k.apart one (ap (λ (z : Seen). found number key z.live) is ∙ e) in
+      let turn : one.turn + 1 ≡ suc one.turn = omega arith in
+      λ i. record { number = sym own.1 i; key = sym own.2 i; session = one.session; turn = turn i; frame = frame; page = page }
+
+  in_front : n.entries ≡ (number, next) ∷ remove_entry (nat_eq number) v.live
+  in_front =
+      ap (λ (z : LruCache ℕ Suspended). z.entries) put ∙ ap (λ ls. put_entries nat_eq (lru_cache ls c.cap) number next) same
+      ∙ put_old v.service number v.next c.cap v.live one next (looked_at v w is k shared number key one e next refl n)
+
+  pub keeps_next : AreShared w.service shared → IsSuspended w.service (went_on one frame page)
+      → (n.cap ≡ 1000) × IsKept (record v { shared = shared; live = n.entries })
+  keeps_next fit suspended =
+      keeps_first v w is k shared number key one e next refl n in_front (ap (λ (z : LruCache ℕ Suspended). z.cap) put ∙ cap)
+      (subst (λ (z : Seen). AreShared z.service shared) (sym is) fit) (subst (IsSuspended w.service) (sym went) suspended)
+
+  pub is_with_next : record v { shared = shared; live = n.entries } ≡ with_first w (went_on one frame page) shared
+  is_with_next =
+      is_with_first v w is k shared number key one e next refl n in_front ∙ ap (λ (z : Suspended). with_first w z shared) went
+
+  pub next_page : shown_page v.service number key (one.turn + 1) page ≡ shown_page w.service one.number one.key (suc one.turn) page
+  next_page =
+      ap (λ (z : Suspended). shown_page v.service z.number z.key z.turn page) went
+      ∙ ap (λ (z : Seen). shown_page z.service one.number one.key (suc one.turn) page) is
 
 pub kept_empty : (typed : Typed) (shared : List (List ℕ × Value)) → AreShared typed.service shared → (next first : ℕ) (c : LruCache ℕ Suspended) (n : ℕ)
     → c ≡ lru_cache [] n → n ≡ 1000

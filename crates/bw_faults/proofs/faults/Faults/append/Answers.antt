@@ -1,11 +1,11 @@
 use Rattle.std.proofs.Common.{rules, [], ◌∷◌, ◌++◌, sym, ap, ◌∙◌, subst, append_assoc}
 use Rattle.bw_solve.specs.Sets.{IsSet, merge}
-use Rattle.bw_faults.specs.Order.{fault_cmp}
-use Rattle.bw_faults.proofs.Lists.{joined_more, merge_none}
+use Rattle.bw_faults.specs.Order.{fault_cmp, fault_total}
+use Rattle.bw_faults.proofs.Lists.{joined_more, merge_nothing}
 use Rattle.bw_faults.proofs.faults.Faults.append.Goals as goal
 
 pub loop-fault-init : goal.loop-fault-init
-loop-fault-init c = record { joined = sym (merge_none c.args.self.now); parts = search rules }
+loop-fault-init c = record { joined = sym (merge_nothing fault_total c.args.self.now); parts = search rules }
 
 pub loop-fault-preserved : goal.loop-fault-preserved
 loop-fault-preserved c =
