@@ -48,7 +48,8 @@ same_self a = (bytes_eq-Decides a a).1 refl
 same_turned : (w v : List ℕ) → same w v ≡ true → same v w ≡ true
 same_turned w v s = subst (λ x. same x w ≡ true) (same_is w v s) (same_self w)
 
-is_true : (b c : Bool) → (b ≡ true → c ≡ true) → (c ≡ true → b ≡ true) → b ≡ c
+-- two tests are one where each holds with the other
+pub is_true : (b c : Bool) → (b ≡ true → c ≡ true) → (c ≡ true → b ≡ true) → b ≡ c
 is_true true c f g = sym (f refl)
 is_true false true f g = g refl
 is_true false false f g = refl

@@ -1,11 +1,8 @@
 -- The replies to a stream are good.
-use Rattle.std.proofs.Common.{◌≡◌, List, subst}
+use Rattle.std.proofs.Common.{◌≡◌, subst}
 use Rattle.bw_check.specs.Accepts.{Accepts}
 use Rattle.bw_cover.specs.Worlds.{Reached}
-use Rattle.bw_http.specs.declared.replies.Reply.{Reply}
 use Rattle.bw_lang.specs.declared.service.Service.{Service}
-use Rattle.bw_model.specs.Runs.{At}
-use Rattle.bw_schema.specs.declared.schema.Schema.{Schema}
 use Rattle.bw_sound.specs.Good.{AreGood}
 use Rattle.bw_sound.proofs.Runs.{runs_are_good}
 use Rattle.bw_types.specs.declared.typed.Typed.{Typed}

@@ -1,6 +1,5 @@
 -- One message of a stream, and what is sent in answer to it.
-use Rattle.std.proofs.Common.{◌≡◌, ◌⊎◌, ◌≤◌, ◌+◌, ◌-◌, ℕ, List, [], ◌∷◌, ◌++◌, Option, Some, Ok, Err, refl, sym, ap, ◌∙◌, subst, inl, inr, arith, append-nil}
-use Rattle.std.specs.Io.KnownBytes.{Appends}
+use Rattle.std.proofs.Common.{◌≡◌, ◌+◌, ◌-◌, ℕ, List, [], ◌∷◌, ◌++◌, Option, Some, Ok, Err, refl, sym, ap, ◌∙◌, subst, inl, inr, arith}
 use Rattle.bw_http.specs.Cuts.{Cut, Tells}
 use Rattle.bw_http.specs.Messages.{IsShort, ComesOf}
 use Rattle.bw_http.specs.Replies.{bytes_of}
@@ -11,15 +10,13 @@ use Rattle.bw_http.specs.declared.request.ReadOutcome.TheVariants as outcomes
 use Rattle.bw_http.specs.declared.request.Request.{Request}
 use Rattle.bw_lang.specs.Table.Names.{with_names}
 use Rattle.bw_lang.specs.declared.service.Service.{Service}
-use Rattle.bw_model.specs.Runs.{At, Turn, Stops, refusal, want, wants, answer_of}
+use Rattle.bw_model.specs.Runs.{At, Turn, Stops, refusal}
 use Rattle.bw_model.specs.Runs.Turn.{request, no_memory}
 use Rattle.bw_model.specs.Runs.Stops.{ended, refused}
-use Rattle.bw_model.specs.Sessions.{World}
 use Rattle.bw_model.specs.Steps.{Step, step}
-use Rattle.bw_out.specs.Told.{Coming, Draws, later_words}
+use Rattle.bw_out.specs.Told.{Draws, later_words}
 use Rattle.bw_out.specs.Writes.{AppendsPart}
 use Rattle.bw_types.specs.Fields.{field_names}
-use Rattle.bw_world.specs.Seen.{Seen}
 use Rattle.bw_world.specs.Stands.{StandsFor, Ends, Handles}
 use Rattle.bw_answer.specs.Answers.{Place, IsAt, AreLeft, bytes_by}
 use Rattle.bw_answer.specs.Steps.Turns.{Takes, Goes, without_request}

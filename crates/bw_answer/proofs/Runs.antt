@@ -31,19 +31,18 @@ use Rattle.bw_http.specs.Messages.{IsRequest}
 use Rattle.bw_http.specs.declared.replies.Reply.{Reply}
 use Rattle.bw_http.specs.declared.replies.Reply.TheVariants as replies
 use Rattle.bw_http.specs.declared.request.ReadOutcome.{ReadOutcome}
-use Rattle.bw_http.specs.declared.request.ReadOutcome.TheVariants as outcomes
 use Rattle.bw_http.specs.declared.request.Request.{Request}
 use Rattle.bw_http.proofs.OnePath.{one_request}
 use Rattle.bw_http.proofs.Due.{message_exact, end_exact}
 use Rattle.bw_http.proofs.Streams.{message_unique}
 use Rattle.bw_lang.specs.declared.service.Service.{Service}
-use Rattle.bw_model.specs.Runs.{At, Turn, Turns, Stops, Run, refusal, want, wants}
+use Rattle.bw_model.specs.Runs.{At, Turn, Turns, Stops, refusal, want, wants}
 use Rattle.bw_model.specs.Runs.Turn.{request, no_memory}
 use Rattle.bw_model.specs.Runs.Stops.{ended, refused}
 use Rattle.bw_model.specs.Sessions.{World}
 use Rattle.bw_model.specs.Steps.{Step, step}
 use Rattle.bw_out.specs.Told.{Coming}
-use Rattle.bw_answer.specs.Laws.{RunsGoOn, AreAlike, AnswersOnce}
+use Rattle.bw_answer.specs.Laws.{RunsGoOn, AnswersOnce}
 use Rattle.bw_answer.proofs.Streams.{turns_then, wants_then}
 
 pub runs_go_on : RunsGoOn

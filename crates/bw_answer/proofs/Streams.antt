@@ -28,7 +28,7 @@ use Rattle.std.proofs.KnownBytes.{Appends-nil, Appends-trans}
 use Rattle.bw_http.specs.declared.replies.Reply.{Reply}
 use Rattle.bw_lang.specs.declared.service.Service.{Service}
 use Rattle.bw_model.specs.Runs.{At, Turn, Turns, Stops, Run, wants, answer_of}
-use Rattle.bw_answer.specs.Answers.{Place, IsAt, Answers, bytes_by}
+use Rattle.bw_answer.specs.Answers.{Place, Answers, bytes_by}
 use Rattle.bw_answer.specs.Steps.Turns.{Goes, Stands}
 use Rattle.bw_answer.specs.declared.outcomes.Next.{Next}
 use Rattle.bw_answer.specs.declared.outcomes.Next.TheVariants as nexts

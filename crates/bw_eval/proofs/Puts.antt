@@ -1,10 +1,10 @@
 -- A value put in the place of another.
-use Rattle.std.proofs.Common.{◌≡◌, ℕ, zero, suc, ◌+◌, ◌<◌, ◌≤◌, Bool, true, false, cond, arith, List, [], ◌∷◌, map, length, Option, Some, None, refl, ap}
-use Rattle.std.proofs.Common.{sym, ◌∙◌, get_or, slice_set, ltb}
+use Rattle.std.proofs.Common.{◌≡◌, ℕ, zero, suc, ◌+◌, ◌<◌, ◌≤◌, Bool, true, false, cond, arith, List, [], ◌∷◌, map, length, Some, None, refl, ap}
+use Rattle.std.proofs.Common.{◌∙◌, get_or, slice_set}
 use Rattle.std.specs.Prelude.{not, nat_lt, if◌then◌else◌, position}
-use Rattle.std.specs.List.{position_or_len, All}
+use Rattle.std.specs.List.{position_or_len}
 use Rattle.std.proofs.lemmas.Bool.{ltb-true, lt-ltb}
-use Rattle.std.proofs.lemmas.List.Elements.{All-nil, All-cons, All-head, All-tail}
+use Rattle.std.proofs.lemmas.List.Elements.{All-cons, All-head, All-tail}
 use Rattle.bw_lang.specs.declared.service.Template.{Template}
 use Rattle.bw_lang.specs.Table.Names.{same}
 use Rattle.bw_meaning.specs.Values as meaning

@@ -6,7 +6,7 @@ use Rattle.bw_lang.specs.declared.items.Attr.{Attr}
 use Rattle.bw_lang.specs.declared.items.AttrValue.{AttrValue}
 use Rattle.bw_lang.specs.declared.controls.FieldKind.{FieldKind}
 use Rattle.bw_lang.specs.declared.controls.FieldKind.TheVariants.{Single}
-use Rattle.bw_lang.specs.Document.Forest.{Forest, element}
+use Rattle.bw_lang.specs.Document.Forest.{Forest}
 use Rattle.std.specs.List.{list_any}
 use Rattle.std.specs.Prelude.{◌==◌}
 use Rattle.bw_lang.specs.Table.Names.{same, name_number}

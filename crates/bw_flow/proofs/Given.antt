@@ -3,12 +3,12 @@ use Rattle.std.proofs.Common.{◌≡◌, ◌⊎◌, ℕ, zero, suc, Bool, true, 
 use Rattle.std.proofs.Common.{inr}
 use Rattle.std.specs.Prelude.{slice_get, find}
 use Rattle.std.specs.Option.{option_map, option_or}
-use Rattle.std.specs.Cmp.Lexicographic.{same_text}
 use Rattle.std.proofs.lemmas.Cmp.{nat_list_eq_equiv}
 use Rattle.std.proofs.lemmas.List.Elements.{All-weaker}
 use Rattle.bw_lang.specs.declared.service.Service.{Service}
 use Rattle.bw_lang.specs.declared.stmt.Kind.{Kind}
 use Rattle.bw_lang.specs.Table.Names.{same}
+use Rattle.bw_types.proofs.Seek.{same_is}
 use Rattle.bw_types.specs.Scopes.{shared_kind}
 use Rattle.bw_flow.specs.declared.point.Local.{Local}
 use Rattle.bw_flow.specs.Layout.{points, plan_of}
@@ -21,9 +21,6 @@ use Rattle.bw_flow.proofs.Parts.{holds_self}
 use Rattle.bw_flow.proofs.Stands.{length_sessions}
 use Rattle.bw_flow.proofs.Typed.{AllGoWell, goes_well_at, sessions_typed}
 
-exact : (x y : List ℕ) → same x y ≡ true → x ≡ y
-exact x y e = same_text x y (sym e)
-
 -- a variable has one kind at a place
 one_kind : (o : Option Kind) (a b : Kind) → o ≡ Some a → o ≡ Some b → a ≡ b
 one_kind o a b x y = let e : Some a ≡ Some b = sym x ∙ y in cc
@@ -35,13 +32,13 @@ no_kind o k x y = absurd (let e : Some k ≡ None = sym x ∙ y in cc)
 given_known : (service : Service) (w : List ℕ) (k : Kind) (x : Step) (act : Act) → kind_at service x.scope w ≡ Some k → IsTypedAct service x.scope act
     → IsGivenOf service w k x act
 given_known service w k x (sets v e) at (j, value, inl h) = λ s.
-    subst (λ i. HasKindAt service x.scope e i) (one_kind (kind_at service x.scope w) j k (ap (kind_at service x.scope) (sym (exact v w s)) ∙ h) at) value
-given_known service w k x (sets v e) at (j, value, inr h) = λ s. no_kind (kind_at service x.scope w) k at (ap (kind_at service x.scope) (sym (exact v w s)) ∙ h)
+    subst (λ i. HasKindAt service x.scope e i) (one_kind (kind_at service x.scope w) j k (ap (kind_at service x.scope) (sym (same_is v w s)) ∙ h) at) value
+given_known service w k x (sets v e) at (j, value, inr h) = λ s. no_kind (kind_at service x.scope w) k at (ap (kind_at service x.scope) (sym (same_is v w s)) ∙ h)
 given_known service w k x (tests e) at t = tt
-given_known service w k x (goes_over v e) at t = λ s. no_kind (kind_at service x.scope w) k at (ap (kind_at service x.scope) (sym (exact v w s)) ∙ t.0)
+given_known service w k x (goes_over v e) at t = λ s. no_kind (kind_at service x.scope w) k at (ap (kind_at service x.scope) (sym (same_is v w s)) ∙ t.0)
 given_known service w k x (shows e rs) at t =
     All-weaker (IsTypedReceive service x.scope) (λ r. same r.target w ≡ true → r.kind ≡ k)
-    (λ r i s. one_kind (kind_at service x.scope w) r.kind k (ap (kind_at service x.scope) (sym (exact r.target w s)) ∙ i.0) at) rs t.1
+    (λ r i s. one_kind (kind_at service x.scope w) r.kind k (ap (kind_at service x.scope) (sym (same_is r.target w s)) ∙ i.0) at) rs t.1
 given_known service w k x (exits e) at t = tt
 given_known service w k x joins at t = tt
 
@@ -106,7 +103,7 @@ kind_found (x ∷ xs) w k e = by (same w x.name) refl e (kind_found xs w k)
     by : (b : Bool) → same w x.name ≡ b → option_map (λ (z : Local). z.kind) (cond b (Some x) (find (λ z. same w z.name) xs)) ≡ Some k
         → (kind_in xs w ≡ Some k → (i : ℕ) × (l : Local) × (slice_get xs i ≡ Some l) × (l.name ≡ w))
         → (i : ℕ) × (l : Local) × (slice_get (x ∷ xs) i ≡ Some l) × (l.name ≡ w)
-    by true s h more = (0, x, refl, sym (exact w x.name s))
+    by true s h more = (0, x, refl, sym (same_is w x.name s))
     by false s h more = let r = more h in (suc r.0, r.1, r.2, r.3)
 
 no_local : (service : Service) (scope : List Local) (w : List ℕ) (k : Kind) → AreNames service scope → shared_kind service w ≡ Some k → kind_in scope w ≡ None

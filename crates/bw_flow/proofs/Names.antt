@@ -4,7 +4,6 @@ use Rattle.std.proofs.Common.{inr, arith}
 use Rattle.std.specs.Prelude.{◌≢◌, slice_get, find, if◌then◌else◌}
 use Rattle.std.specs.List.{AllPairs, Contains}
 use Rattle.std.specs.Option.{option_map, option_or}
-use Rattle.std.specs.Cmp.Lexicographic.{same_text}
 use Rattle.std.proofs.lemmas.Cmp.{nat_list_eq_equiv}
 use Rattle.std.proofs.lemmas.List.Elements.{Contains-append_left, Contains-append_right, Contains-push}
 use Rattle.bw_lang.specs.declared.declaration.Declaration.{Declaration}
@@ -16,6 +15,7 @@ use Rattle.bw_lang.specs.Table.Names.{same, beside}
 use Rattle.bw_lang.specs.Service.Order.{declarations_of}
 use Rattle.bw_lang.specs.Service.Sorted.{shared_of}
 use Rattle.bw_lang.specs.Service.Term.{Term, int, truth, string, name, nothing, paren, not, neg, binary, call, plug, Fillings, no_more, filling}
+use Rattle.bw_types.proofs.Seek.{same_is}
 use Rattle.bw_types.specs.Scopes.{Scope, no_locals, name_of, declared_names, shared_kind, variable_kind, template_kind, name_kind, with_local}
 use Rattle.bw_types.specs.Typing.{HasKind, AreTyped, IsNew, IsTypedService}
 use Rattle.bw_flow.proofs.Parts.{either}
@@ -24,9 +24,6 @@ use Rattle.bw_flow.specs.Scopes as flow
 use Rattle.bw_flow.specs.Scopes.{kind_in}
 use Rattle.bw_flow.specs.TypedFlow.{names_at, kind_at, HasKindAt, AreNames}
 use Rattle.bw_lang.specs.Service.Order.{IsWoven}
-
-exact : (x y : List ℕ) → same x y ≡ true → x ≡ y
-exact x y e = same_text x y (sym e)
 
 -- ---- shared variables among the declarations of a service
 
@@ -50,14 +47,14 @@ shared_named (declarations.Shared v ∷ ds) w k e = by (either (same w v.name)) 
     rest = map (λ u. (u.name, u.kind)) (shared_of ds)
 
     by : (same w v.name ≡ true) ⊎ (same w v.name ≡ false) → (beside w rest ≡ Some k → Contains (map name_of ds) w) → Contains (v.name ∷ map name_of ds) w
-    by (inl h) more = (0, omega arith, sym (exact w v.name h))
+    by (inl h) more = (0, omega arith, sym (same_is w v.name h))
     by (inr h) more = Contains-append_right (v.name ∷ []) (map name_of ds) w (more (sym (beside_there w (v.name, v.kind) rest h) ∙ e))
 
 pub tail_pairs : (x : List ℕ) (xs : List (List ℕ)) → AllPairs (λ v w. v ≢ w) (x ∷ xs) → AllPairs (λ v w. v ≢ w) xs
 tail_pairs x xs h i j d lt l = h (suc i) (suc j) d (omega arith) (omega arith)
 
 pub head_differs : (x : List ℕ) (xs : List (List ℕ)) (w : List ℕ) → AllPairs (λ v w. v ≢ w) (x ∷ xs) → Contains xs w → same w x ≡ true → ⊥
-head_differs x xs w h c e = let lt = c.1 in h 0 (suc c.0) w (omega arith) (omega arith) (sym (c.2 ∙ exact w x e))
+head_differs x xs w h c e = let lt = c.1 in h 0 (suc c.0) w (omega arith) (omega arith) (sym (c.2 ∙ same_is w x e))
 
 shared_found : (ds : List Declaration) → AllPairs (λ v w. v ≢ w) (map name_of ds) → (j : ℕ) (v : Shared) → slice_get (shared_of ds) j ≡ Some v
     → beside v.name (map (λ u. (u.name, u.kind)) (shared_of ds)) ≡ Some v.kind
@@ -204,7 +201,7 @@ matches_new service scope sc w k woven m new =
     seen v (inl h) =
         beside_here v (w, k) scope.locals h
         ∙ sym (ap (λ (b : Bool). option_or (kind_in sc v) (if b then Some k else None)) h
-        ∙ ap (λ o. option_or o (Some k)) (ap (kind_in sc) (exact v w h) ∙ unknown service scope sc w m new))
+        ∙ ap (λ o. option_or o (Some k)) (ap (kind_in sc) (same_is v w h) ∙ unknown service scope sc w m new))
     seen v (inr h) =
         beside_there v (w, k) scope.locals h ∙ m.kinds v
         ∙ sym (ap (λ (b : Bool). option_or (kind_in sc v) (if b then Some k else None)) h ∙ same_or (kind_in sc v))
@@ -215,7 +212,7 @@ matches_new service scope sc w k woven m new =
 
     took : (v : List ℕ) (j : Kind) → (same v w ≡ true) ⊎ (same v w ≡ false) → option_or (kind_in sc v) (if same v w then Some k else None) ≡ Some j →
         Contains (scope.taken ++ w ∷ []) v
-    took v j (inl h) e = subst (λ z. Contains (scope.taken ++ w ∷ []) z) (sym (exact v w h)) (Contains-push scope.taken w)
+    took v j (inl h) e = subst (λ z. Contains (scope.taken ++ w ∷ []) z) (sym (same_is v w h)) (Contains-push scope.taken w)
     took v j (inr h) e = Contains-append_left scope.taken (w ∷ []) v
         (old (kind_in sc v) refl (ap (λ (b : Bool). option_or (kind_in sc v) (if b then Some k else None)) (sym h) ∙ e))
       where

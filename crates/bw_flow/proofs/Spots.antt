@@ -9,7 +9,7 @@ use Rattle.bw_lang.specs.declared.service.Service.{Service}
 use Rattle.bw_flow.specs.declared.point.Local.{Local}
 use Rattle.bw_flow.specs.Flows.{is_join}
 use Rattle.bw_flow.specs.Layout.{count, enter, step, steps, points, session_steps}
-use Rattle.bw_flow.specs.Leads.{statement, meeting, from, spot_of, SpotsDiffer}
+use Rattle.bw_flow.specs.Leads.{statement, meeting, spot_of, SpotsDiffer}
 use Rattle.bw_flow.specs.Scopes.{with_local}
 use Rattle.bw_flow.specs.Steps.{joins, Step}
 use Rattle.bw_flow.proofs.Parts.{either}

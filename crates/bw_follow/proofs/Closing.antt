@@ -1,5 +1,5 @@
 -- Statements that end in `exit`.
-use Rattle.std.proofs.Common.{◌≡◌, Bool, true, false, refl}
+use Rattle.std.proofs.Common.{◌≡◌, false, refl}
 use Rattle.bw_lang.specs.Service.Code.{Code, done, declare, assign, if_then, if_else, while_loop, block, for_each, show, exit}
 use Rattle.bw_types.specs.Faults.{ends_in_exit}
 use Rattle.bw_flow.proofs.Shut.{closes}

@@ -10,7 +10,7 @@ use Rattle.bw_lang.specs.declared.service.Service.{Service}
 use Rattle.bw_lang.specs.declared.service.Session.{Session}
 use Rattle.bw_lang.specs.declared.turn.TurnFault.{TurnFault}
 use Rattle.bw_lang.specs.Service.Code.{Code, done, declare, assign, if_then, if_else, while_loop, block, for_each, show, exit, numbered}
-use Rattle.bw_flow.specs.Layout.{points, session_firsts, plan_of}
+use Rattle.bw_flow.specs.Layout.{points, plan_of}
 use Rattle.bw_flow.specs.Stands.{Lowered, AllLowered}
 use Rattle.bw_types.specs.Faults.{ends_in_exit}
 use Rattle.std.specs.List.{All}

@@ -1,5 +1,5 @@
 -- What is due of a stream comes.
-use Rattle.std.proofs.Common.{◌≡◌, ℕ, ◌+◌, ◌⊎◌, List, [], ◌∷◌, ◌++◌, length, refl, sym, ap, ◌∙◌, subst, arith, append-nil, inl, inr, Result, Ok, Err, rules}
+use Rattle.std.proofs.Common.{◌≡◌, ℕ, ◌⊎◌, List, [], ◌∷◌, ◌++◌, length, refl, sym, ap, ◌∙◌, subst, arith, append-nil, inl, inr, Result, Ok, Err, rules}
 use Rattle.std.proofs.lemmas.List.{length-append, nil_from_length}
 use Rattle.httparse.specs.Grammar.{RequestHead, IsRequestHead, lf, is_token_byte, print_request, NeverHasRequest}
 use Rattle.std.proofs.lemmas.Str.{IsUtf8-from_ascii}

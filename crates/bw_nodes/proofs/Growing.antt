@@ -1,42 +1,12 @@
 -- Lists whose values become more.
-use Rattle.std.proofs.Common.{
-  ◌≡◌,
-  ◌≢◌,
-  ◌⊎◌,
-  inl,
-  inr,
-  ℕ,
-  ◌+◌,
-  ◌<◌,
-  ◌==◌,
-  Bool,
-  true,
-  false,
-  not,
-  if◌then◌else◌,
-  List,
-  [],
-  ◌∷◌,
-  ◌++◌,
-  length,
-  set,
-  take,
-  get_or,
-  append_assoc,
-  refl,
-  ap,
-  sym,
-  ◌∙◌,
-  subst,
-  arith,
-}
+use Rattle.std.proofs.Common.{◌≡◌, ◌≢◌, inl, inr, ℕ, ◌+◌, ◌<◌, ◌==◌, Bool, true, false, if◌then◌else◌, List, [], ◌∷◌, ◌++◌, length, set, take, get_or, append_assoc, refl, ap, sym, ◌∙◌, subst, arith}
 use Rattle.std.proofs.lemmas.List.{get_or-set_same, get_or-set_other, length-set, take_more, append-nil}
 use Rattle.std.proofs.lemmas.Bool.{false≢true, cases_Bool}
 use borrow.Author.Tests.{eqb-true, eq-eqb}
 use Rattle.bw_strings.specs.declared.strings.StrSet.{StrSet}
 use Rattle.bw_strings.specs.Asking.{blank}
-use Rattle.bw_nodes.specs.Nodes.{Node, no_node, node_at}
-use Rattle.bw_nodes.specs.Parts.{links_of, opens_of, sayings_of, gaps_of, wordy_of, grown, link_part, open_part, said_part, Grows, GrowsNodes, GrowsSaid}
+use Rattle.bw_nodes.specs.Nodes.{Node}
+use Rattle.bw_nodes.specs.Parts.{links_of, opens_of, sayings_of, gaps_of, wordy_of, link_part, open_part, said_part, Grows, GrowsNodes, GrowsSaid}
 
 pub grows_then : {T : Type 0} {op : T → T → T} {d : T} {a b c : List T} {f g : ℕ → T} (h : ℕ → T) → Grows op d a b f → Grows op d b c g
     → ((n : ℕ) (x : T) → op (op x (f n)) (g n) ≡ op x (h n)) → Grows op d a c h

@@ -4,7 +4,6 @@ use Rattle.bw_lang.specs.declared.pieces.Piece.{Piece}
 use Rattle.bw_lang.specs.declared.pieces.Piece.TheVariants as piece
 use Rattle.bw_lang.specs.declared.pieces.Tag.{Tag}
 use Rattle.bw_lang.specs.Template.Controls.{fields, field_of}
-use Rattle.bw_lang.specs.Document.Documents.{elements}
 use Rattle.bw_lang.specs.Document.Forest.{Forest, none, text, gap, element}
 use Rattle.bw_lang.specs.Template.PieceItems.{ReadsPieces}
 use Rattle.bw_lang.specs.Template.Pieces.{Each, IsPiece, begins_with_text, Apart, SpellsPieces}

@@ -1,6 +1,6 @@
 -- With the kinds that are due at a place, what a point does there can be done, and the kinds are those that are due at the next.
-use Rattle.std.proofs.Common.{◌≡◌, ℕ, List, [], length, take, map, Some, refl, sym, ap, ◌∙◌, subst}
-use Rattle.std.specs.Prelude.{Result, Ok, slice_get}
+use Rattle.std.proofs.Common.{◌≡◌, ℕ, List, length, take, sym, ap, ◌∙◌, subst}
+use Rattle.std.specs.Prelude.{Result, Ok}
 use Rattle.std.proofs.lemmas.List.Elements.{All-nil}
 use Rattle.bw_lang.specs.declared.service.Service.{Service}
 use Rattle.bw_lang.specs.declared.stmt.Kind.{Kind}

@@ -1,33 +1,5 @@
 -- Loops over lines, marks and formulas.
-use Rattle.std.proofs.Common.{
-  ◌≡◌,
-  ℕ,
-  ◌+◌,
-  ◌<◌,
-  ◌≤◌,
-  Bool,
-  true,
-  false,
-  ◌||◌,
-  List,
-  [],
-  ◌∷◌,
-  ◌++◌,
-  length,
-  get_or,
-  take,
-  drop,
-  map,
-  Option,
-  Some,
-  None,
-  refl,
-  ap,
-  sym,
-  ◌∙◌,
-  arith,
-  append_assoc,
-}
+use Rattle.std.proofs.Common.{◌≡◌, ℕ, ◌+◌, ◌<◌, ◌≤◌, Bool, true, false, ◌||◌, List, [], ◌∷◌, ◌++◌, length, get_or, take, drop, Option, Some, None, refl, ap, sym, ◌∙◌, arith, append_assoc}
 use Rattle.std.specs.Prelude.{flat_map, if◌then◌else◌}
 use Rattle.std.specs.List.{list_any}
 use Rattle.std.proofs.lemmas.List.{take_more, drop_more, append-nil}
@@ -40,12 +12,11 @@ use Rattle.bw_schema.specs.Needs.{Needs, nothing, all_of, some_of, attr, one_val
 use Rattle.bw_schema.specs.declared.marks.Kind.TheVariants as kinds
 use Rattle.bw_schema.specs.NeedsView.{before_need, needs}
 use Rattle.bw_schema.specs.Steps.Reading.{line_of, lines_of}
-use Rattle.bw_schema.specs.RulesOf.{bare, has_of, is_text, may_of, must_of, needs_of, own, rule_with, rules_of, values_of, with_line}
+use Rattle.bw_schema.specs.RulesOf.{has_of, is_text, may_of, must_of, needs_of, own, rules_of, values_of, with_line}
 use Rattle.bw_schema.specs.declared.lines.Line.{Line}
 use Rattle.bw_schema.specs.declared.lines.Line.TheVariants.{Element, May, Must, Value, Has, Text, Need}
 use Rattle.bw_schema.specs.declared.marks.Mark.{Mark as Held}
 use Rattle.bw_schema.specs.declared.needs.Formula.{Formula}
-use Rattle.bw_schema.specs.declared.needs.Formula.TheVariants as formula
 use Rattle.bw_schema.specs.declared.rules.Rule.{Rule}
 use Rattle.bw_schema.proofs.FormulaLoops.{append-nothing, append_one}
 use Rattle.bw_schema.proofs.Lists.{drop_past}

@@ -1,5 +1,5 @@
 -- A text reads as one schema, or is refused for one reason.
-use Rattle.std.proofs.Common.{◌≡◌, ◌≢◌, ℕ, ◌⊎◌, inl, inr, Bool, true, false, List, [], Ok, Err, refl, ap, sym, ◌∙◌, arith}
+use Rattle.std.proofs.Common.{◌≡◌, ◌≢◌, ℕ, ◌⊎◌, inl, inr, Bool, true, false, List, Ok, Err, refl, ap, sym, ◌∙◌, arith}
 use Rattle.std.proofs.lemmas.Bool.{false≢true}
 use Rattle.bw_schema.specs.Laws.{OneSchema, NotBoth, OneReason, ReadOrRefused}
 use Rattle.bw_schema.specs.Steps.Reading.{read}

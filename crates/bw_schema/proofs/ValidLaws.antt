@@ -1,6 +1,6 @@
 -- Laws of validity.
 use Rattle.std.proofs.Common.{◌≡◌, ℕ, Bool, true, false, ◌||◌, ◌&&◌, not, List, [], ◌∷◌, Option, Some, None, IfSome, refl, ap, sym, ◌∙◌}
-use Rattle.std.specs.List.{list_all, list_any}
+use Rattle.std.specs.List.{list_all}
 use Rattle.bw_lang.specs.declared.items.Attr.{Attr}
 use Rattle.bw_lang.specs.declared.items.AttrValue.{AttrValue}
 use Rattle.bw_lang.specs.declared.items.AttrValue.TheVariants.{Fixed, Hole}
@@ -8,9 +8,7 @@ use Rattle.bw_lang.specs.Document.Forest.{Forest, none, text, gap, element}
 use Rattle.bw_lang.specs.Table.Names.{same}
 use Rattle.bw_lang.specs.Document.Documents.{close, closed_attrs, keep_fixed}
 use Rattle.bw_schema.specs.declared.rules.Rule.{Rule}
-use Rattle.bw_schema.specs.declared.schema.Schema.{Schema}
-use Rattle.bw_schema.specs.Words.{is_among, is_blank}
-use Rattle.bw_schema.specs.Rules.{allows, permits, rule_of}
+use Rattle.bw_schema.specs.Rules.{rule_of}
 use Rattle.bw_schema.specs.Needs.{Needs, nothing, all_of, some_of, attr, one_value, content, order}
 use Rattle.bw_schema.specs.Validity as v
 use Rattle.bw_schema.specs.Laws.{ValidClosed}

@@ -1,6 +1,5 @@
 -- Tags that are in a table.
-use Rattle.std.proofs.Common.{ℕ, ◌≤◌, List, length, ap, arith}
-use Rattle.std.proofs.lemmas.List.{length-append}
+use Rattle.std.proofs.Common.{ℕ, List, arith}
 use Rattle.bw_lang.specs.Document.Forest.{Forest, none, text, gap, element}
 use Rattle.bw_lang.specs.Document.Documents.{append}
 use Rattle.bw_lang.specs.Table.Names.{Extends}

@@ -15,7 +15,6 @@ use Rattle.bw_sum.specs.Labels.{pair_cmp, AreLabels, labels_rank}
 use Rattle.bw_sum.specs.Edges.{edge_cmp}
 use Rattle.bw_sum.specs.Laws.{RankIsBounded}
 use Rattle.bw_sum.specs.Small.{IsSmall1, IsSmall2, IsSmall3, IsSmallLabel}
-use Rattle.bw_sum.specs.declared.summary.Summary.{Summary}
 
 -- a set is no longer than the numbers that its members are coded by
 few_by : {T : Type 0} {cmp : T → T → Ordering} (P : T → Type 0) (code : T → ℕ) (n : ℕ) → ((x y : T) → P x → P y → cmp x y ≡ Less → code x < code y)

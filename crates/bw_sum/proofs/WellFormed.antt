@@ -16,14 +16,14 @@ use Rattle.bw_solve.specs.SetLaws.{merge_set, merge_all, IsSet-prop}
 use Rattle.bw_strings.specs.declared.strings.StrSet.{StrSet}
 use Rattle.bw_strings.specs.declared.strings.StrSet.TheVariants.{Any, Of}
 use Rattle.bw_strings.specs.Strings as strings
-use Rattle.bw_sum.specs.Constants.{tracked, lacked, constant_of}
+use Rattle.bw_sum.specs.Constants.{tracked, lacked}
 use Rattle.bw_sum.specs.Edges.{edge_cmp, edges_from, edges_at}
 use Rattle.bw_sum.specs.Opening.{opens}
 use Rattle.bw_sum.specs.Labels.{pair_cmp, AreLabels}
 use Rattle.bw_sum.specs.LabelLaws.{pair_cmp_total, labels_lattice}
 use Rattle.bw_sum.specs.Laws.{WellFormedAreAlike, ConstantIsWellFormed, JoinIsWellFormed, PlugIsWellFormed, PlugTextIsWellFormed}
 use Rattle.bw_sum.specs.Small.{IsSmall, IsSmall1, IsSmall2, IsSmall3, IsSmallLabel, IsWellFormed}
-use Rattle.bw_sum.specs.Summaries.{AreAlike, both, plugged, plugged_text}
+use Rattle.bw_sum.specs.Summaries.{AreAlike, both}
 use Rattle.bw_sum.specs.SummaryLaws.{edge_cmp_total, summary_lattice}
 use Rattle.bw_sum.specs.declared.summary.Summary.{Summary}
 use Rattle.bw_sum.proofs.GraphLaws.{new_are}

@@ -1,5 +1,5 @@
 -- Summaries that can be held: well formed, with numbers of 32 bits.
-use Rattle.std.specs.Prelude.{ℕ, ◌+◌, ◌*◌, ◌^◌, ◌<◌, List}
+use Rattle.std.specs.Prelude.{ℕ, ◌+◌, ◌*◌, ◌^◌, ◌<◌}
 use Rattle.std.specs.List.{AllByRecursion}
 use Rattle.bw_strings.specs.declared.strings.StrSet.{StrSet}
 use Rattle.bw_sum.specs.Summaries.{AreAlike}

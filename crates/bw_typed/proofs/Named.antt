@@ -1,8 +1,7 @@
 -- The names of templates and gaps in a typed service stand for what it has.
 use Rattle.std.proofs.Common.{◌≡◌, ℕ, ◌+◌, ◌<◌, Bool, true, false, cond, List, [], ◌∷◌, map, length, Some, None, refl, ap, sym, arith}
-use Rattle.std.specs.Prelude.{◌||◌, not, nat_lt, position, if◌then◌else◌, is_some}
+use Rattle.std.specs.Prelude.{◌||◌, not, position, if◌then◌else◌, is_some}
 use Rattle.std.specs.List.{position_or_len}
-use Rattle.std.proofs.lemmas.Bool.Decides.{nat_tests}
 use Rattle.std.proofs.lemmas.List.Elements.{All-map, All-contains, All-weaker}
 use Rattle.bw_lang.specs.declared.service.Literal.{Literal}
 use Rattle.bw_lang.specs.declared.service.Literal.TheVariants as literals

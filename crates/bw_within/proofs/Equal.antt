@@ -27,14 +27,10 @@ use Rattle.bw_analyse.specs.declared.abstracts.Abstract.{Abstract}
 use Rattle.bw_analyse.specs.declared.abstracts.Abstract.TheVariants.{Nothing, Str, Html}
 use Rattle.bw_analyse.specs.Abstracts.{AreAlike, is_below}
 use Rattle.bw_analyse.specs.Rows.{EachAlike, each_below}
+use Rattle.bw_analyse.specs.StepLaws.{is_true}
 use Rattle.bw_analyse.proofs.PlugLaws.{pair_exact, edge_exact}
 
 -- ---- sets
-
-is_true : (b c : Bool) → (b ≡ true → c ≡ true) → (c ≡ true → b ≡ true) → b ≡ c
-is_true true c f g = sym (f refl)
-is_true false true f g = g refl
-is_true false false f g = refl
 
 within_equal : {T : Type 0} {cmp : T → T → Ordering} → IsTotalOrder cmp → CmpEqualImpliesEq cmp → (xs ys : List T) → IsSet cmp xs → IsSet cmp ys
     → is_within cmp xs ys ≡ true → is_within cmp ys xs ≡ true → xs ≡ ys

@@ -3,7 +3,7 @@ use Rattle.bigwig.specs.Asked.{accepted_file, service_file, checked_by, schema, 
 use Rattle.bigwig.specs.Checks.{ruled_by}
 use Rattle.bigwig.proofs.Answering.{told_first, told_next}
 use Rattle.bigwig.proofs.Pages.{if_told}
-use Rattle.bigwig.proofs.Stops.{told_handed, shows_handed}
+use Rattle.bigwig.proofs.Stops.{told_handed}
 use Rattle.bigwig.proofs.checking.load_checked.Goals as goal
 
 pub returns-in_err-typed-clause-answers : goal.returns-in_err-typed-clause-answers

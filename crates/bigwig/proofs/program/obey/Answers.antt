@@ -1,8 +1,6 @@
 use Rattle.bigwig.specs.Asked.{work}
-use Rattle.bigwig.specs.Commands.{IsInRange}
 use Rattle.bigwig.specs.Outcomes.{outside}
 use Rattle.bigwig.specs.declared.command.Command.TheVariants.{Check, Replay, Valid, Make}
-use Rattle.std.proofs.Common.{subst}
 use Rattle.bigwig.proofs.Endings.{of_command, speaks_comes, replies_comes}
 use Rattle.bigwig.proofs.Sending.{made_speaks}
 use Rattle.bigwig.proofs.program.obey.Goals as goal

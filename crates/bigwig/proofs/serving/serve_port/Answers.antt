@@ -1,4 +1,3 @@
-use Rattle.std.proofs.Common.{refl}
 use Rattle.bigwig.specs.Outcomes.{outside}
 use Rattle.bigwig.proofs.Replies.{no_port_comes, no_line_comes, serving_comes}
 use Rattle.bigwig.proofs.serving.serve_port.Goals as goal

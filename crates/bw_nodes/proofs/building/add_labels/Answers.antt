@@ -1,4 +1,4 @@
-use Rattle.std.proofs.Common.{arith, ap, ℕ, sym, ◌∙◌, subst}
+use Rattle.std.proofs.Common.{arith, ap, ℕ, sym, subst}
 use Rattle.bw_strings.specs.declared.strings.StrSet.{StrSet}
 use Rattle.bw_strings.specs.Asking.{AreLiterals}
 use Rattle.bw_nodes.proofs.Growing.{said_more, saying_more}

@@ -1,4 +1,4 @@
-use Rattle.std.proofs.Common.{◌≡◌, replicate, []}
+use Rattle.std.proofs.Common.{◌≡◌, replicate}
 use Rattle.bw_nodes.specs.Nodes.{no_node}
 use Rattle.bw_nodes.proofs.building.fresh_nodes.Given as goal
 

@@ -1,4 +1,4 @@
-use Rattle.std.proofs.Common.{arith, ap, ◌∙◌, sym, subst}
+use Rattle.std.proofs.Common.{arith, ap, ◌∙◌, sym}
 use Rattle.bw_lang.specs.Document.Documents.{elements}
 use Rattle.bw_lang.specs.Document.Forest.{forest_size}
 use Rattle.bw_valid.specs.Breaches.{first_broken}

@@ -1,4 +1,4 @@
-use Rattle.std.proofs.Common.{◌≤◌, ℕ, [], length, arith}
+use Rattle.std.proofs.Common.{[], arith}
 use Rattle.bw_lang.specs.Template.Templates.{IsTemplate}
 use Rattle.bw_lang.proofs.Weights.{parts_weigh}
 use Rattle.bw_tmpl.proofs.Weights.{items_bounded}

@@ -1,4 +1,4 @@
-use Rattle.std.proofs.Common.{◌≡◌, ap, sym, ◌∙◌, subst}
+use Rattle.std.proofs.Common.{ap, sym, ◌∙◌, subst}
 use Rattle.std.specs.Prelude.{Ok, option_map}
 use Rattle.bw_eval.specs.Sound.{IsSound}
 use Rattle.bw_eval.specs.View.{value}

@@ -1,4 +1,4 @@
-use Rattle.std.proofs.Common.{◌≡◌, ap, sym, ◌∙◌}
+use Rattle.std.proofs.Common.{ap, sym, ◌∙◌}
 use Rattle.std.specs.Prelude.{Ok, pos}
 use Rattle.bw_meaning.specs.Values.{number}
 use Rattle.bw_types.specs.Scopes.{template_of}

@@ -1,9 +1,8 @@
-use Rattle.std.proofs.Common.{◌≡◌, ap, sym, ◌∙◌, map, subst}
+use Rattle.std.proofs.Common.{ap, sym, ◌∙◌, subst}
 use Rattle.std.specs.Prelude.{position}
 use Rattle.bw_lang.specs.Table.Names.{same}
 use Rattle.bw_eval.specs.Sound.{AreSound}
 use Rattle.bw_eval.specs.View.{values}
-use Rattle.bw_eval.proofs.Lookups.{pair}
 use Rattle.bw_eval.proofs.Puts.{put, put_there, put_nowhere, put_values, put_sound}
 use Rattle.bw_eval.proofs.values.Values.replace.Goals as goal
 

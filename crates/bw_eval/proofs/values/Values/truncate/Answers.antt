@@ -1,4 +1,4 @@
-use Rattle.std.proofs.Common.{◌≡◌, ℕ, zero, suc, List, [], ◌∷◌, take, map, refl, sym, ap, ◌∙◌}
+use Rattle.std.proofs.Common.{◌≡◌, ℕ, zero, suc, List, [], ◌∷◌, take, map, refl, ap, ◌∙◌}
 use Rattle.bw_eval.specs.declared.values.Variable.{Variable}
 use Rattle.bw_eval.proofs.Lookups.{pair}
 use Rattle.bw_eval.proofs.values.Values.truncate.Goals as goal

@@ -1,4 +1,4 @@
-use Rattle.std.proofs.Common.{◌≡◌, List, [], ◌∷◌, ◌++◌, map, ap, sym, ◌∙◌}
+use Rattle.std.proofs.Common.{◌≡◌, List, [], ◌∷◌, ◌++◌, map, ap, ◌∙◌}
 use Rattle.std.specs.List.{list_any}
 use Rattle.bw_schema.specs.MarkView.{mark_of}
 use Rattle.bw_schema.specs.Marks.{Mark, mark, same_mark}
