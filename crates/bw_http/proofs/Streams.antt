@@ -40,7 +40,7 @@ use Rattle.std.proofs.lemmas.List.Folds.{prefix_len-append}
 use Rattle.std.proofs.lemmas.Bool.{eqb-true, cases_lt}
 use Rattle.std.specs.List.{count_by, prefix_len}
 use Rattle.std.specs.Io.KnownBytes.{Consumes}
-use Rattle.httparse.specs.Grammar.{RequestHead, print_request, ReadsRequest, NeverHasRequest}
+use Rattle.httparse.specs.Grammar.{RequestHead, print_request, ReadsRequest, HasNoRequest, NeverHasRequest}
 use Rattle.httparse.specs.Pieces.{is_newline}
 use Rattle.httparse.proofs.GrammarLemmas.{request_unique, ReadsRequest-append}
 use Rattle.bw_http.specs.declared.request.ReadOutcome.{ReadOutcome}
@@ -60,11 +60,11 @@ use Rattle.bw_http.specs.declared.request.ReadOutcome.TheVariants.{
 }
 use Rattle.bw_http.specs.declared.decide.Decision.TheVariants.{Refused, Body}
 use Rattle.bw_http.specs.declared.request.Request.{Request}
-use Rattle.bw_http.specs.Heads.{is_line_feed, skip_newlines, line_count, BeginsWith, HasNoHead, IsTooLong}
+use Rattle.bw_http.specs.Heads.{is_line_feed, skip_newlines, line_count, BeginsWith, HasNoHead, IsOverLimits, IsTooLong}
 use Rattle.bw_http.specs.Decisions.{decide}
 use Rattle.bw_http.proofs.Heads.{line_count-head}
 use Rattle.bw_http.proofs.LookingAgain.{head_in_front}
-use Rattle.bw_http.specs.Messages.{IsMessage, IsDenied, IsShort, IsRefusal, IsOutcome, ComesOf}
+use Rattle.bw_http.specs.Messages.{IsMessage, IsDenied, IsSettled, IsShort, IsRefusal, IsOutcome, ComesOf}
 use Rattle.bw_http.specs.Cuts.{AtFront, CutsAs, Cut, Tells}
 
 -- ---- more bytes behind a head
@@ -150,6 +150,14 @@ front_in_head front more h rest b longer =
     = sym (take-append-le n (print_request h) rest (omega arith)) ∙ ap (take n) (sym b.reads.1) ∙ take_at front more n refl in
     sym (take-append-drop n (print_request h)) ∙ ap (λ (t : List ℕ). t ++ drop n (print_request h)) start
 
+-- what passes a limit passes it whatever follows
+limits_grow : (front more : List ℕ) → IsOverLimits front → IsOverLimits (front ++ more)
+limits_grow front more over =
+    elim over [
+      | inl bytes ↦ inl (omega (arith, bytes, length-append front more))
+      | inr lines ↦ inr (omega (arith, lines, lines_grow front more))
+    ]
+
 -- a front without a head and over the limits has none, whatever follows
 pub too_long_stays : (front more : List ℕ) → IsTooLong front → HasNoHead (front ++ more)
 too_long_stays front more t h rest b =
@@ -163,6 +171,22 @@ too_long_stays front more t h rest b =
             absurd (omega (arith, b.limits.lines, grow, same))
       ]
       | inr fits ↦ absurd (t.0 h (drop (length (print_request h)) front) (head_in_front front more h rest b fits))
+    ]
+
+-- what is settled is settled whatever follows
+pub settled_stays : (front more : List ℕ) → IsSettled front → IsSettled (front ++ more)
+settled_stays front more settled =
+    elim settled [
+      | inl whole ↦ inl (whole.0, whole.1, whole.2 ++ more, message-append front more whole.0 whole.1 whole.2 whole.3)
+      | inr other ↦
+          elim other [
+            | inl denied ↦ inr (inl (denied.0, denied-append front more denied.0 denied.1))
+            | inr last ↦
+                elim last [
+                  | inl long ↦ inr (inr (inl (too_long_stays front more long, limits_grow front more long.1)))
+                  | inr bad ↦ inr (inr (inr (λ after. subst HasNoRequest (sym (append_assoc front more after)) (bad (more ++ after)))))
+                ]
+          ]
     ]
 
 -- a stream has at most one whole message

@@ -5,7 +5,7 @@ use Rattle.bw_http.specs.declared.request.Request.{Request}
 use Rattle.bw_http.specs.declared.request.ReadOutcome.{ReadOutcome}
 use Rattle.bw_http.specs.declared.request.ReadOutcome.TheVariants.{End, ReadFault, Memory}
 use Rattle.bw_http.specs.Heads.{HasNoHead, IsTooLong}
-use Rattle.bw_http.specs.Messages.{IsMessage, IsDenied, IsRequest}
+use Rattle.bw_http.specs.Messages.{IsMessage, IsDenied, IsSettled, IsRequest}
 use Rattle.bw_http.specs.Cuts.{Cut}
 
 -- a stream begins with one message at most
@@ -41,6 +41,10 @@ StaysRefused = (front more : List ℕ) (e : ReadOutcome) → IsDenied front e �
 -- what is too long has no head whatever follows
 abbrev pub StaysTooLong : Type 0
 StaysTooLong = (front more : List ℕ) → IsTooLong front → HasNoHead (front ++ more)
+
+-- what is settled is settled whatever follows
+abbrev pub StaysSettled : Type 0
+StaysSettled = (front more : List ℕ) → IsSettled front → IsSettled (front ++ more)
 
 -- want of memory takes the message that a request would take
 abbrev pub MemoryGoesOn : Type 0

@@ -88,6 +88,12 @@ IsVerdict bytes (Denied e) = IsDenied bytes e
 IsVerdict bytes (Whole p) = IsMessageAt bytes p
 IsVerdict bytes (Short lack) = Lacks bytes lack
 
+-- the bytes begin with a whole message, or with what is refused whatever follows
+abbrev pub IsSettled : List ℕ → Type 0
+IsSettled bytes =
+    ((h : RequestHead) × (body : List ℕ) × (rest : List ℕ) × IsMessage bytes h body rest)
+    ⊎ ((e : ReadOutcome) × IsDenied bytes e) ⊎ IsTooLong bytes ⊎ NeverHasRequest bytes
+
 -- why no request came of the bytes that were taken, and what is kept of them
 abbrev pub IsRefusal : List ℕ → Type 0 → ReadOutcome → List ℕ → Type 0
 IsRefusal have ended End rest = ended × (have ≡ [])

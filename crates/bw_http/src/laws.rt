@@ -1,5 +1,5 @@
 //! Laws of cuts. A law is the contract of an empty function.
-ghost use Rattle.bw_http.specs.Laws.{OneMessage, OneRequest, RefusesExactly, ReadsExactly, EndsExactly, StaysRefused, StaysTooLong, MemoryGoesOn};
+ghost use Rattle.bw_http.specs.Laws.{OneMessage, OneRequest, RefusesExactly, ReadsExactly, EndsExactly, StaysRefused, StaysTooLong, StaysSettled, MemoryGoesOn};
 
 /// A stream has one first message at most, which sends one request, and what is due comes: a head that a test refuses
 /// comes as that refusal, a whole message as its request or as want of memory, an empty stream as its end. Only a failed
@@ -16,6 +16,11 @@ pub fn cuts_exactly()
 pub fn refusals_stay()
     ensures refused { StaysRefused }
     ensures long { StaysTooLong }
+{}
+
+/// What lacks nothing lacks nothing whatever follows it.
+pub fn settled_stays()
+    ensures { StaysSettled }
 {}
 
 /// After want of memory the next call reads the next message.

@@ -33,7 +33,7 @@ pub struct Parts {
 }
 
 /// What has to come before it is worth to look at the bytes again.
-#[derive(Clone, Copy, Debug)]
+#[derive(Clone, Copy, Debug, PartialEq, Eq)]
 pub enum Lack {
     /// The end of a line: there is no head yet, and heads end in a line feed.
     Line,
@@ -85,7 +85,7 @@ fn judge(bytes: &[u8], spans: RequestSpans, headers: &[HeaderSpan]) -> Verdict
 }
 
 /// What the bytes are so far.
-fn examine(bytes: &[u8]) -> Verdict
+pub fn examine(bytes: &[u8]) -> Verdict
     ensures { IsVerdict bytes.now result }
 {
     let mut headers = [EMPTY_HEADER_SPAN; 64];
