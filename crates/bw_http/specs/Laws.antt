@@ -3,7 +3,7 @@ use Rattle.std.specs.Prelude.{◌≡◌, ◌⊎◌, List, ℕ, [], ◌++◌, Res
 use Rattle.httparse.specs.Grammar.{RequestHead}
 use Rattle.bw_http.specs.declared.request.Request.{Request}
 use Rattle.bw_http.specs.declared.request.ReadOutcome.{ReadOutcome}
-use Rattle.bw_http.specs.declared.request.ReadOutcome.TheVariants.{End, ReadFault, Memory}
+use Rattle.bw_http.specs.declared.request.ReadOutcome.TheVariants.{End, BadHead, HeadTooLong, ReadFault, Memory}
 use Rattle.bw_http.specs.Heads.{HasNoHead, IsTooLong}
 use Rattle.bw_http.specs.Messages.{IsMessage, IsDenied, IsSettled, IsRequest}
 use Rattle.bw_http.specs.Cuts.{Cut}
@@ -29,6 +29,12 @@ abbrev pub ReadsExactly : Type 0
 ReadsExactly =
     (stream : List ℕ) (h : RequestHead) (body after rest : List ℕ) (e : ReadOutcome)
     → IsMessage stream h body after → Cut stream (Err e) rest → (e ≡ Memory) ⊎ (e ≡ ReadFault)
+
+-- what passes a limit of heads, and begins with none, comes as too long or as what is no head
+abbrev pub RefusesLong : Type 0
+RefusesLong =
+    (stream : List ℕ) (r : Result Request ReadOutcome) (rest : List ℕ) → IsTooLong stream → Cut stream r rest
+    → (r ≡ Err BadHead) ⊎ CameAs r HeadTooLong
 
 -- an empty stream comes as its end
 abbrev pub EndsExactly : Type 0
