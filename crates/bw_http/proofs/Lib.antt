@@ -3,6 +3,7 @@ pub mod Due
 pub mod Filling
 pub mod Heads
 pub mod LookingAgain
+pub mod Lossy
 pub mod Messages
 pub mod OnePath
 pub mod Spellings
