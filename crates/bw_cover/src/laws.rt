@@ -7,6 +7,7 @@ ghost use Rattle.bw_cover.specs.Kinds.{CheckedIsAccepted, PlacesFit, TypedLitera
 ghost use Rattle.bw_cover.specs.LeastKinds.{SolvedIsAccepted, SolvedWorldsAreCovered};
 ghost use Rattle.bw_cover.specs.FlowKinds.{SolvedPlacesAreAccepted};
 ghost use Rattle.bw_cover.specs.FlowWorlds.{FlowEmptyIsCovered, FlowStepsKeepCovering, FlowWorldsAreCovered};
+ghost use Rattle.bw_cover.specs.Received.{ShowsReceive};
 ghost use Rattle.bw_cover.specs.Flows.{FlowFirstIsCovered, FlowTurnIsCovered, FlowGoingOnIsCovered, FlowLeastObeys};
 ghost use Rattle.bw_cover.specs.Examples.{PlugExamples, RowsAreAccepted};
 ghost use Rattle.bw_cover.specs.Trees.{AnsweredIsAccepted, AnsweredWorldsAreCovered};
@@ -69,6 +70,11 @@ pub fn flows_are_covered()
     ensures steps { FlowStepsKeepCovering }
     ensures worlds { FlowWorldsAreCovered }
     ensures accepted { SolvedPlacesAreAccepted }
+{}
+
+/// What a show of the flow receives is what its statement receives, as the meaning of the world has it.
+pub fn shows_receive()
+    ensures { ShowsReceive }
 {}
 
 /// Worked examples: which plugs are made, and facts that accept a service.
