@@ -4,6 +4,7 @@ pub mod Filling
 pub mod Heads
 pub mod Lines
 pub mod LookingAgain
+pub mod Lossy
 pub mod Messages
 pub mod OnePath
 pub mod Spellings

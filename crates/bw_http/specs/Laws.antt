@@ -7,6 +7,7 @@ use Rattle.bw_http.specs.declared.request.ReadOutcome.TheVariants.{End, BadHead,
 use Rattle.bw_http.specs.Heads.{HasNoHead, IsTooLong}
 use Rattle.bw_http.specs.Messages.{IsMessage, IsDenied, IsSettled, IsRequest}
 use Rattle.bw_http.specs.Cuts.{Cut}
+use Rattle.bw_http.specs.Forms.{IsTextForm}
 
 -- a stream begins with one message at most
 abbrev pub OneMessage : Type 0
@@ -61,3 +62,11 @@ MemoryGoesOn =
 -- a head and a body send one request
 abbrev pub OneRequest : Type 0
 OneRequest = (h : RequestHead) (body : List ℕ) (q r : Request) → IsRequest h body q → IsRequest h body r → q ≡ r
+
+-- the form of a request that a head and a body send is UTF-8, whatever the bytes of the body
+abbrev pub RequestsAreText : Type 0
+RequestsAreText = (h : RequestHead) (body : List ℕ) (r : Request) → IsRequest h body r → IsTextForm r.form
+
+-- so it is of each request that a stream is cut into
+abbrev pub CutsAreText : Type 0
+CutsAreText = (stream : List ℕ) (r : Request) (rest : List ℕ) → Cut stream (Ok r) rest → IsTextForm r.form
