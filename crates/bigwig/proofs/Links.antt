@@ -26,6 +26,7 @@ use Rattle.std.proofs.Common.{
   length-append,
 }
 use Rattle.bw_answer.specs.Answers.{Place, IsAt, Answers}
+use Rattle.bw_answer.specs.Courses.{Course}
 use Rattle.bw_answer.specs.Good.{RepliesAreGood}
 use Rattle.bw_answer.specs.declared.ends.StreamEnd.{StreamEnd}
 use Rattle.bw_answer.specs.declared.ends.StreamEnd.TheVariants as ends
@@ -86,29 +87,28 @@ link_served : (ruled : Ruled) (from : Between) (bytes : List ℕ) (old new : Pla
 link_served ruled from bytes old new back end accepts reached stands none left held keys steps written unread read write answers good =
     let at : At = begins from bytes in
     let is : IsAt old at = record { stands = stands; bytes = (bytes, left, sym (ap (λ l. l ++ bytes) none)); keys = keys } in
-    let a = answers at is in (
+    let a = answers at is in
+    let course = subst (λ h. Course ruled.service 1 at a.0 h back.written new.taken a.1 end) held
+    (subst (λ n. Course ruled.service 1 at a.0 old.held n new.taken a.1 end) written a.4) in (
       record { world = a.0.world; keys = a.0.keys; steps = new.steps },
-      a.1.keys,
+      a.2.keys,
       refl,
-      a.1.stands,
+      a.2.stands,
       record {
         end = end;
         streamed = record {
-          old = old;
-          new = new;
           rest = a.0.bytes;
-          course = a.2;
+          taken = new.taken;
+          cost = a.1;
+          course = course;
+          unhandled = (a.2.bytes.0, sym unread ∙ a.2.bytes.1, a.2.bytes.2);
+          steps = a.3 ∙ ap (λ n. n + a.1) steps;
           pages = λ replies. good ruled.schema at replies accepts is reached;
-          unhandled = (a.1.bytes.0, sym unread ∙ a.1.bytes.1, a.1.bytes.2);
-          held_is = held;
-          now_is = written;
-          from_is = steps;
-          to_is = refl;
         };
         read_fault = read;
         write_fault = write;
       },
-      course_reaches ruled.service 1 at a.0 old new end a.2 reached,
+      course_reaches ruled.service 1 at a.0 old.held new.held new.taken a.1 end a.4 reached,
     )
 
 -- what a count shows from nothing on

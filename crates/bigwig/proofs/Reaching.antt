@@ -1,6 +1,6 @@
 -- The world behind a stream that was answered is one that requests reach.
-use Rattle.std.proofs.Common.{◌≡◌, ◌⊎◌, ◌<◌, ℕ, List, [], length, refl, sym, subst, inl, inr}
-use Rattle.bw_answer.specs.Answers.{Place, Course}
+use Rattle.std.proofs.Common.{◌≡◌, ◌⊎◌, ◌<◌, ℕ, List, [], length, Option, refl, sym, subst, inl, inr}
+use Rattle.bw_answer.specs.Courses.{Course}
 use Rattle.bw_answer.specs.declared.ends.StreamEnd.{StreamEnd}
 use Rattle.bw_answer.specs.declared.ends.StreamEnd.TheVariants.{Ended, ReadFault, WriteFault}
 use Rattle.bw_cover.specs.Worlds.{Reached}
@@ -25,8 +25,8 @@ run_reaches : (service : Service) (most : ℕ) (at to : At) (replies : List Repl
 run_reaches service most at to replies cost run r =
     end_reaches service most run.first run.last run.mid to run.ends (streams_reach service at run.mid run.first cost run.turns r)
 
-pub course_reaches : (service : Service) (most : ℕ) (at to : At) (old new : Place) (end : StreamEnd) → Course service most at to old new end
-    → Reached service at.world → Reached service to.world
-course_reaches service most at to old new (Ended count) c r = run_reaches service most at to c.0 c.1 c.2 r
-course_reaches service most at to old new ReadFault c r = streams_reach service at to c.0 c.1 c.2 r
-course_reaches service most at to old new WriteFault c r = run_reaches service (length c.0) at to c.0 c.1 c.2 r
+pub course_reaches : (service : Service) (most : ℕ) (at to : At) (held now : Option (List ℕ)) (taken : List ℕ) (cost : ℕ) (end : StreamEnd)
+    → Course service most at to held now taken cost end → Reached service at.world → Reached service to.world
+course_reaches service most at to held now taken cost (Ended count) c r = run_reaches service most at to c.0 cost c.1 r
+course_reaches service most at to held now taken cost ReadFault c r = streams_reach service at to c.0 cost c.1 r
+course_reaches service most at to held now taken cost WriteFault c r = run_reaches service (length c.0) at to c.0 cost c.1 r

@@ -53,8 +53,8 @@ pub fn run<R: Threads + Sync, F: Files, D: Door, K: Keys, W: Sink, P: Pulse, L: 
     steps: &mut Steps<L>,
 ) -> Status
     ensures comes { IfSome (F.told files.old) (λ disk. Comes (asked words.now disk)
-        (outside (W.held out.old) (K.coming keys.old) (D.asked door.old) (D.coming door.old) (D.returned door.old) steps.old)
-        (outside (W.held out.new) (K.coming keys.new) (D.asked door.new) (D.coming door.new) (D.returned door.new) steps.new) result) }
+        (outside (W.held out.old) (K.coming keys.old) (D.asked door.old) (D.coming door.old) (D.returned door.old) (F.unread files.old) steps.old)
+        (outside (W.held out.new) (K.coming keys.new) (D.asked door.new) (D.coming door.new) (D.returned door.new) (F.unread files.new) steps.new) result) }
     ensures usage { command_of words.now ≡ None → (result ≡ Status.Usage) ⊎ ((result ≡ Status.WriteFault) ⊎ (result ≡ Status.Memory)) }
     ensures usage_only { result ≡ Status.Usage → command_of words.now ≡ None }
     ensures read_fault { Shows (result ≡ Status.ReadFault) (F.faults files.old) (F.faults files.new) }
@@ -82,8 +82,8 @@ fn obey<R: Threads + Sync, F: Files, D: Door, K: Keys, W: Sink, P: Pulse, L: Led
 ) -> Status
     requires { IsInRange command.now }
     ensures comes { IfSome (F.told files.old) (λ disk. Comes (work disk command.now)
-        (outside (W.held out.old) (K.coming keys.old) (D.asked door.old) (D.coming door.old) (D.returned door.old) steps.old)
-        (outside (W.held out.new) (K.coming keys.new) (D.asked door.new) (D.coming door.new) (D.returned door.new) steps.new) result) }
+        (outside (W.held out.old) (K.coming keys.old) (D.asked door.old) (D.coming door.old) (D.returned door.old) (F.unread files.old) steps.old)
+        (outside (W.held out.new) (K.coming keys.new) (D.asked door.new) (D.coming door.new) (D.returned door.new) (F.unread files.new) steps.new) result) }
     ensures not_usage { result ≢ Status.Usage }
     ensures read_fault { Shows (result ≡ Status.ReadFault) (F.faults files.old) (F.faults files.new) }
     ensures write_fault { Shows (result ≡ Status.WriteFault) (W.write_faults out.old) (W.write_faults out.new) }

@@ -13,19 +13,19 @@ use Rattle.bw_flow.specs.Steps.{Step}
 use Rattle.bw_flow.proofs.Stands.{stands_for_all}
 use Rattle.bw_cover.specs.Facts.{Facts}
 use Rattle.bw_cover.specs.Flows.{AcceptsFlow}
-use Rattle.bw_cover.specs.FlowWorlds.{AcceptsPlaces, FlowStepsKeepCovering, FlowWorldsAreCovered}
+use Rattle.bw_cover.specs.FlowWorlds.{AcceptsPlaces, FlowEmptyIsCovered, FlowStepsKeepCovering, FlowWorldsAreCovered}
 use Rattle.bw_cover.specs.Sound.{CoversTurns}
 use Rattle.bw_cover.proofs.Checked.{at_body}
 use Rattle.bw_cover.proofs.First.{first_covered}
 use Rattle.bw_cover.proofs.Flows.{flow_turn, flow_going_on}
 use Rattle.bw_cover.proofs.SolvedLaws.{locals_differ}
-use Rattle.bw_cover.proofs.Worlds.{stepped, nexts, covers_all}
+use Rattle.bw_cover.proofs.Worlds.{covers_empty, stepped, nexts, covers_reached}
 
 -- statements that begin somewhere and end somewhere in the flow
-abbrev StandsHere : Service → List Step → Code → ℕ → Type 0
+abbrev pub StandsHere : Service → List Step → Code → ℕ → Type 0
 StandsHere service flow c n = (first : ℕ) × (last : ℕ) × Lowered service flow c n [] 0 first last
 
-stands_here : (service : Service) (flow : List Step) (ss : List Session) (firsts : List ℕ) (n k out : ℕ) → AllLowered service flow ss firsts n out
+pub stands_here : (service : Service) (flow : List Step) (ss : List Session) (firsts : List ℕ) (n k out : ℕ) → AllLowered service flow ss firsts n out
     → StandsHere service flow (unwrap_or (slice_get (map (λ (s : Session). s.body) ss) k) done) (n + sum_by (λ (s : Session). numbered s.body) (take k ss))
 stands_here service flow [] [] n zero out h = (0, 0, refl)
 stands_here service flow [] [] n (suc k) out h = (0, 0, refl)
@@ -63,9 +63,12 @@ module _ (service : Service) (f : Facts ℕ) (a : AcceptsPlaces service f) where
     goes_on = λ k answer c. flow_going_on service f flow k answer (accepts k) c.locals c.shared c.later;
   }
 
+pub flow_empty_is_covered : FlowEmptyIsCovered
+flow_empty_is_covered service f a = covers_empty service f (places_cover service f a)
+
 pub flow_steps_keep_covering : FlowStepsKeepCovering
 flow_steps_keep_covering service f w request key a h =
     (stepped service f (places_cover service f a) w h request key, nexts service f (places_cover service f a) w h)
 
 pub flow_worlds_are_covered : FlowWorldsAreCovered
-flow_worlds_are_covered service f w a r = covers_all service f (places_cover service f a) w r
+flow_worlds_are_covered service f a = covers_reached service f (places_cover service f a)

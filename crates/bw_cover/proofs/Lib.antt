@@ -23,3 +23,5 @@ pub mod Trees
 pub mod EdgeLaws
 pub mod FlowWorlds
 pub mod FlowKinds
+pub mod Shows
+pub mod Received

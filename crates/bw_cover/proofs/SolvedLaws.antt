@@ -32,7 +32,7 @@ use Rattle.bw_cover.proofs.Laying.{distinct}
 use Rattle.bw_cover.proofs.Checked.{at_body, bodies_typed, checked_is_accepted}
 use Rattle.bw_cover.proofs.LeastKinds.{least_kinded}
 use Rattle.bw_cover.proofs.Literals.{typed_literals}
-use Rattle.bw_cover.proofs.Worlds.{worlds_are_covered}
+use Rattle.bw_cover.proofs.Worlds.{empty_is_covered, worlds_are_covered}
 use Rattle.bw_lang.specs.declared.stmt.Kind.TheVariants as kinds
 use Rattle.bw_cover.proofs.TypedEdges.{typed_edges, all_edges}
 
@@ -124,4 +124,6 @@ solved_is_accepted service f sees empty c h =
     nothing_there w kind e = cc
 
 pub solved_worlds_are_covered : SolvedWorldsAreCovered
-solved_worlds_are_covered service f sees empty c w h r = worlds_are_covered service (with_cells f c) w (solved_is_accepted service f sees empty c h) r
+solved_worlds_are_covered service f sees empty c h =
+    let a = solved_is_accepted service f sees empty c h in
+    (empty_is_covered service (with_cells f c) a, worlds_are_covered service (with_cells f c) a)

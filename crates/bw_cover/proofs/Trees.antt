@@ -21,7 +21,7 @@ use Rattle.bw_cover.specs.Spots.{Spot, statement, Scoped}
 use Rattle.bw_cover.specs.Trees.{Place, place, place_in, place_of, tree_sees, in_order, tree_facts, AnsweredIsAccepted, AnsweredWorldsAreCovered}
 use Rattle.bw_cover.proofs.Checked.{agree_next}
 use Rattle.bw_cover.proofs.SolvedLaws.{solved_is_accepted}
-use Rattle.bw_cover.proofs.Worlds.{worlds_are_covered}
+use Rattle.bw_cover.proofs.Worlds.{empty_is_covered, worlds_are_covered}
 use Rattle.bw_lang.specs.declared.stmt.Kind.TheVariants as kinds
 
 if_on : {A : Type 0} (b : Bool) (x y : A) → b ≡ true → (if b then x else y) ≡ x
@@ -251,4 +251,6 @@ answered_is_accepted service empty c h =
     solved_is_accepted service (tree_facts service c) (tree_sees service) empty c solved
 
 pub answered_worlds_are_covered : AnsweredWorldsAreCovered
-answered_worlds_are_covered service empty c w h r = worlds_are_covered service (tree_facts service c) w (answered_is_accepted service empty c h) r
+answered_worlds_are_covered service empty c h =
+    let a = answered_is_accepted service empty c h in
+    (empty_is_covered service (tree_facts service c) a, worlds_are_covered service (tree_facts service c) a)

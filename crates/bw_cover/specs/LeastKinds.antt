@@ -15,8 +15,7 @@ use Rattle.bw_cover.specs.Facts.{What, keeps, sets, brings, takes, Facts, Edge}
 use Rattle.bw_cover.specs.Kinds.{LocalsAreOf, SharedAreOf, Agree, Shows}
 use Rattle.bw_cover.specs.Least.{Cells, with_cells, same_spot, IsLeast, service_edges}
 use Rattle.bw_cover.specs.Spots.{Spot, statement, meeting, out, Scoped, HasNoGapFault}
-use Rattle.bw_model.specs.Sessions.{World}
-use Rattle.bw_cover.specs.Worlds.{Reached, CoversWorld, CoversNext}
+use Rattle.bw_cover.specs.Worlds.{CoversEmpty, CoversReached}
 use Rattle.bw_cover.specs.Sound.{AcceptsAll}
 use Rattle.bw_lang.specs.declared.stmt.Kind.TheVariants as kinds
 
@@ -83,8 +82,8 @@ abbrev pub SolvedIsAccepted : Type 0
 SolvedIsAccepted = (service : Service) (f : Facts Spot) (sees : Spot → Scope) (empty c : Cells Spot) → IsSolved service f sees empty c
     → AcceptsAll service (with_cells f c)
 
--- so every world that requests reach is covered by the least cells
+-- so the least cells cover its empty world, and every world that requests reach from a covered one, and what comes next
 abbrev pub SolvedWorldsAreCovered : Type 0
 SolvedWorldsAreCovered =
-    (service : Service) (f : Facts Spot) (sees : Spot → Scope) (empty c : Cells Spot) (w : World) → IsSolved service f sees empty c → Reached service w →
-    CoversWorld service (with_cells f c) w × CoversNext service (with_cells f c) w
+    (service : Service) (f : Facts Spot) (sees : Spot → Scope) (empty c : Cells Spot) → IsSolved service f sees empty c →
+    CoversEmpty service (with_cells f c) × CoversReached service (with_cells f c)

@@ -10,6 +10,7 @@ pub mod Kinds
 pub mod Least
 pub mod LeastKinds
 pub mod Plugs
+pub mod Received
 pub mod Sound
 pub mod Spots
 pub mod Trees

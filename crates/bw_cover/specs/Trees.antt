@@ -14,8 +14,7 @@ use Rattle.bw_cover.specs.Kinds.{summary_of}
 use Rattle.bw_cover.specs.Least.{Cells, same_spot, IsLeast, service_edges}
 use Rattle.bw_cover.specs.LeastKinds.{AreKinded}
 use Rattle.bw_cover.specs.Spots.{Spot, statement, meeting, out, HasNoGapFault}
-use Rattle.bw_model.specs.Sessions.{World}
-use Rattle.bw_cover.specs.Worlds.{Reached, CoversWorld, CoversNext}
+use Rattle.bw_cover.specs.Worlds.{CoversEmpty, CoversReached}
 use Rattle.bw_cover.specs.Sound.{AcceptsAll}
 use Rattle.bw_lang.specs.declared.stmt.Kind.TheVariants as kinds
 
@@ -101,12 +100,12 @@ pub record IsAnswered (service : Service) (empty c : Cells Spot) : Type 0 where
   pub least : IsLeast same_spot service (tree_facts service c) (service_edges service.sessions 1) empty c
   pub gaps : (session : ℕ) → HasNoGapFault service (tree_facts service c) session
 
--- such a service is accepted, and every world that requests reach is covered
+-- such a service is accepted
 abbrev pub AnsweredIsAccepted : Type 0
 AnsweredIsAccepted = (service : Service) (empty c : Cells Spot) → IsAnswered service empty c → AcceptsAll service (tree_facts service c)
 
--- and every world that requests reach is covered, and so is what comes next
+-- its empty world is covered, and so is every world that requests reach from a covered one, and what comes next
 abbrev pub AnsweredWorldsAreCovered : Type 0
 AnsweredWorldsAreCovered =
-    (service : Service) (empty c : Cells Spot) (w : World) → IsAnswered service empty c → Reached service w →
-    CoversWorld service (tree_facts service c) w × CoversNext service (tree_facts service c) w
+    (service : Service) (empty c : Cells Spot) → IsAnswered service empty c →
+    CoversEmpty service (tree_facts service c) × CoversReached service (tree_facts service c)

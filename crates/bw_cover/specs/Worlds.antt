@@ -1,12 +1,11 @@
--- The worlds of a service that requests reach, and that what they hold is covered.
+-- What the worlds of a service hold is covered, and what requests reach from them.
 use Rattle.std.specs.Prelude.{ℕ, List, [], ◌∷◌}
 use Rattle.std.specs.List.{AllByRecursion}
-use Rattle.bw_http.specs.declared.replies.Reply.{Reply}
 use Rattle.bw_http.specs.declared.request.Request.{Request}
 use Rattle.bw_lang.specs.declared.service.Service.{Service}
 use Rattle.bw_meaning.specs.States.{Form, Input, Outcome, Went, Shown, Exited, Failed}
 use Rattle.bw_model.specs.Answers.{with_input}
-use Rattle.bw_model.specs.Runs.{At, Turns}
+use Rattle.bw_model.specs.Reached.{Reached}
 use Rattle.bw_model.specs.Sessions.{Origin, Started, Loaded, Talk, Live, World, empty, now}
 use Rattle.bw_model.specs.Steps.{beginner, step}
 use Rattle.bw_cover.specs.Covered.{CoversLocals, CoversShared, CoversInputs, IsCovered, AreOpen}
@@ -15,11 +14,6 @@ use Rattle.bw_cover.specs.Facts.{Facts}
 use Rattle.bw_cover.specs.Plugs.{Plug, turn_plugs, go_on_plugs}
 use Rattle.bw_cover.specs.Sound.{AcceptsAll}
 use Rattle.bw_cover.specs.Spots.{Spot}
-
--- the worlds that requests reach, each with the key that is drawn for it, from the empty world
-pub data Reached (service : Service) : World → Type 0 where
-  none : Reached service (empty service)
-  one_more : (w : World) (request : Request) (key : ℕ) → Reached service w → Reached service (step service w request key).world
 
 -- ---- sessions
 
@@ -72,11 +66,20 @@ pub record CoversNext {K : Type 0} (service : Service) (f : Facts K) (w : World)
   pub begins : (session : ℕ) → ComesToCovered service f (beginner w session)
   pub goes_on : (form : Form) → AllByRecursion (λ (l : Live). ComesToCovered service f (with_input l.talk form w.shared)) w.live
 
+-- the world in which nothing was requested yet is covered, with any next number and number of a first turn
+abbrev pub CoversEmpty : {K : Type 0} → Service → Facts K → Type 0
+CoversEmpty service f = (next first : ℕ) → CoversWorld service f (record (empty service) { next = next; first = first })
+
+-- every world that requests reach from a covered one is covered, and so is what comes next
+abbrev pub CoversReached : {K : Type 0} → Service → Facts K → Type 0
+CoversReached service f =
+    (from to : World) → CoversWorld service f from → Reached service from to → CoversWorld service f to × CoversNext service f to
+
 -- ---- laws
 
 -- the empty world is covered
 abbrev pub EmptyIsCovered : Type 0
-EmptyIsCovered = (service : Service) (f : Facts Spot) → AcceptsAll service f → CoversWorld service f (empty service)
+EmptyIsCovered = (service : Service) (f : Facts Spot) → AcceptsAll service f → CoversEmpty service f
 
 -- a request keeps a covered world covered
 abbrev pub StepsKeepCovering : Type 0
@@ -88,13 +91,6 @@ StepsKeepCovering =
 abbrev pub NextIsCovered : Type 0
 NextIsCovered = (service : Service) (f : Facts Spot) (w : World) → AcceptsAll service f → CoversWorld service f w → CoversNext service f w
 
--- every world that requests reach is covered, and so is what comes next
+-- so every world that requests reach is covered, and so is what comes next
 abbrev pub WorldsAreCovered : Type 0
-WorldsAreCovered =
-    (service : Service) (f : Facts Spot) (w : World) → AcceptsAll service f → Reached service w → CoversWorld service f w × CoversNext service f w
-
--- and the messages of a stream reach no other worlds
-abbrev pub StreamsReach : Type 0
-StreamsReach =
-    (service : Service) (at to : At) (replies : List Reply) (cost : ℕ) → Turns service at replies cost to → Reached service at.world
-    → Reached service to.world
+WorldsAreCovered = (service : Service) (f : Facts Spot) → AcceptsAll service f → CoversReached service f

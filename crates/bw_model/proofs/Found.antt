@@ -34,7 +34,7 @@ found number key _ _ _ (later l m ls others e h) =
     ap (λ b. cond b (Some l) (find (is_of number key) ls)) e ∙ found number key ls m others h
 
 -- it has the number and the key
-both : (a b : Bool) → (a && b) ≡ true → (a ≡ true) × (b ≡ true)
+pub both : (a b : Bool) → (a && b) ≡ true → (a ≡ true) × (b ≡ true)
 both true b e = (refl, e)
 both false b e = cc
 

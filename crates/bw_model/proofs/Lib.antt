@@ -1,4 +1,9 @@
 pub mod Alone
 pub mod Found
+pub mod Keeping
 pub mod Kept
 pub mod Quiet
+pub mod Reaching
+pub mod Refused
+pub mod Replies
+pub mod Views

@@ -5,10 +5,10 @@ use Rattle.bw_http.specs.declared.replies.Reply.{Reply}
 use Rattle.bw_http.specs.declared.replies.Reply.TheVariants as replies
 use Rattle.bw_http.specs.declared.request.Request.{Request}
 use Rattle.bw_lang.specs.declared.service.Service.{Service}
-use Rattle.bw_model.specs.Answers.{Answer, Said}
+use Rattle.bw_model.specs.Answers.{Answer, Said, answered}
 use Rattle.bw_model.specs.Sessions.{Live, World, empty}
-use Rattle.bw_model.specs.Steps.{is_of, step}
-use Rattle.bw_model.specs.Talks.{Asked, conversation, own_answers}
+use Rattle.bw_model.specs.Steps.{is_of, reply_to, step}
+use Rattle.bw_model.specs.Talks.{Asked, said_to, conversation, own_answers}
 
 -- ---- what is refused, is spent or fails
 
@@ -55,6 +55,13 @@ abbrev pub SessionsAreAlone : Type 0
 SessionsAreAlone =
     (service : Service) (w : World) (number key : ℕ) (l : Live) (asked : List Asked) → IsWorld w → find (is_of number key) w.live ≡ Some l →
     let talk = conversation service number key w asked in map (λ x. x.1) talk ≡ own_answers service w.first (Some l.talk) (map (λ x. x.0) talk)
+
+-- And what a request says to a live session is replied by that answer, under the session's number and key.
+abbrev pub RepliesAreAnswers : Type 0
+RepliesAreAnswers =
+    (service : Service) (w : World) (number key : ℕ) (l : Live) (a : Asked) (said : Said) → find (is_of number key) w.live ≡ Some l →
+    said_to number key w a ≡ Some said →
+    (step service w a.request a.key).reply ≡ reply_to service number key (answered service w.first l.talk said).answer
 
 -- So two sessions that have come to the same are answered alike in any two runs that say the same to them. Where one of
 -- them gives way earlier it is answered alike until then.

@@ -1,6 +1,7 @@
 pub mod Answers
 pub mod Examples
 pub mod Laws
+pub mod Reached
 pub mod Received
 pub mod Runs
 pub mod Sessions

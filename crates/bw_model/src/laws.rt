@@ -1,5 +1,6 @@
 //! Laws of the world. A law is the contract of an empty function.
-ghost use Rattle.bw_model.specs.Laws.{OthersChangeNothing, StepsAreShort, EmptyIsWorld, StepsKeepWorlds, SessionsAreAlone, RunsAgree};
+ghost use Rattle.bw_model.specs.Laws.{OthersChangeNothing, StepsAreShort, EmptyIsWorld, StepsKeepWorlds, SessionsAreAlone, RepliesAreAnswers, RunsAgree};
+ghost use Rattle.bw_model.specs.Reached.{ReachedOn, StreamsReach};
 
 /// A request that is refused, spent or fails changes no session and no shared variable: each reply but a page leaves the
 /// world as it was.
@@ -18,10 +19,18 @@ pub fn worlds_stay()
     ensures steps { StepsKeepWorlds }
 {}
 
+/// The messages of a stream reach no other worlds than requests with forms in UTF-8 do, and from a world that is reached on
+/// the same are reached.
+pub fn streams_reach()
+    ensures streams { StreamsReach }
+    ensures on { ReachedOn }
+{}
+
 /// Sessions don't meet: what a session is answered depends on its own submissions and on the shared variables at its own
-/// requests alone. So two sessions that have come to the same are answered alike, but for numbers and keys, in any two
-/// runs that say the same to them.
+/// requests alone, and the reply to a request that says something to it is that answer. So two sessions that have come to
+/// the same are answered alike, but for numbers and keys, in any two runs that say the same to them.
 pub fn sessions_are_alone()
     ensures own { SessionsAreAlone }
+    ensures replies { RepliesAreAnswers }
     ensures alike { RunsAgree }
 {}

@@ -4,6 +4,5 @@ pub mod Summed
 pub mod Places
 pub mod Pages
 pub mod Covered
-pub mod Refused
 pub mod Steps
 pub mod Runs

@@ -9,5 +9,5 @@ returns-in-Ok-clause-comes g c = words_come _ _ c.in-Ok.command _ _ _ c.in-Ok.en
 pub returns-in-Err-Refused-clause-comes : goal.returns-in-Err-Refused-clause-comes
 returns-in-Err-Refused-clause-comes g c = usage_comes _ _ _ _ _
     (outside (g.W.Channel.held c.args.out.now) (g.K.Keys.coming c.args.keys.now) (g.D.Door.asked c.args.door.now) (g.D.Door.coming c.args.door.now)
-    (g.D.Door.returned c.args.door.now) c.args.steps.now)
+    (g.D.Door.returned c.args.door.now) (g.F.Files.unread c.args.files.now) c.args.steps.now) _
     (c.in-Err-Refused.ensures.refused (ap Err c.in-Err-Refused.field-0-is)) c.print_line.ensures.prints

@@ -1,0 +1,9 @@
+pub mod Decimals
+pub mod Texts
+pub mod Values
+pub mod Outcomes
+pub mod Turns
+pub mod Worlds
+pub mod Whole
+pub mod Templates
+pub mod Pages
