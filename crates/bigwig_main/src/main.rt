@@ -75,7 +75,7 @@ fn counted<L: Ledger, R: Threads + Sync>(
     let mut door = TcpDoor::new(rt);
     let mut steps: Steps<L> = Steps::new(blank);
     let mut out = Writing::new(io::writer(rt));
-    let mut files = DiskFiles::new(rt);
+    let mut files = DiskFiles::new(alloc, rt);
     let mut keys = RandomKeys::new(generator);
     run(
         threads, alloc, words, &mut files, &mut door, &mut keys, &mut out, &Quiet, &mut steps,

@@ -1,5 +1,5 @@
 -- How the tries of one call of the system went.
-use Rattle.std.specs.Prelude.{◌≡◌, ◌≢◌, ◌⊎◌, ◌≤◌, ◌+◌, OnOk, OnErr, Option, Some, None, Result, Ok, Err}
+use Rattle.std.specs.Prelude.{◌≡◌, ◌≢◌, ◌⊎◌, ◌≤◌, ◌+◌, OnOk, OnErr, Option, Some, None, Result, Ok, Err, if◌then◌else◌, is_some, nat_lt}
 use Rattle.std.specs.declared.io.ErrorKind.{ErrorKind}
 use Rattle.std.specs.declared.io.ErrorKind.TheVariants as kinds
 use Rattle.bw_out.specs.declared.tries.Tries.{Tries}
@@ -16,6 +16,10 @@ noted tries kind = record tries { end = Some kind }
 abbrev pub tried : {T : Type 0} → Tries → Result T ErrorKind → Tries
 tried tries (Ok value) = tries
 tried tries (Err kind) = noted tries kind
+
+-- why the call failed: its last try failed so, or 101 in a row were interrupted; none where it didn't fail
+abbrev pub trouble_of : Tries → Option ErrorKind
+trouble_of tries = if is_some tries.end then tries.end else (if nat_lt 100 tries.interrupted then Some kinds.Interrupted else None)
 
 -- A call was tried again exactly where it was interrupted, up to 100 times: where it succeeds, no try failed otherwise,
 -- and where it fails, the last try failed otherwise or 101 were interrupted.

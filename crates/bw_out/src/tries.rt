@@ -1,6 +1,6 @@
 // The tries of one call of the system.
 ghost use Rattle.std.specs.Prelude.{◌≡◌, ◌≤◌};
-ghost use Rattle.bw_out.specs.Tries.{noted, no_tries};
+ghost use Rattle.bw_out.specs.Tries.{noted, no_tries, trouble_of};
 
 use std::io::ErrorKind;
 
@@ -31,6 +31,19 @@ impl Tries {
         match kind {
             ErrorKind::Interrupted => self.interrupted += 1,
             _ => self.end = Some(kind),
+        }
+    }
+
+    /// Why the call failed: its last try failed so, or 101 in a row were interrupted. None where it didn't fail.
+    pub fn trouble(&self) -> Option<ErrorKind>
+        ensures { result ≡ trouble_of self.now }
+    {
+        if self.end.is_some() {
+            self.end
+        } else if self.interrupted > 100 {
+            Some(ErrorKind::Interrupted)
+        } else {
+            None
         }
     }
 }

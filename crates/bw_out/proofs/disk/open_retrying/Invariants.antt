@@ -1,5 +1,5 @@
 use Rattle.std.proofs.Common.{◌≡◌, None}
-use Rattle.bw_out.proofs.adapters.open_retrying.Given as goal
+use Rattle.bw_out.proofs.disk.open_retrying.Given as goal
 
 abbrev pub invariant-loop-turn : goal.invariant-loop-turn
 invariant-loop-turn g l = record {
