@@ -47,7 +47,7 @@ pub wants_then : (first rest : List Reply) → wants (first ++ rest) ≡ wants f
 wants_then [] rest = omega arith
 wants_then (r ∷ rs) rest = let e = wants_then rs rest in omega (arith, e)
 
-answer_then : (service : Service) (first rest : List Reply) → answer_of service (first ++ rest) ≡ answer_of service first ++ answer_of service rest
+pub answer_then : (service : Service) (first rest : List Reply) → answer_of service (first ++ rest) ≡ answer_of service first ++ answer_of service rest
 answer_then service [] rest = refl
 answer_then service (r ∷ rs) rest =
     ap (λ l. bytes_by service r ++ l) (answer_then service rs rest) ∙ sym (append_assoc (bytes_by service r) (answer_of service rs) (answer_of service rest))
