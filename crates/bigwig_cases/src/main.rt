@@ -80,11 +80,8 @@ fn try_case<R: Threads + Sync>(
     case: &Case<'_>,
 ) -> Result<Verdict, Fault> {
     let tried = match subject {
-        Subject::Runs
-        | Subject::Sessions
-        | Subject::Serves
-        | Subject::Checks
-        | Subject::Examples => runs::try_case(rt, alloc, texts, case),
+        Subject::Runs | Subject::Sessions | Subject::Serves | Subject::Checks | Subject::Examples =>
+            runs::try_case(rt, alloc, texts, case),
         Subject::Services => runs::try_service(rt, alloc, case),
         Subject::Retries => retries::try_case(alloc, case),
         Subject::Worlds => worlds::try_case(rt, alloc, texts, case),
