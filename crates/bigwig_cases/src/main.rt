@@ -39,6 +39,8 @@ enum Subject {
     Retries,
     /// Worlds at their limits.
     Worlds,
+    /// Runs of the whole program by the services of the folder `examples`.
+    Examples,
 }
 
 impl Subject {
@@ -52,12 +54,13 @@ impl Subject {
             Subject::Services => "services.cases",
             Subject::Retries => "retries.cases",
             Subject::Worlds => "worlds.cases",
+            Subject::Examples => "examples.cases",
         }
     }
 }
 
 /// What is tried, in this order.
-const SUBJECTS: [Subject; 7] = [
+const SUBJECTS: [Subject; 8] = [
     Subject::Runs,
     Subject::Sessions,
     Subject::Serves,
@@ -65,6 +68,7 @@ const SUBJECTS: [Subject; 7] = [
     Subject::Services,
     Subject::Retries,
     Subject::Worlds,
+    Subject::Examples,
 ];
 
 /// Tries a case. The check makes its threads by `rt`.
@@ -76,9 +80,8 @@ fn try_case<R: Threads + Sync>(
     case: &Case<'_>,
 ) -> Result<Verdict, Fault> {
     let tried = match subject {
-        Subject::Runs | Subject::Sessions | Subject::Serves | Subject::Checks => {
-            runs::try_case(rt, alloc, texts, case)
-        }
+        Subject::Runs | Subject::Sessions | Subject::Serves | Subject::Checks | Subject::Examples =>
+            runs::try_case(rt, alloc, texts, case),
         Subject::Services => runs::try_service(rt, alloc, case),
         Subject::Retries => retries::try_case(alloc, case),
         Subject::Worlds => worlds::try_case(rt, alloc, texts, case),
