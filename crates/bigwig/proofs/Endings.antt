@@ -87,7 +87,8 @@ pub usage_comes : (told : Option Disk) (words : List (List ℕ)) (held now : Opt
     → command_of words ≡ None → Prints (record { status = status.Usage; text = usage_line }) held now r
     → IfSome told (λ disk. Comes (asked words disk) (record o { printed = held }) (record o { printed = now; unread = unread }) r)
 usage_comes None words held now r o unread e p = tt
-usage_comes (Some disk) words held now r o unread e p = said (record { status = status.Usage; text = usage_line }) (inl (e, refl)) (record { prints = p; kept = refl })
+usage_comes (Some disk) words held now r o unread e p =
+    said (record { status = status.Usage; text = usage_line }) (inl (e, refl)) (record { prints = p; kept = refl })
 
 -- there was no memory for the words
 pub memory_comes : (told : Option Disk) (words : List (List ℕ)) (o : Outside) (unread : Option (List ℕ))

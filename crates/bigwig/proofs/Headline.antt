@@ -232,7 +232,7 @@ no_link : (ruled : Ruled) (most : ℕ) (before after : Outside) (s : Status) →
 no_link ruled most before after s e c r keys k links l given g =
     ([], links, r ∙ g ∙ ap Some (sym (append-nil given)), c ∙ l, refl, λ is. absurd (let f : status.Done ≡ status.DoorFault = sym is ∙ e in cc))
 
-over_done : {A B C D : Type 0} (s : Status) → ((s ≡ status.Done) × A) ⊎ ((s ≡ status.DoorFault) × B) → s ≡ status.Done → A
+over_done : {A B : Type 0} (s : Status) → ((s ≡ status.Done) × A) ⊎ ((s ≡ status.DoorFault) × B) → s ≡ status.Done → A
 over_done s (inl x) is = x.1
 over_done s (inr x) is = absurd (let f : status.Done ≡ status.DoorFault = sym is ∙ x.0 in cc)
 

@@ -5,13 +5,13 @@ use Rattle.bw_answer.specs.Answers.{Place, IsAt, Answers}
 use Rattle.bw_answer.specs.Good.{RepliesAreGood}
 use Rattle.bw_answer.specs.declared.ends.StreamEnd.{StreamEnd}
 use Rattle.bw_check.specs.Accepts.{Accepts}
-use Rattle.bw_cover.specs.Worlds.{Reached, none as nothing_yet}
 use Rattle.bw_lang.specs.declared.service.Service.{Service}
 use Rattle.bw_model.specs.Runs.{At}
 use Rattle.bw_model.specs.Sessions.{World, empty}
 use Rattle.bw_out.specs.Doors.{Returned, Asks, MayAsk}
 use Rattle.bw_out.specs.Told.{Coming, Disk, Finds}
 use Rattle.bw_out.specs.Writes.{AppendsPart}
+use Rattle.bw_sound.specs.Worlds.{BeginsSound, IsSoundWorld}
 use Rattle.bw_world.specs.Seen.{Seen}
 use Rattle.bw_world.specs.Stands.{StandsFor}
 use Rattle.bigwig.specs.Asked.{Ruled, Work, accepted_file, accepted, file, replayed, at_port}
@@ -80,11 +80,12 @@ absent_replied left (Some d) name next s service most held now keys unread steps
 
 -- a stream was answered from the world in which nothing was requested yet
 stream_replied : (ruled : Ruled) (bytes : List ℕ) (most : ℕ) (old new : Place) (end : StreamEnd) (r : Status) (o : Outside)
-    → Accepts ruled.service ruled.schema → r ≡ status_of end → StandsFor old.seen (empty ruled.service) → old.taken ≡ [] → old.left ≡ Some bytes
+    → Accepts ruled.service ruled.schema → r ≡ status_of end → StandsFor old.seen (empty ruled.service) → BeginsSound ruled.service
+    → old.taken ≡ [] → old.left ≡ Some bytes
     → Answers ruled.service most old new end → RepliesAreGood ruled.service old
     → IsReplayed ruled bytes most (record o { printed = old.held; keys = old.keys; steps = old.steps })
     (record o { printed = new.held; keys = new.keys; unread = new.left; steps = new.steps }) r
-stream_replied ruled bytes most old new end r o accepts e stands none left answers good = record {
+stream_replied ruled bytes most old new end r o accepts e stands sound none left answers good = record {
   end = end;
   status_is = e;
   streamed = λ keys k.
@@ -101,7 +102,7 @@ stream_replied ruled bytes most old new end r o accepts e stands none left answe
           course = a.4;
           unhandled = a.2.bytes;
           steps = a.3;
-          pages = λ replies. good ruled.schema at replies accepts here nothing_yet;
+          pages = λ replies. good ruled.schema at replies accepts here (sound ruled.schema 1 1 accepts);
         },
       );
   kept = (refl, refl, refl);
@@ -111,19 +112,21 @@ stream_replied ruled bytes most old new end r o accepts e stands none left answe
 pub requests_replied : {File : Type 0} (left : File → Option (List ℕ)) (told : Option Disk) (name : List ℕ) (next : Option File) (file : File) (most : ℕ)
     (old new : Place) (unread : Option (List ℕ)) (end : StreamEnd) (r : Status) → unread ≡ new.left → r ≡ status_of end → next ≡ Some file
     → Finds left told name next
-    → StandsFor old.seen (empty old.seen.service) → old.taken ≡ [] → old.left ≡ left file → Answers old.seen.service most old new end
+    → StandsFor old.seen (empty old.seen.service) → BeginsSound old.seen.service → old.taken ≡ [] → old.left ≡ left file
+    → Answers old.seen.service most old new end
     → RepliesAreGood old.seen.service old
     → IfSome told (λ d. (ruled : Ruled) → IsRuled old.seen.service ruled
     → Replies (replayed d name most ruled) old.held new.held old.keys new.keys unread old.steps new.steps r)
-requests_replied left None name next file most old new unread end r was e some f stands none here answers good = tt
-requests_replied left (Some d) name next file most old new unread end r was e some f stands none here answers good =
+requests_replied left None name next file most old new unread end r was e some f stands sound none here answers good = tt
+requests_replied left (Some d) name next file most old new unread end r was e some f stands sound none here answers good =
     let found_so = subst (λ x. Finds left (Some d) name x) some f in
     λ ruled is o.
     let same : old.seen.service ≡ ruled.service = sym is.0 in
     done (replays ruled found_so.0 most) (found_so.0, found_so.1, refl)
     (subst (λ u. IsReplayed ruled found_so.0 most (record o { printed = old.held; keys = old.keys; steps = old.steps })
     (record o { printed = new.held; keys = new.keys; unread = u; steps = new.steps }) r) (sym was)
-    (stream_replied ruled found_so.0 most old new end r o is.1 e (subst (λ s. StandsFor old.seen (empty s)) same stands) none (here ∙ found_so.2)
+    (stream_replied ruled found_so.0 most old new end r o is.1 e (subst (λ s. StandsFor old.seen (empty s)) same stands)
+    (subst BeginsSound same sound) none (here ∙ found_so.2)
     (subst (λ s. Answers s most old new end) same answers) (subst (λ s. RepliesAreGood s old) same good)))
 
 -- the service is the one that the world was made with
@@ -173,14 +176,15 @@ no_line_comes ruled port most o printed asked coming returned unread e f a p =
 -- links were served
 pub serving_comes : (ruled : Ruled) (seen : Seen) (port most : ℕ) (o after : Outside) (asked : Option (List ℕ)) (coming : Option (List (List ℕ)))
     (returned : Option (List Returned)) (s : Status) → coming ≡ o.coming → returned ≡ o.returned
-    → IsRuled seen.service ruled → StandsFor seen (empty seen.service) → Asks o.asked asked port → after.asked ≡ asked
+    → IsRuled seen.service ruled → StandsFor seen (empty seen.service) → BeginsSound seen.service → Asks o.asked asked port → after.asked ≡ asked
     → Appends o.printed after.printed (serving_line port) → (s ≡ status.Done) ⊎ (s ≡ status.DoorFault)
-    → ((r : Ruled) (m : World) → IsRuled seen.service r → StandsFor seen m → Reached r.service m
+    → ((r : Ruled) (m : World) → IsRuled seen.service r → StandsFor seen m → IsSoundWorld r.service m
     → ServesLinks r m most (outside None o.keys asked coming returned None o.steps) (record after { printed = None; unread = None }) s)
     → Comes (at_port port most ruled) o after s
-serving_comes ruled seen port most o after asked coming returned s e f is stands asks same line ends gives =
+serving_comes ruled seen port most o after asked coming returned s e f is stands sound asks same line ends gives =
     let unprinted : Outside = record after { printed = None; unread = None } in
-    let from = gives ruled (empty ruled.service) is (subst (λ t. StandsFor seen (empty t)) (sym is.0) stands) nothing_yet in
+    let from = gives ruled (empty ruled.service) is (subst (λ t. StandsFor seen (empty t)) (sym is.0) stands)
+    (subst BeginsSound (sym is.0) sound ruled.schema 1 1 is.1) in
     let all : ServesLinks ruled (empty ruled.service) most o after s = λ keys k links l given g.
     let x = from keys k links (e ∙ l) given (f ∙ g) in
     (x.0, x.1, x.2, given_so ruled _ links given x.0 x.1 x.2 unprinted after x.3 refl refl refl refl, x.4, x.5) in

@@ -27,7 +27,7 @@ use Rattle.bigwig.specs.declared.status.Status.TheVariants.{Done, DoorFault}
 
 -- a page is good, and each other reply has changed nothing: no session, and no shared variable
 abbrev pub IsRight : Service → Schema → World → World → Reply → Type 0
-IsRight service schema before after reply = IsGood service schema after reply × (is_page reply ≡ false → after ≡ before)
+IsRight service schema before after reply = IsGood service schema before after reply × (is_page reply ≡ false → after ≡ before)
 
 -- messages were answered one after another, from there to there, by these replies, and each of them is right
 abbrev pub AreRight : Service → Schema → At → List Reply → At → Type 0

@@ -77,7 +77,8 @@ pub record IsReplayed (ruled : Ruled) (stream : List ℕ) (most : ℕ) (before a
   pub end : StreamEnd
   pub status_is : status ≡ status_of end
   pub streamed : (keys : Coming) → before.keys ≡ Some keys → (to : Between) × (after.keys ≡ Some to.keys) × (after.steps ≡ to.steps)
-      × IsStreamed most ruled (record { world = empty ruled.service; keys = keys; steps = before.steps }) stream to before.printed after.printed after.unread end
+      × IsStreamed most ruled (record { world = empty ruled.service; keys = keys; steps = before.steps }) stream to before.printed after.printed
+      after.unread end
   pub kept : (after.asked ≡ before.asked) × (after.coming ≡ before.coming) × (after.returned ≡ before.returned)
 
 -- A link that had these bytes was answered and given back: by a run of at most one message, and a fault on it is what

@@ -2,6 +2,7 @@
 ghost use Rattle.std.specs.Prelude.{◌≡◌, ◌≢◌, [], IfSome};
 ghost use Rattle.bw_out.specs.Causes.{Shows};
 ghost use Rattle.bw_model.specs.Sessions.{empty};
+ghost use Rattle.bw_sound.specs.Worlds.{BeginsSound};
 ghost use Rattle.bw_world.specs.Stands.{StandsFor};
 ghost use Rattle.bw_answer.specs.Answers as answers;
 ghost use Rattle.bw_answer.specs.Good.{RepliesAreGood};
@@ -101,7 +102,8 @@ fn replay_in<F: Files, K: Keys, W: Sink, L: Ledger>(
     out: &mut W,
     steps: &mut Steps<L>,
 ) -> Status
-    requires { StandsFor world.old (empty world.old.service) }
+    requires stands { StandsFor world.old (empty world.old.service) }
+    requires sound { BeginsSound world.old.service }
     ensures comes { IfSome (F.told files.old) (λ disk. (ruled : Ruled) → IsRuled world.old.service ruled → Replies (replayed disk name.now most ruled)
         (W.held out.old) (W.held out.new) (K.coming keys.old) (K.coming keys.new) (F.unread files.new) steps.old steps.new result) }
     ensures others { (result ≢ Status.Usage) × (result ≢ Status.DoorFault) }
@@ -137,6 +139,7 @@ fn replay_from<F: Files, K: Keys, W: Sink, L: Ledger>(
     steps: &mut Steps<L>,
 ) -> Status
     requires stands { StandsFor world.old (empty world.old.service) }
+    requires sound { BeginsSound world.old.service }
     requires none { intake.old ≡ [] }
     ensures comes { IfSome (F.told files.old) (λ disk. (ruled : Ruled) → IsRuled world.old.service ruled → Replies (replayed disk name.now most ruled)
         (W.held out.old) (W.held out.new) (K.coming keys.old) (K.coming keys.new) (F.unread files.new) steps.old steps.new result) }

@@ -1,9 +1,9 @@
 //! Links that are served, one after another, over one world.
 ghost use Rattle.std.specs.Prelude.{◌≡◌, ◌≢◌, ◌⊎◌, ℕ, List, [], Option, None, IfSome};
-ghost use Rattle.bw_cover.specs.Worlds.{Reached};
 ghost use Rattle.bw_model.specs.Sessions as model;
 ghost use Rattle.bw_out.specs.Causes.{HasCause, Shows};
 ghost use Rattle.bw_out.specs.Writes.{Writes};
+ghost use Rattle.bw_sound.specs.Worlds.{BeginsSound, IsSoundWorld};
 ghost use Rattle.bw_world.specs.Stands.{StandsFor};
 ghost use Rattle.bigwig.specs.Asked.{Ruled, at_port, work};
 ghost use Rattle.bigwig.specs.Checks.{IsRuled};
@@ -95,7 +95,8 @@ fn serve_world<D: Door, K: Keys, W: Sink, L: Ledger>(
     out: &mut W,
     steps: &mut Steps<L>,
 ) -> Status
-    requires { StandsFor world.old (model.empty world.old.service) }
+    requires stands { StandsFor world.old (model.empty world.old.service) }
+    requires sound { BeginsSound world.old.service }
     ensures comes { (ruled : Ruled) (u v : Option (List ℕ)) → IsRuled world.old.service ruled → Comes (at_port port most ruled)
         (outside (W.held out.old) (K.coming keys.old) (D.asked door.old) (D.coming door.old) (D.returned door.old) u steps.old)
         (outside (W.held out.new) (K.coming keys.new) (D.asked door.new) (D.coming door.new) (D.returned door.new) v steps.new) result }
@@ -131,7 +132,8 @@ fn serve_port<D: Door, K: Keys, W: Sink, L: Ledger>(
     out: &mut W,
     steps: &mut Steps<L>,
 ) -> Status
-    requires { StandsFor world.old (model.empty world.old.service) }
+    requires stands { StandsFor world.old (model.empty world.old.service) }
+    requires sound { BeginsSound world.old.service }
     ensures comes { (ruled : Ruled) (u v : Option (List ℕ)) → IsRuled world.old.service ruled → Comes (at_port port most ruled)
         (outside (W.held out.old) (K.coming keys.old) (D.asked door.old) (D.coming door.old) (D.returned door.old) u steps.old)
         (outside (W.held out.new) (K.coming keys.new) (D.asked door.new) (D.coming door.new) (D.returned door.new) v steps.new) result }
@@ -170,7 +172,7 @@ fn serve_links<D: Door, K: Keys, L: Ledger>(
     most: u32,
     steps: &mut Steps<L>,
 ) -> Status
-    ensures serves { (ruled : Ruled) (m : model.World) → IsRuled world.old.service ruled → StandsFor world.old m → Reached ruled.service m
+    ensures serves { (ruled : Ruled) (m : model.World) → IsRuled world.old.service ruled → StandsFor world.old m → IsSoundWorld ruled.service m
         → ServesLinks ruled m most (outside None (K.coming keys.old) (D.asked door.old) (D.coming door.old) (D.returned door.old) None steps.old)
         (outside None (K.coming keys.new) (D.asked door.new) (D.coming door.new) (D.returned door.new) None steps.new) result }
     ensures ends { (result ≡ Status.Done) ⊎ (result ≡ Status.DoorFault) }

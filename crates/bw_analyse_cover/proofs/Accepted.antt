@@ -1,12 +1,8 @@
 -- The facts of a typed service of which no plug may miss its gap are accepted by the laws of covering.
-use Rattle.std.specs.Prelude.{◌≡◌, ◌⊎◌, ℕ, ◌<◌, ◌≤◌, ◌&&◌, not, nat_eq, cond, Bool, true, false, List}
-use Rattle.std.specs.Prelude.{length, position, slice_get, unwrap_or, Some, None}
-use Rattle.std.proofs.Common.{refl, sym, ap, ◌∙◌, subst, inl, inr, arith}
-use Rattle.std.specs.List.{position_or_len}
-use Rattle.std.proofs.lemmas.Bool.{false≢true, cases_Bool, cases_lt}
-use Rattle.std.proofs.lemmas.Bool.Decides.{nat_tests}
-use Rattle.std.proofs.lemmas.List.Sums.{fails_before_first}
-use Rattle.std.proofs.lemmas.Option.{get_or_from_slice_get, slice_get_within}
+use Rattle.std.specs.Prelude.{◌≡◌, ℕ, true, List}
+use Rattle.std.specs.Prelude.{length, slice_get, Some}
+use Rattle.std.proofs.Common.{refl, sym, ap, ◌∙◌, subst, inl, inr}
+use Rattle.std.proofs.lemmas.Bool.{false≢true, cases_Bool}
 use Rattle.bw_lang.specs.declared.service.Service.{Service}
 use Rattle.bw_lang.specs.declared.stmt.Kind.{Kind}
 use Rattle.bw_lang.specs.declared.stmt.Kind.TheVariants as kinds
@@ -18,13 +14,10 @@ use Rattle.bw_types.specs.declared.typed.Typed.{Typed}
 use Rattle.bw_types.specs.ExpressionFaults.{fun_takes}
 use Rattle.bw_types.specs.Scopes.{shared_kind}
 use Rattle.bw_types.specs.Typing.{AreTyped}
-use Rattle.bw_flow.specs.Flows.{is_join, is_statement}
 use Rattle.bw_flow.specs.Scopes.{kind_in}
 use Rattle.bw_flow.specs.Steps.{Act, sets, tests, goes_over, shows, exits, joins, Step}
 use Rattle.bw_flow.specs.TypedFlow.{names_at, HasKindAt, IsTypedAct}
-use Rattle.bw_flow.proofs.Found.{finds_each}
 use Rattle.bw_flow.proofs.Names.{kind_in_is}
-use Rattle.bw_flow.proofs.Numbered.{all_have_numbers}
 use Rattle.bw_cover.specs.Abstracts as cover
 use Rattle.bw_cover.specs.Abstracts.{EachPair, EachFilling, IsNotLacked}
 use Rattle.bw_cover.specs.Facts.{Facts as CoverFacts, look as looked}
@@ -32,7 +25,7 @@ use Rattle.bw_cover.specs.FlowKinds.{ActHasGaps, ActShows, SolvesPlaces}
 use Rattle.bw_cover.specs.Kinds.{IsOf, LocalsAreOf, SharedAreOf, summary_of}
 use Rattle.bw_cover.proofs.FlowKinds.{solved_places_are_accepted}
 use Rattle.bw_cover.proofs.Flows.{flow_least_obeys}
-use Rattle.bw_cover.proofs.FlowWorlds.{flow_worlds_are_covered}
+use Rattle.bw_cover.proofs.FlowWorlds.{flow_empty_is_covered, flow_worlds_are_covered}
 use Rattle.bw_analyse.specs.declared.abstracts.Abstract.{Abstract}
 use Rattle.bw_analyse.specs.declared.abstracts.Abstract.TheVariants.{Nothing, Str, Html}
 use Rattle.bw_analyse.specs.declared.facts.Facts.{Facts}
@@ -47,33 +40,13 @@ use Rattle.bw_analyse.specs.Least.{flow_of}
 use Rattle.bw_analyse.specs.Rounds.{empty}
 use Rattle.bw_analyse.specs.StepLaws.{local_up, shared_up, expression_up}
 use Rattle.bw_analyse_cover.specs.Laws.{HasNoGapFault, NoneIsListed, FactsSolve, FactsAreAccepted, FactsCoverWorlds}
-use Rattle.bw_analyse_cover.specs.Seen.{seen, seen_some, scope_of, graph_of, cells_of, facts_of, ends, ends_at}
+use Rattle.bw_analyse_cover.specs.Seen.{seen, seen_some, scope_of, graph_of, cells_of, facts_of, known_of, is_show, ends, ends_at}
 use Rattle.bw_analyse_cover.proofs.Told.{f_fits, f_least, page_is}
 use Rattle.bw_analyse_cover.proofs.Cells.{few, woven, typed_flow, row_fits, last_fits, known_at, cells_agree, cells_are_least}
 use Rattle.bw_analyse_cover.proofs.Literals.{AllLiterals, ActLiterals, points_good}
 use Rattle.bw_analyse_cover.proofs.KindLaws.{of_kind, summary_seen, same_below, plug_fits}
-use Rattle.bw_analyse_cover.proofs.Seen.{AreAmong, nat_below, among_both, plugged_seen}
-
--- ---- the place of a statement
-
-place_below : {X : Type 0} (q : X → Bool) (xs : List X) (i : ℕ) (x : X) → slice_get xs i ≡ Some x → q x ≡ true → position_or_len q xs < length xs
-place_below q xs i x e h = by_cases (cases_lt (position_or_len q xs) (length xs))
-  where
-    by_cases : (position_or_len q xs < length xs) ⊎ (length xs ≤ position_or_len q xs) → position_or_len q xs < length xs
-    by_cases (inl l) = l
-    by_cases (inr l) =
-        let below = slice_get_within xs i x e in
-        absurd (false≢true (sym (fails_before_first q xs i x (omega arith)) ∙ ap q (get_or_from_slice_get xs i x x e) ∙ h))
-
-is_found : {X : Type 0} (q : X → Bool) (xs : List X) (i : ℕ) (x : X) → slice_get xs i ≡ Some x → q x ≡ true → position q xs ≡ Some (position_or_len q xs)
-is_found q xs i x e h =
-    ap (λ (b : Bool). cond b (Some (position_or_len q xs)) None) (nat_below (position_or_len q xs) (length xs) (place_below q xs i x e h))
-
-is_own : (x : Step) → is_join x.act ≡ false → is_statement x.number x ≡ true
-is_own x e = (λ i. same_number x.number i && not (e i))
-  where
-    same_number : (k : ℕ) → nat_eq k k ≡ true
-    same_number k = grind (arith, nat_tests)
+use Rattle.bw_analyse_cover.proofs.Places.{show_placed}
+use Rattle.bw_analyse_cover.proofs.Seen.{AreAmong, among_both, plugged_seen}
 
 module _ (t : Typed) (facts : Facts) (h : AreFacts t.service facts) (never : HasNoGapFault t.service facts) where
   abbrev service : Service
@@ -190,18 +163,11 @@ module _ (t : Typed) (facts : Facts) (h : AreFacts t.service facts) (never : Has
         same_below _ _ (ap summary_of (sym (is_known e kinds.Html i l)) ∙ summary_seen service (known service names e) (is_kind e kinds.Html i)
         ∙ sym (ap (graph_of service) (shown_is e k)))
 
-    placed_at : is_join x.act ≡ false → F.place x.number ≡ p
-    placed_at e =
-        let q = position_or_len (is_statement x.number) flow in
-        let there = is_found (is_statement x.number) flow p x at (is_own x e) in
-        let found = (finds_each service x.number).0 q there in
-        ap (λ o. unwrap_or o 0) there ∙ all_have_numbers service q p found.0 x found.1 at found.3 e found.2
-
     act_shows : (a : Act) → x.act ≡ a → IsTypedAct service x.scope a → ActLiterals service a → ActShows service F p x.number a
     act_shows (sets w e) k i l = tt
     act_shows (tests e) k i l = tt
     act_shows (goes_over w e) k i l = tt
-    act_shows (shows e rs) k i l = (page_below e (ap page_of k) i.0 l, placed_at (ap is_join k))
+    act_shows (shows e rs) k i l = (page_below e (ap page_of k) i.0 l, show_placed service p x at (ap is_show k))
     act_shows (exits e) k i l = (page_below e (ap page_of k) i l, ap (λ o. ends_at o) at ∙ ap ends k)
     act_shows joins k i l = tt
 
@@ -234,8 +200,9 @@ pub facts_solve : FactsSolve
 facts_solve t facts h never = solved t facts h never
 
 pub facts_are_accepted : FactsAreAccepted
-facts_are_accepted t facts h never = solved_places_are_accepted t.service (facts_of t.service (rows_of facts) (shown_fact facts)) (solved t facts h never)
+facts_are_accepted t facts h never = solved_places_are_accepted t.service (known_of t.service facts) (solved t facts h never)
 
 pub facts_cover_worlds : FactsCoverWorlds
-facts_cover_worlds t facts w h never r =
-    flow_worlds_are_covered t.service (facts_of t.service (rows_of facts) (shown_fact facts)) w (facts_are_accepted t facts h never) r
+facts_cover_worlds t facts h never =
+    let a = facts_are_accepted t facts h never in
+    (flow_empty_is_covered t.service (known_of t.service facts) a, flow_worlds_are_covered t.service (known_of t.service facts) a)

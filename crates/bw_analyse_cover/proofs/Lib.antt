@@ -1,4 +1,5 @@
 pub mod Seen
+pub mod Places
 pub mod Literals
 pub mod Rounds
 pub mod Steps

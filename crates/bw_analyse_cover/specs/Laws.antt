@@ -3,7 +3,6 @@ use Rattle.std.specs.Prelude.{◌≡◌, ℕ, ◌==◌, ◌^◌, ◌<◌, List, 
 use Rattle.bw_faults.specs.declared.fault.Fault.{Fault}
 use Rattle.bw_faults.specs.Lists.{Lists}
 use Rattle.bw_lang.specs.declared.service.Service.{Service}
-use Rattle.bw_model.specs.Sessions.{World}
 use Rattle.bw_solve.specs.System.{EachFits}
 use Rattle.bw_strings.specs.Literals.{literals_of}
 use Rattle.bw_sum.specs.Graph.{graph}
@@ -16,15 +15,15 @@ use Rattle.bw_cover.specs.Flows.{flow_edges}
 use Rattle.bw_cover.specs.FlowKinds.{SolvesPlaces}
 use Rattle.bw_cover.specs.FlowWorlds.{AcceptsPlaces}
 use Rattle.bw_cover.specs.Least as least
-use Rattle.bw_cover.specs.Worlds.{Reached, CoversWorld, CoversNext}
+use Rattle.bw_cover.specs.Worlds.{CoversEmpty, CoversReached}
 use Rattle.bw_analyse.specs.declared.abstracts.Abstract.{Abstract}
 use Rattle.bw_analyse.specs.declared.facts.Facts.{Facts}
-use Rattle.bw_analyse.specs.Facts.{AreFacts, rows_of, local_fact, shared_fact, shown_fact, page_of}
+use Rattle.bw_analyse.specs.Facts.{AreFacts, local_fact, shared_fact, shown_fact, page_of}
 use Rattle.bw_analyse.specs.Fits.{FitsCell}
 use Rattle.bw_analyse.specs.GapFaults.{IsGapFault}
 use Rattle.bw_analyse.specs.Least.{flow_of, rows, IsLeastSolution}
 use Rattle.bw_analyse.specs.Rounds.{empty}
-use Rattle.bw_analyse_cover.specs.Seen.{seen, cells_of, facts_of}
+use Rattle.bw_analyse_cover.specs.Seen.{seen, cells_of, facts_of, known_of}
 
 -- The least solution of a typed service holds the least cells of its flow: the union of all rounds over the edges of the
 -- flow, from empty cells.
@@ -49,7 +48,7 @@ pub record SayAnswers (service : Service) (f : CoverFacts ℕ) (facts : Facts) :
 abbrev pub FactsSayAnswers : Type 0
 FactsSayAnswers =
     (t : Typed) (facts : Facts) → AreFacts t.service facts
-    → SayAnswers t.service (facts_of t.service (rows_of facts) (shown_fact facts)) facts
+    → SayAnswers t.service (known_of t.service facts) facts
 
 -- no plug of the service may miss its gap
 abbrev pub HasNoGapFault : Service → Facts → Type 0
@@ -64,17 +63,16 @@ NoneIsListed = (service : Service) (facts : Facts) → Lists (IsGapFault service
 abbrev pub FactsSolve : Type 0
 FactsSolve =
     (t : Typed) (facts : Facts) → AreFacts t.service facts → HasNoGapFault t.service facts
-    → SolvesPlaces t.service (facts_of t.service (rows_of facts) (shown_fact facts))
+    → SolvesPlaces t.service (known_of t.service facts)
 
 -- They obey all that the laws of covering ask for.
 abbrev pub FactsAreAccepted : Type 0
 FactsAreAccepted =
     (t : Typed) (facts : Facts) → AreFacts t.service facts → HasNoGapFault t.service facts
-    → AcceptsPlaces t.service (facts_of t.service (rows_of facts) (shown_fact facts))
+    → AcceptsPlaces t.service (known_of t.service facts)
 
--- So every world that requests reach is covered by them, and whatever comes next.
+-- So they cover its empty world, and every world that requests reach from one that they cover, and whatever comes next.
 abbrev pub FactsCoverWorlds : Type 0
 FactsCoverWorlds =
-    (t : Typed) (facts : Facts) (w : World) → AreFacts t.service facts → HasNoGapFault t.service facts → Reached t.service w
-    → CoversWorld t.service (facts_of t.service (rows_of facts) (shown_fact facts)) w
-    × CoversNext t.service (facts_of t.service (rows_of facts) (shown_fact facts)) w
+    (t : Typed) (facts : Facts) → AreFacts t.service facts → HasNoGapFault t.service facts
+    → CoversEmpty t.service (known_of t.service facts) × CoversReached t.service (known_of t.service facts)

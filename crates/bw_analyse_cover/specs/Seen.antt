@@ -1,8 +1,8 @@
 -- The facts of a service, as facts of which the laws of covering speak.
-use Rattle.std.specs.Prelude.{ℕ, Bool, true, false, List, [], length, position, unwrap_or, Option, Some, None, slice_get}
+use Rattle.std.specs.Prelude.{ℕ, Bool, true, false, ◌&&◌, nat_eq, List, [], length, Option, Some, None, slice_get}
+use Rattle.std.specs.List.{position_or_len}
 use Rattle.bw_lang.specs.declared.service.Service.{Service}
 use Rattle.bw_flow.specs.declared.point.Local.{Local}
-use Rattle.bw_flow.specs.Flows.{is_statement}
 use Rattle.bw_flow.specs.Steps.{Act, sets, tests, goes_over, shows, exits, joins, Step}
 use Rattle.bw_strings.specs.Asking.{has_string}
 use Rattle.bw_strings.specs.Literals.{literals_of}
@@ -13,7 +13,9 @@ use Rattle.bw_cover.specs.Facts.{Facts}
 use Rattle.bw_cover.specs.Least.{Cells}
 use Rattle.bw_analyse.specs.declared.abstracts.Abstract.{Abstract}
 use Rattle.bw_analyse.specs.declared.abstracts.Abstract.TheVariants.{Nothing, Str, Html}
+use Rattle.bw_analyse.specs.declared.facts.Facts as own
 use Rattle.bw_analyse.specs.Abstracts.{no_document}
+use Rattle.bw_analyse.specs.Facts.{rows_of, shown_fact}
 use Rattle.bw_analyse.specs.Known.{local_names, of_local, of_shared}
 use Rattle.bw_analyse.specs.Least.{flow_of}
 
@@ -58,6 +60,23 @@ abbrev pub ends_at : Option Step → Bool
 ends_at None = false
 ends_at (Some x) = ends x.act
 
+-- whether a point is a show
+abbrev pub is_show : Act → Bool
+is_show (shows e rs) = true
+is_show (sets v e) = false
+is_show (tests e) = false
+is_show (goes_over v e) = false
+is_show (exits e) = false
+is_show joins = false
+
+-- whether it is the show of this number
+abbrev pub is_show_of : ℕ → Step → Bool
+is_show_of k x = nat_eq x.number k && is_show x.act
+
+-- the place of the show of this number, or one behind the flow where no show has it
+abbrev pub place_of : Service → ℕ → ℕ
+place_of service k = position_or_len (is_show_of k) (flow_of service)
+
 -- what rows and the summaries of pages tell about the places of the flow
 abbrev pub facts_of : Service → (ℕ → List Abstract) → (ℕ → Option Summary) → Facts ℕ
 facts_of service f pages = record {
@@ -66,5 +85,9 @@ facts_of service f pages = record {
   shared = (cells_of service f).shared;
   shown = λ p. graph_of service (pages p);
   is_exit = λ p. ends_at (slice_get (flow_of service) p);
-  place = λ k. unwrap_or (position (is_statement k) (flow_of service)) 0;
+  place = place_of service;
 }
+
+-- so what the facts of a service tell
+abbrev pub known_of : Service → own.Facts → Facts ℕ
+known_of service facts = facts_of service (rows_of facts) (shown_fact facts)

@@ -13,8 +13,8 @@ pub fn facts_say_answers()
 {}
 
 /// The facts of a typed service of which no plug may miss its gap, as where `gap_faults` lists none, solve the system of the
-/// laws of covering, and are accepted by them. So every world that requests reach is covered by the facts, whichever
-/// sessions they interleave, and so is whatever comes next.
+/// laws of covering, and are accepted by them. So the facts cover the empty world, and every world that requests reach from
+/// one that they cover, whichever sessions these interleave, and whatever comes next.
 pub fn facts_cover()
     ensures gaps { NoneIsListed }
     ensures solved { FactsSolve }

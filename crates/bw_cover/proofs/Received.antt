@@ -1,6 +1,7 @@
 -- What a show of the flow receives is what its statement receives.
 use Rattle.std.proofs.Common.{◌≡◌, ◌⊎◌, ℕ, ◌+◌, ◌<◌, ◌≤◌, List, [], ◌++◌, refl, ap, sym, ◌∙◌, inl, inr}
 use Rattle.std.specs.Prelude.{◌==◌, if◌then◌else◌}
+use Rattle.std.proofs.lemmas.Bool.{cases_lt}
 use Rattle.bw_lang.specs.declared.service.Service.{Service}
 use Rattle.bw_lang.specs.declared.stmt.Kind.TheVariants as kinds
 use Rattle.bw_lang.specs.declared.stmt.Receive.{Receive}
@@ -20,7 +21,7 @@ use Rattle.bw_flow.proofs.Stands.{stands_for_all}
 use Rattle.bw_model.specs.Received.{receives_at, receives_of}
 use Rattle.bw_cover.specs.Received.{scope_at, scope_of, ShowsReceive}
 use Rattle.bw_cover.proofs.FlowWorlds.{stands_here}
-use Rattle.bw_cover.proofs.Shows.{split, IsOutside, at_show, outside, Agree, agree}
+use Rattle.bw_cover.proofs.Shows.{IsOutside, at_show, outside, Agree, agree}
 
 -- ---- scopes and receives
 
@@ -67,7 +68,7 @@ receives_outside service session k h =
 
 -- a number is one of these, or outside
 pub inside_or_not : (k n count : ℕ) → ((n ≤ k) × (k < n + count)) ⊎ IsOutside k n count
-inside_or_not k n count = by (split k n) (split k (n + count))
+inside_or_not k n count = by (cases_lt k n) (cases_lt k (n + count))
   where
     by : (k < n) ⊎ (n ≤ k) → (k < n + count) ⊎ (n + count ≤ k) → ((n ≤ k) × (k < n + count)) ⊎ IsOutside k n count
     by (inl h) g = inr (inl h)

@@ -1,8 +1,8 @@
 -- What is found at the show of a number, by the statements, is made of what the flow's show has.
-use Rattle.std.proofs.Common.{◌≡◌, ◌⊎◌, ℕ, zero, suc, ◌+◌, ◌<◌, ◌≤◌, Bool, true, false, List, [], ◌++◌, slice_get, refl, ap, sym, ◌∙◌}
+use Rattle.std.proofs.Common.{◌≡◌, ◌⊎◌, ℕ, ◌+◌, ◌<◌, ◌≤◌, Bool, true, false, List, [], ◌++◌, slice_get, refl, ap, sym, ◌∙◌}
 use Rattle.std.proofs.Common.{inl, inr, arith}
 use Rattle.std.specs.Prelude.{◌==◌, if◌then◌else◌}
-use Rattle.std.proofs.lemmas.Bool.{eq-eqb, ne_eqb}
+use Rattle.std.proofs.lemmas.Bool.{cases_lt, eq-eqb, ne_eqb}
 use Rattle.std.proofs.lemmas.List.{append-nil}
 use Rattle.std.proofs.lemmas.Option.{same_Some}
 use Rattle.bw_lang.specs.declared.service.Service.{Service}
@@ -19,15 +19,6 @@ use Rattle.bw_flow.specs.Scopes.{with_local}
 use Rattle.bw_flow.specs.Stands.{IsAt, Lowered}
 use Rattle.bw_flow.specs.Steps.{Act, Step}
 use Rattle.bw_flow.specs.Steps as acts
-
-pub split : (a b : ℕ) → (a < b) ⊎ (b ≤ a)
-split a zero = inr (omega arith)
-split zero (suc b) = inl (omega arith)
-split (suc a) (suc b) = by (split a b)
-  where
-    by : (a < b) ⊎ (b ≤ a) → (suc a < suc b) ⊎ (suc b ≤ suc a)
-    by (inl h) = inl (omega (arith, h))
-    by (inr h) = inr (omega (arith, h))
 
 -- what isn't the number of one of the statements
 abbrev pub IsOutside : ℕ → ℕ → ℕ → Type 0
@@ -127,7 +118,7 @@ module _ {A : Type 0} (f : List Local → List Receive → List A) where
 
     -- and the number of x is behind it
     past : (n k : ℕ) → n ≤ k → (n ≡ k → ⊥) → n + 1 ≤ k
-    past n k a g = by (split n k)
+    past n k a g = by (cases_lt n k)
       where
         by : (n < k) ⊎ (k ≤ n) → n + 1 ≤ k
         by (inl h) = omega (arith, h)
@@ -149,7 +140,7 @@ module _ {A : Type 0} (f : List Local → List Receive → List A) where
         agree rest (n + 1) (with_local sc w k) d low.0 r low.2 (past n x.number a (another _ q low.1 refl refl)) (omega (arith, b))
     agree (assign w e rest) n sc d q r low a b = agree rest (n + 1) sc d low.0 r low.2 (past n x.number a (another _ q low.1 refl refl)) (omega (arith, b))
     agree (exit e rest) n sc d q r low a b = agree rest (n + 1) sc d low.0 r low.2 (past n x.number a (another _ q low.1 refl refl)) (omega (arith, b))
-    agree (show e rs rest) n sc d q r low a b = by (split n x.number) (agree rest (n + 1) sc d low.0 r low.2)
+    agree (show e rs rest) n sc d q r low a b = by (cases_lt n x.number) (agree rest (n + 1) sc d low.0 r low.2)
       where
         by : (n < x.number) ⊎ (x.number ≤ n) → (n + 1 ≤ x.number → x.number < n + 1 + numbered rest → Agree (at_show rest (n + 1) sc x.number))
             → Agree (at_show (show e rs rest) n sc x.number)
@@ -167,7 +158,7 @@ module _ {A : Type 0} (f : List Local → List Receive → List A) where
                   ∙ first_alone (f sc rs) _ (outside rest (n + 1) sc x.number (inl (omega (arith, g)))) ∙ ap (λ (z : Step). f z.scope rs) (sym one);
             }
     agree (if_then t y rest) n sc d q r low a b =
-        by (split x.number (n + 1 + numbered y)) (agree y (n + 1) sc d low.0 low.1 low.5 (past n x.number a (another _ q low.3 refl refl)))
+        by (cases_lt x.number (n + 1 + numbered y)) (agree y (n + 1) sc d low.0 low.1 low.5 (past n x.number a (another _ q low.3 refl refl)))
         (agree rest (n + 1 + numbered y) sc d low.2 r low.6)
       where
         by : (x.number < n + 1 + numbered y) ⊎ (n + 1 + numbered y ≤ x.number) → (x.number < n + 1 + numbered y → Agree (at_show y (n + 1) sc x.number))
@@ -179,7 +170,7 @@ module _ {A : Type 0} (f : List Local → List Receive → List A) where
             agree_to _ _ (λ i. outside y (n + 1) sc x.number (inr (omega (arith, h))) i ++ at_show rest (n + 1 + numbered y) sc x.number)
             (later h (omega (arith, b)))
     agree (if_else t y z rest) n sc d q r low a b =
-        by (split x.number (n + 1 + numbered y)) (split x.number (n + 1 + numbered y + numbered z))
+        by (cases_lt x.number (n + 1 + numbered y)) (cases_lt x.number (n + 1 + numbered y + numbered z))
         (agree y (n + 1) sc d low.0 low.2 low.6 (past n x.number a (another _ q low.4 refl refl)))
         (agree z (n + 1 + numbered y) sc d low.1 low.2 low.7) (agree rest (n + 1 + numbered y + numbered z) sc d low.3 r low.8)
       where
@@ -202,7 +193,7 @@ module _ {A : Type 0} (f : List Local → List Receive → List A) where
             ++ (outside z (n + 1 + numbered y) sc x.number (inr g) i ++ at_show rest (n + 1 + numbered y + numbered z) sc x.number))
             (later g (omega (arith, b)))
     agree (while_loop t y rest) n sc d q r low a b =
-        by (split x.number (n + 1 + numbered y)) (agree y (n + 1) sc d low.0 q low.3 (past n x.number a (another _ q low.2 refl refl)))
+        by (cases_lt x.number (n + 1 + numbered y)) (agree y (n + 1) sc d low.0 q low.3 (past n x.number a (another _ q low.2 refl refl)))
         (agree rest (n + 1 + numbered y) sc d low.1 r low.4)
       where
         by : (x.number < n + 1 + numbered y) ⊎ (n + 1 + numbered y ≤ x.number) → (x.number < n + 1 + numbered y → Agree (at_show y (n + 1) sc x.number))
@@ -214,7 +205,7 @@ module _ {A : Type 0} (f : List Local → List Receive → List A) where
             agree_to _ _ (λ i. outside y (n + 1) sc x.number (inr (omega (arith, h))) i ++ at_show rest (n + 1 + numbered y) sc x.number)
             (later h (omega (arith, b)))
     agree (for_each w e y rest) n sc d q r low a b =
-        by (split x.number (n + 1 + numbered y))
+        by (cases_lt x.number (n + 1 + numbered y))
         (agree y (n + 1) (with_local sc w kinds.Str) (d + 1) low.0 q low.3 (past n x.number a (another _ q low.2 refl refl)))
         (agree rest (n + 1 + numbered y) sc d low.1 r low.4)
       where
@@ -229,7 +220,7 @@ module _ {A : Type 0} (f : List Local → List Receive → List A) where
             agree_to _ _ (λ i. outside y (n + 1) (with_local sc w kinds.Str) x.number (inr (omega (arith, h))) i
             ++ at_show rest (n + 1 + numbered y) sc x.number) (later h (omega (arith, b)))
     agree (block y rest) n sc d q r low a b =
-        by (split x.number (n + numbered y)) (agree y n sc d q low.0 low.1 a) (agree rest (n + numbered y) sc d low.0 r low.2)
+        by (cases_lt x.number (n + numbered y)) (agree y n sc d q low.0 low.1 a) (agree rest (n + numbered y) sc d low.0 r low.2)
       where
         by : (x.number < n + numbered y) ⊎ (n + numbered y ≤ x.number) → (x.number < n + numbered y → Agree (at_show y n sc x.number))
             → (n + numbered y ≤ x.number → x.number < n + numbered y + numbered rest → Agree (at_show rest (n + numbered y) sc x.number))

@@ -2,7 +2,8 @@
 //!
 //! `read_request` takes bytes from a source, in whatever pieces they come, and gives the request that they begin with,
 //! or the one refusal that is due. What is left over stays in the intake for the next call. `lack` says what bytes that
-//! came so far still lack for that. `write_reply` writes the bytes of a reply. docs/HTTP.md says what is a request here, in which order it is tested and what each test is for.
+//! came so far still lack for that. `write_reply` writes the bytes of a reply. docs/HTTP.md says what is a request here, in
+//! which order it is tested and what each test is for.
 #![tactic(auto)]
 
 mod decide;

@@ -44,10 +44,10 @@ use Rattle.bw_analyse.specs.TypedSystem.{few_of}
 use Rattle.bw_within.proofs.Named.{received_have_numbers}
 use Rattle.bw_analyse_cover.specs.Seen.{graph_of}
 use Rattle.bw_analyse_cover.proofs.Cells.{typed_flow, typed_service, known_gaps, row_fits, last_fits}
+use Rattle.bw_analyse_cover.proofs.Places.{ShowsAt, ExitsAt}
 use Rattle.bw_analyse_cover.proofs.Told.{f_fits, page_is}
 use Rattle.bw_check.specs.Accepts.{IsAccepted}
 use Rattle.bw_check.specs.Faults.{received_at}
-use Rattle.bw_sound.proofs.Places.{ShowsAt, ExitsAt}
 use Rattle.bw_sound.proofs.Summed.{show_there, exit_there, has_title, title, target, shown_is, exited_is}
 use Rattle.bw_sound.proofs.Unfolded.{shown_unfolds, ended_unfolds}
 use Rattle.bw_sound.proofs.Wrapped.{shown, ended, shown_closed, ended_closed}
@@ -135,20 +135,20 @@ module _ (t : Typed) (schema : Schema) (facts : Facts) (accepted : IsAccepted t.
 
   -- ---- shows
 
-  module _ (p : ℕ) (s : ShowsAt service p) (d : Forest) (h : CoversTree service (graph_of service (shown_fact facts p)) d) (link : List ℕ) where
+  module _ (k p : ℕ) (s : ShowsAt service k p) (d : Forest) (h : CoversTree service (graph_of service (shown_fact facts p)) d) (link : List ℕ) where
     show_summary : HasSummary facts p
     show_summary =
-        has_summary p s.step s.is_at s.term (ap page_of s.is_show)
-        (subst (IsTypedAct service s.step.scope) s.is_show (acts_typed p s.step s.is_at)).0
+        has_summary p s.step s.is_at s.term (ap page_of s.acts)
+        (subst (IsTypedAct service s.step.scope) s.acts (acts_typed p s.step s.is_at)).0
 
     abbrev show_summary_page : Summary
     show_summary_page = shown_page service (name_of service) show_summary.summary
 
     show_page_is : page_graph service facts p ≡ show_summary_page
-    show_page_is = (λ i. page_in service (show_summary.is_shown i) (s.is_at i)) ∙ ap (page_by service show_summary.summary) s.is_show
+    show_page_is = (λ i. page_in service (show_summary.is_shown i) (s.is_at i)) ∙ ap (page_by service show_summary.summary) s.acts
 
     show_some : page_of s.step.act ≡ None → ⊥
-    show_some = some_is (page_of s.step.act) s.term (ap page_of s.is_show)
+    show_some = some_is (page_of s.step.act) s.term (ap page_of s.acts)
 
     show_unfolds : Unfolds T (graph L show_summary_page) (length service.templates) (shown service.name link d)
     show_unfolds =
@@ -167,8 +167,8 @@ module _ (t : Typed) (schema : Schema) (facts : Facts) (accepted : IsAccepted t.
 
     show_numbers : All (IsReceived service) (received_at s.step.act)
     show_numbers =
-        subst (λ a. All (IsReceived service) (received_at a)) (sym s.is_show)
-        (received_have_numbers t p s.step s.term s.received s.is_at s.is_show)
+        subst (λ a. All (IsReceived service) (received_at a)) (sym s.acts)
+        (received_have_numbers t p s.step s.term s.received s.is_at s.acts)
 
     pub show_fields : All (HasField service (show_page service.name link d)) (received_at s.step.act)
     show_fields =
@@ -180,13 +180,13 @@ module _ (t : Typed) (schema : Schema) (facts : Facts) (accepted : IsAccepted t.
   module _ (p : ℕ) (s : ExitsAt service p) (d : Forest) (h : CoversTree service (graph_of service (shown_fact facts p)) d) where
     exit_summary : HasSummary facts p
     exit_summary =
-        has_summary p s.step s.is_at s.term (ap page_of s.is_exit) (subst (IsTypedAct service s.step.scope) s.is_exit (acts_typed p s.step s.is_at))
+        has_summary p s.step s.is_at s.term (ap page_of s.acts) (subst (IsTypedAct service s.step.scope) s.acts (acts_typed p s.step s.is_at))
 
     abbrev exit_summary_page : Summary
     exit_summary_page = exited_page service (name_of service) exit_summary.summary
 
     exit_page_is : page_graph service facts p ≡ exit_summary_page
-    exit_page_is = (λ i. page_in service (exit_summary.is_shown i) (s.is_at i)) ∙ ap (page_by service exit_summary.summary) s.is_exit
+    exit_page_is = (λ i. page_in service (exit_summary.is_shown i) (s.is_at i)) ∙ ap (page_by service exit_summary.summary) s.acts
 
     exit_unfolds : Unfolds T (graph L exit_summary_page) (length service.templates + 1) (ended service.name d)
     exit_unfolds =
@@ -200,5 +200,5 @@ module _ (t : Typed) (schema : Schema) (facts : Facts) (accepted : IsAccepted t.
     pub exit_valid : Valid schema (exit_page service.name d)
     exit_valid =
         subst (Valid schema) (ended_closed service.name d)
-        (valid_page p s.step s.is_at (some_is (page_of s.step.act) s.term (ap page_of s.is_exit)) exit_summary_page exit_page_is
+        (valid_page p s.step s.is_at (some_is (page_of s.step.act) s.term (ap page_of s.acts)) exit_summary_page exit_page_is
         (codes "html", [], _, exit_there service) (ended service.name d) exit_unfolds)

@@ -1,37 +1,63 @@
 -- Each page that the next request is answered is good.
-use Rattle.std.proofs.Common.{◌≡◌, ℕ, suc, Bool, true, false, List, [], ◌∷◌, take, Option, Some, None, refl, sym, ap, subst, arith}
+use Rattle.std.proofs.Common.{◌≡◌, ℕ, suc, false, List, [], ◌∷◌, take, refl, sym, ap, subst, arith}
 use Rattle.std.proofs.Common.{length-append}
-use Rattle.std.specs.Prelude.{◌==◌, nat_lt, if◌then◌else◌}
 use Rattle.std.specs.List.{Contains}
 use Rattle.bw_http.specs.declared.replies.Reply.{Reply}
 use Rattle.bw_http.specs.declared.replies.Reply.TheVariants as replies
-use Rattle.bw_http.specs.declared.request.Method.{Method}
-use Rattle.bw_http.specs.declared.request.Method.TheVariants.{Get, Post, Other}
-use Rattle.bw_http.specs.declared.request.Path.{Path}
 use Rattle.bw_http.specs.declared.request.Path.TheVariants as paths
+use Rattle.bw_http.specs.Forms.{IsTextForm}
 use Rattle.bw_http.specs.Paths.{spelling}
-use Rattle.bw_judge.proofs.Sound.{first_in}
+use Rattle.bw_judge.proofs.Sound.{first_in, later_in}
 use Rattle.bw_lang.specs.declared.service.Service.{Service}
-use Rattle.bw_lang.specs.Document.Print.{print}
+use Rattle.bw_lang.specs.Document.Print.{print, joined}
+use Rattle.bw_made.specs.Made.{IsItemsOf, IsPageOf, IsTextOutcome}
+use Rattle.bw_made.specs.Worlds.{IsTextTalk, IsTextWorld}
+use Rattle.bw_made.proofs.Whole.{results_are_made, next_are_made}
 use Rattle.bw_meaning.specs.States.{Form, Input, Outcome, Went, Shown, Exited, Failed, Rests}
 use Rattle.bw_meaning.specs.Values.{Document, Values}
-use Rattle.bw_model.specs.Answers.{Shows, Answered, refuses as no_answer, turned, takes, waits, with_input, answered}
-use Rattle.bw_model.specs.Received.{receives_of, first_refusal}
+use Rattle.bw_model.specs.Answers.{Shows, Ends, with_input}
+use Rattle.bw_model.specs.Laws.{is_page}
 use Rattle.bw_model.specs.Sessions.{Talk, Live, World, now, current}
-use Rattle.bw_model.specs.Steps.{Step, refuses, begins, reply_to, starts, asks, fated, founded, beginner, taken_out, on_path}
-use Rattle.bw_model.proofs.Found.{IsOut, session as a_session, out, out_all}
+use Rattle.bw_model.specs.Steps.{Step, reply_to, beginner}
+use Rattle.bw_model.proofs.Found.{Out, here, later, out_all}
+use Rattle.bw_model.proofs.Views.{View, refused, again, begun, gone_on}
 use Rattle.bw_page.specs.Pages.{show_page}
 use Rattle.bw_schema.specs.declared.schema.Schema.{Schema}
 use Rattle.bw_types.specs.declared.typed.Typed.{Typed}
-use Rattle.bw_types.specs.Scopes.{session_of}
 use Rattle.bw_cover.specs.Abstracts.{CoversTree}
 use Rattle.bw_cover.specs.Covered.{IsCovered}
 use Rattle.bw_cover.specs.Worlds.{CoversTalk, CoversWorld, CoversNext, ComesToCovered, WaitsAtShow}
 use Rattle.bw_analyse.specs.declared.facts.Facts.{Facts}
 use Rattle.bw_check.specs.Accepts.{IsAccepted}
-use Rattle.bw_sound.specs.Good.{IsGood}
+use Rattle.bw_sound.specs.Good.{ReadsAsValid, IsNext, begins, goes_on, IsGood}
 use Rattle.bw_sound.proofs.Covered.{F, show_good, end_good}
-use Rattle.bw_sound.proofs.Refused.{OfRefusal, of_first}
+use Rattle.bw_sound.proofs.Read.{show_reads, last_reads}
+
+-- a session that is taken out is one of them
+out_there : (number key : ℕ) (ls : List Live) (m : Live) (others : List Live) → Out number key ls m others → Contains ls m
+out_there number key _ _ _ (here l ls e) = first_in l ls
+out_there number key _ _ _ (later l m ls others e o) = later_in l m ls (out_there number key ls m others o)
+
+-- a reply without a page is good
+pub no_page : (service : Service) (schema : Schema) (before after : World) (reply : Reply) → is_page reply ≡ false → IsGood service schema before after reply
+no_page service schema before after (replies.Page body) e = absurd (cc)
+no_page service schema before after (replies.Final body) e = absurd (cc)
+no_page service schema before after (replies.Index body) e = tt
+no_page service schema before after replies.NoSuch e = tt
+no_page service schema before after (replies.Method m) e = tt
+no_page service schema before after (replies.Stale n) e = tt
+no_page service schema before after (replies.Lacking n) e = tt
+no_page service schema before after (replies.Repeated n) e = tt
+no_page service schema before after (replies.FieldTooLong n) e = tt
+no_page service schema before after (replies.Failed f) e = tt
+no_page service schema before after replies.NoNumbers e = tt
+no_page service schema before after replies.NoTurns e = tt
+no_page service schema before after replies.Bad e = tt
+no_page service schema before after replies.LengthRequired e = tt
+no_page service schema before after replies.BodyTooLong e = tt
+no_page service schema before after replies.Media e = tt
+no_page service schema before after replies.HeadTooLong e = tt
+no_page service schema before after replies.Memory e = tt
 
 module _ (t : Typed) (schema : Schema) (facts : Facts) (accepted : IsAccepted t.service schema facts) where
   abbrev service : Service
@@ -43,16 +69,19 @@ module _ (t : Typed) (schema : Schema) (facts : Facts) (accepted : IsAccepted t.
   abbrev CoversShown : ℕ → Document → Type 0
   CoversShown at d = CoversTree service ((F t schema facts accepted).shown ((F t schema facts accepted).place at)) d.tree
 
-  abbrev good : World → Reply → Type 0
-  good w reply = IsGood service schema w reply
+  abbrev IsMadePage : Document → Type 0
+  IsMadePage d = IsPageOf (IsItemsOf service) d
 
   -- the page of a live session that waits is good
-  shown_good : (w : World) (l : Live) (at : ℕ) (locals : Values) (rests : Rests) (d : Document) (shared : Values) (units turn : ℕ) → Contains w.live l
-      → now service l.talk ≡ Shown at locals rests d shared units → CoversShown at d → turn ≡ current w.first l.talk
-      → good w (reply_to service l.number l.key (Shows d turn))
-  shown_good w l at locals rests d shared units turn live waits h same =
-      let link = spelling (paths.Turn l.number l.key (current w.first l.talk)) in
-      let g = show_good t schema facts accepted at link d.tree h in record {
+  shown_good : (before w : World) (l : Live) (at : ℕ) (locals : Values) (rests : Rests) (d : Document) (shared : Values) (units turn : ℕ) → Contains w.live l
+      → now service l.talk ≡ Shown at locals rests d shared units → CoversShown at d → IsMadePage d → turn ≡ current w.first l.talk
+      → IsGood service schema before w (reply_to service l.number l.key (Shows d turn))
+  shown_good before w l at locals rests d shared units turn live waits h made same =
+      let n = current w.first l.talk in
+      let link = spelling (paths.Turn l.number l.key n) in
+      let g = show_good t schema facts accepted l.talk.session at link d.tree h in
+      let page_of = λ (k : ℕ). print (show_page service.name (spelling (paths.Turn l.number l.key k)) d.tree) in
+      record {
         session = l;
         is_live = live;
         at = at;
@@ -62,132 +91,91 @@ module _ (t : Typed) (schema : Schema) (facts : Facts) (accepted : IsAccepted t.
         shared = shared;
         units = units;
         waits = waits;
+        is_made = made;
         page = show_page service.name link d.tree;
         is_page = refl;
-        is_body = ap (λ k. print (show_page service.name (spelling (paths.Turn l.number l.key k)) d.tree)) same;
+        is_body = ap page_of same;
         valid = g.valid;
         fields = g.fields;
+        reads = subst (λ body. ReadsAsValid schema body (joined (show_page service.name link d.tree))) (sym (ap page_of same))
+            (show_reads service t.readable schema d made l.number l.key n g.valid);
       }
 
-  -- ---- starts
+  -- so is the last page of a session that begins, or goes on
+  ended_good : (w after : World) (number key : ℕ) (talk : Talk) (d : Document) (shared : Values) (units : ℕ) → IsNext w talk
+      → now service talk ≡ Exited d shared units → covers (Exited d shared units) → IsMadePage d
+      → IsGood service schema w after (reply_to service number key (Ends d))
+  ended_good w after number key talk d shared units next comes h made =
+      let valid = end_good t schema facts accepted h.at d.tree h.is_exit h.last_is in
+      record {
+        talk = talk;
+        is_next = next;
+        document = d;
+        shared = shared;
+        units = units;
+        comes = comes;
+        is_made = made;
+        page = _;
+        is_page = refl;
+        is_body = refl;
+        valid = valid;
+        reads = last_reads service t.readable schema d made valid;
+      }
 
-  begun_good : (w : World) (key : ℕ) (talk : Talk) (o : Outcome) → now service talk ≡ o → covers o → current w.first talk ≡ w.first
-      → good (founded w key (turned w.first talk o).fate) (reply_to service w.next key (turned w.first talk o).answer)
-  begun_good w key talk (Went st) e h first = tt
-  begun_good w key talk (Shown at locals rests d shared units) e h first =
-      let l : Live = record { number = w.next; key = key; talk = talk } in
-      let after : World = record w { shared = shared; next = suc w.next; live = take 1000 (l ∷ w.live) } in
-      shown_good after l at locals rests d shared units w.first (first_in l (take 999 w.live)) e h.shown_is (sym first)
-  begun_good w key talk (Exited d shared units) e h first = record {
-    document = d;
-    page = _;
-    is_page = refl;
-    is_body = refl;
-    valid = end_good t schema facts accepted h.at d.tree h.is_exit h.last_is;
-  }
-  begun_good w key talk (Failed f units) e h first = tt
+  module _ (w : World) (form : Form) (h : CoversWorld service (F t schema facts accepted) w) (next : CoversNext service (F t schema facts accepted) w)
+      (made : IsTextWorld (IsItemsOf service) w) (is_text : IsTextForm form) where
+    -- what a session comes to that begins, or goes on
+    begun_made : (session : ℕ) (o : Outcome) → now service (beginner w session) ≡ o → IsTextOutcome (IsItemsOf service) o
+    begun_made session o e =
+        let talk = beginner w session in
+        subst (IsTextOutcome (IsItemsOf service)) e (results_are_made service talk t.readable ((next_are_made service w made).0 session))
 
-  abbrev GoodStep : Step → Type 0
-  GoodStep s = good s.world s.reply
+    gone_made : (l : Live) (o : Outcome) → IsTextTalk (IsItemsOf service) l.talk → now service (with_input l.talk form w.shared) ≡ o
+        → IsTextOutcome (IsItemsOf service) o
+    gone_made l o m e =
+        let talk = with_input l.talk form w.shared in
+        subst (IsTextOutcome (IsItemsOf service)) e
+        (results_are_made service talk t.readable ((next_are_made service w made).1 l.talk form m is_text))
 
-  module _ (w : World) (next : CoversNext service (F t schema facts accepted) w) where
-    started : (key : ℕ) (o : Option ℕ) → GoodStep (starts service w key o)
-    started key None = tt
-    started key (Some s) = by_test (nat_lt 4294967295 w.next)
-      where
-        by_test : (b : Bool)
-            → GoodStep (if b then refuses w replies.NoNumbers else begins service w key (turned w.first (beginner w s) (now service (beginner w s))))
-        by_test true = tt
-        by_test false = begun_good w key (beginner w s) (now service (beginner w s)) refl (next.begins s).result (omega arith)
+    live_made : (number key : ℕ) (l : Live) (others : List Live) → Out number key w.live l others → IsTextTalk (IsItemsOf service) l.talk
+    live_made number key l others o = (out_all (λ (m : Live). IsTextTalk (IsItemsOf service) m.talk) number key w.live l others o made.live).0
 
-  -- ---- turns
+    -- and is covered
+    begun_covered : (session : ℕ) (o : Outcome) → now service (beginner w session) ≡ o → covers o
+    begun_covered session o e = subst covers e (next.begins session).result
 
-  -- what is answered to a session, and what becomes of the world, is good
-  abbrev GoodAnswer : World → Live → List Live → Answered → Type 0
-  GoodAnswer w l others a = good (fated w l others a.fate) (reply_to service l.number l.key a.answer)
-
-  -- with one input more
-  gone_on : (w : World) (l : Live) (others : List Live) (talk : Talk) (turn : ℕ) (o : Outcome) → now service talk ≡ o → covers o
-      → turn ≡ current w.first talk → GoodAnswer w l others (turned turn talk o)
-  gone_on w l others talk turn (Went st) e h same = tt
-  gone_on w l others talk turn (Shown at locals rests d shared units) e h same =
-      let m : Live = record l { talk = talk } in
-      shown_good (record w { shared = shared; live = m ∷ others }) m at locals rests d shared units turn (first_in m others) e h.shown_is same
-  gone_on w l others talk turn (Exited d shared units) e h same = record {
-    document = d;
-    page = _;
-    is_page = refl;
-    is_body = refl;
-    valid = end_good t schema facts accepted h.at d.tree h.is_exit h.last_is;
-  }
-  gone_on w l others talk turn (Failed f units) e h same = tt
-
-  module _ (w : World) (l : Live) (others : List Live) (form : Form) (c : CoversTalk service (F t schema facts accepted) l.talk)
-      (more : ComesToCovered service (F t schema facts accepted) (with_input l.talk form w.shared)) where
-    took : (r : Option Reply) → OfRefusal (λ reply. (v : World) → good v reply) (λ f v. tt) (λ f v. tt) (λ f v. tt) r
-        → GoodAnswer w l others (takes service w.first l.talk form w.shared r)
-    took (Some reply) h = h w
-    took None h = by_test (current w.first l.talk == 4294967295)
-      where
-        by_test : (b : Bool)
-            → GoodAnswer w l others (if b then no_answer replies.NoTurns else turned (suc (current w.first l.talk))
-            (with_input l.talk form w.shared) (now service (with_input l.talk form w.shared)))
-        by_test true = tt
-        by_test false =
-            let i : Input = record { form = form; shared = w.shared } in
-            let after = with_input l.talk form w.shared in
-            gone_on w l others after (suc (current w.first l.talk)) (now service after) refl more.result
-            (let k = length-append l.talk.inputs (i ∷ []) in omega (arith, k))
-
-    waited : (method : Method) (o : Outcome) → now service l.talk ≡ o → GoodAnswer w l others (waits service w.first l.talk method form w.shared o)
-    waited Get (Shown at locals rests d shared units) e =
-        let h = subst (WaitsAtShow service (F t schema facts accepted)) e c.waits in
-        shown_good (record w { live = l ∷ others }) l at locals rests d shared units (current w.first l.talk) (first_in l others) e h.1 refl
-    waited Post (Shown at locals rests d shared units) e =
-        let rs = receives_of service l.talk.session at in
-        took (first_refusal service rs locals form)
-        (of_first (λ reply. (v : World) → good v reply) (λ f v. tt) (λ f v. tt) (λ f v. tt) service rs locals form)
-    waited Other (Shown at locals rests d shared units) e = tt
-    waited Get (Went st) e = tt
-    waited Get (Exited d shared units) e = tt
-    waited Get (Failed f units) e = tt
-    waited Post (Went st) e = tt
-    waited Post (Exited d shared units) e = tt
-    waited Post (Failed f units) e = tt
-    waited Other (Went st) e = tt
-    waited Other (Exited d shared units) e = tt
-    waited Other (Failed f units) e = tt
-
-    visited : (method : Method) (turn : ℕ)
-        → GoodAnswer w l others (answered service w.first l.talk (record { method = method; form = form; turn = turn; shared = w.shared }))
-    visited method turn = by_test (turn == current w.first l.talk)
-      where
-        by_test : (b : Bool)
-            → GoodAnswer w l others (if b then waits service w.first l.talk method form w.shared (now service l.talk) else no_answer
-            (replies.Stale (current w.first l.talk)))
-        by_test true = waited method (now service l.talk) refl
-        by_test false = tt
-
-  module _ (w : World) (h : CoversWorld service (F t schema facts accepted) w) (next : CoversNext service (F t schema facts accepted) w) where
-    asked : (method : Method) (form : Form) (turn number key : ℕ) (o : Option (Live × List Live)) → IsOut number key w.live o
-        → GoodStep (asks service w method form turn o)
-    asked method form turn number key None i = tt
-    asked method form turn number key (Some _) (a_session l others o) =
-        let c = out_all (λ (m : Live). CoversTalk service (F t schema facts accepted) m.talk) number key w.live l others o h.live in
-        let k = out_all (λ (m : Live). ComesToCovered service (F t schema facts accepted) (with_input m.talk form w.shared)) number key w.live l others o
+    gone_covered : (number key : ℕ) (l : Live) (others : List Live) (o : Outcome) → Out number key w.live l others
+        → now service (with_input l.talk form w.shared) ≡ o → covers o
+    gone_covered number key l others o out e =
+        let c = out_all (λ (m : Live). ComesToCovered service (F t schema facts accepted) (with_input m.talk form w.shared)) number key w.live l others out
         (next.goes_on form) in
-        visited w l others form c.0 k.0 method turn
+        subst covers e c.0.result
 
-    -- ---- requests
-
-    pub path_good : (method : Method) (form : Form) (key : ℕ) (path : Path) → GoodStep (on_path service w method form key path)
-    path_good method form key paths.Other = tt
-    path_good Get form key paths.Index = tt
-    path_good Post form key paths.Index = tt
-    path_good Other form key paths.Index = tt
-    path_good Get form key (paths.Start name) = started w next key (session_of service name)
-    path_good Post form key (paths.Start name) = tt
-    path_good Other form key (paths.Start name) = tt
-    path_good Get form key (paths.Turn number k turn) = asked Get form turn number k (taken_out number k w.live) (out number k w.live)
-    path_good Post form key (paths.Turn number k turn) = asked Post form turn number k (taken_out number k w.live) (out number k w.live)
-    path_good Other form key (paths.Turn number k turn) = tt
+    pub step_good : (s : Step) → View service w form s → IsGood service schema w s.world s.reply
+    step_good _ (refused reply e) = no_page service schema w w reply e
+    step_good _ (again l others number key at locals rests d shared units o e) =
+        let c = out_all (λ (m : Live). CoversTalk service (F t schema facts accepted) m.talk) number key w.live l others o h.live in
+        let k = subst (WaitsAtShow service (F t schema facts accepted)) e c.0.waits in
+        let m = subst (IsTextOutcome (IsItemsOf service)) e (results_are_made service l.talk t.readable (live_made number key l others o)) in
+        shown_good w (record w { live = l ∷ others }) l at locals rests d shared units (current w.first l.talk) (first_in l others) e k.1 m.shown_is refl
+    step_good _ (begun key session (Went st) e) = tt
+    step_good _ (begun key session (Shown at locals rests d shared units) e) =
+        let l : Live = record { number = w.next; key = key; talk = beginner w session } in
+        let after : World = record w { shared = shared; next = suc w.next; live = take 1000 (l ∷ w.live) } in
+        shown_good w after l at locals rests d shared units w.first (first_in l (take 999 w.live)) e (begun_covered session _ e).shown_is
+        (begun_made session _ e).shown_is (omega arith)
+    step_good _ (begun key session (Exited d shared units) e) =
+        ended_good w w w.next key (beginner w session) d shared units (begins session) e (begun_covered session _ e) (begun_made session _ e).last_is
+    step_good _ (begun key session (Failed f units) e) = tt
+    step_good _ (gone_on l others number key (Went st) o e) = tt
+    step_good _ (gone_on l others number key (Shown at locals rests d shared units) o e) =
+        let talk = with_input l.talk form w.shared in
+        let m : Live = record l { talk = talk } in
+        let i : Input = record { form = form; shared = w.shared } in
+        let one = length-append l.talk.inputs (i ∷ []) in
+        shown_good w (record w { shared = shared; live = m ∷ others }) m at locals rests d shared units (suc (current w.first l.talk)) (first_in m others) e
+        (gone_covered number key l others _ o e).shown_is (gone_made l _ (live_made number key l others o) e).shown_is (omega (arith, one))
+    step_good _ (gone_on l others number key (Exited d shared units) o e) =
+        ended_good w w l.number l.key (with_input l.talk form w.shared) d shared units (goes_on l form (out_there number key w.live l others o)) e
+        (gone_covered number key l others _ o e) (gone_made l _ (live_made number key l others o) e).last_is
+    step_good _ (gone_on l others number key (Failed f units) o e) = tt

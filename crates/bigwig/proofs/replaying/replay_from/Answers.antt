@@ -20,5 +20,6 @@ returns-in-Ok-Some-clause-comes g c =
     (g.K.Keys.coming c.args.keys.now) c.args.steps.now)
     (between c.answer_source-end.new.world c.answer_source-end.new.intake (g.F.File.Channel.left c.answer_source-end.new.source)
     (g.W.Channel.held c.answer_source-end.new.out) (g.K.Keys.coming c.answer_source-end.new.keys) c.answer_source-end.new.steps)
-    _ c.answer_source-end.result _ c.close.ensures.unread c.status_of.ensures c.in-Ok-Some.field-0-is c.in-Ok-Some.ensures.found c.requires.stands c.requires.none refl
+    _ c.answer_source-end.result _ c.close.ensures.unread c.status_of.ensures c.in-Ok-Some.field-0-is c.in-Ok-Some.ensures.found
+    c.requires.stands c.requires.sound c.requires.none refl
     c.answer_source-end.ensures.answers c.answer_source-end.ensures.pages

@@ -16,7 +16,8 @@ returns-in-Ok-clause-comes g c =
     (outside (g.W.Channel.held c.args.out.now) (g.K.Keys.coming c.args.keys.now) (g.D.Door.asked c.args.door.now) (g.D.Door.coming c.args.door.now)
     (g.D.Door.returned c.args.door.now) (g.F.Files.unread c.args.files.now) c.args.steps.now)
     (outside (g.W.Channel.held c.serve_service.new.out) (g.K.Keys.coming c.serve_service.new.keys) (g.D.Door.asked c.serve_service.new.door)
-    (g.D.Door.coming c.serve_service.new.door) (g.D.Door.returned c.serve_service.new.door) (g.F.Files.unread c.load_checked.new.files) c.serve_service.new.steps)
+    (g.D.Door.coming c.serve_service.new.door) (g.D.Door.returned c.serve_service.new.door)
+    (g.F.Files.unread c.load_checked.new.files) c.serve_service.new.steps)
     _
     (by_name _ (λ disk name. (accepted_file disk name named).gives (ruled_by c.in-Ok.checked)) _ _ c.as_str.ensures.text c.in-Ok.ensures.answers)
     c.serve_service.ensures.comes

@@ -18,7 +18,8 @@ returns-in-Err-clause-serves g c =
     over_fault c.links.turn _ _ _
     (outside None (g.K.Keys.coming c.args.keys.now) (g.D.Door.asked c.args.door.now) (g.D.Door.coming c.args.door.now)
     (g.D.Door.returned c.args.door.now) None c.args.steps.now)
-    (outside None (g.K.Keys.coming c.links.keys) (g.D.Door.asked c.links.door) (g.D.Door.coming c.links.door) (g.D.Door.returned c.links.door) None c.links.steps)
+    (outside None (g.K.Keys.coming c.links.keys) (g.D.Door.asked c.links.door) (g.D.Door.coming c.links.door)
+    (g.D.Door.returned c.links.door) None c.links.steps)
     (outside None (g.K.Keys.coming c.links.keys) (g.D.Door.asked c.next.new.self) (g.D.Door.coming c.next.new.self)
     (g.D.Door.returned c.next.new.self) None c.links.steps)
     c.links-test.true c.links.invariant.served c.in-Err.ensures.kept c.in-Err.ensures.returned refl refl
@@ -28,7 +29,8 @@ returns-in-Ok-None-clause-serves g c =
     over_none g.D.Link.Channel.left g.D.Link.Channel.held c.links.turn _ _ _
     (outside None (g.K.Keys.coming c.args.keys.now) (g.D.Door.asked c.args.door.now) (g.D.Door.coming c.args.door.now)
     (g.D.Door.returned c.args.door.now) None c.args.steps.now)
-    (outside None (g.K.Keys.coming c.links.keys) (g.D.Door.asked c.links.door) (g.D.Door.coming c.links.door) (g.D.Door.returned c.links.door) None c.links.steps)
+    (outside None (g.K.Keys.coming c.links.keys) (g.D.Door.asked c.links.door) (g.D.Door.coming c.links.door)
+    (g.D.Door.returned c.links.door) None c.links.steps)
     (outside None (g.K.Keys.coming c.links.keys) (g.D.Door.asked c.next.new.self) (g.D.Door.coming c.next.new.self)
     (g.D.Door.returned c.next.new.self) None c.links.steps)
     _ c.links-test.true c.links.invariant.served c.in-Ok-None.field-0-is c.in-Ok-None.ensures.arrived c.in-Ok-None.ensures.returned refl refl
@@ -38,7 +40,8 @@ returns-clause-serves g c =
     over_most c.links.turn _ _ _
     (outside None (g.K.Keys.coming c.args.keys.now) (g.D.Door.asked c.args.door.now) (g.D.Door.coming c.args.door.now)
     (g.D.Door.returned c.args.door.now) None c.args.steps.now)
-    (outside None (g.K.Keys.coming c.links.keys) (g.D.Door.asked c.links.door) (g.D.Door.coming c.links.door) (g.D.Door.returned c.links.door) None c.links.steps)
+    (outside None (g.K.Keys.coming c.links.keys) (g.D.Door.asked c.links.door) (g.D.Door.coming c.links.door)
+    (g.D.Door.returned c.links.door) None c.links.steps)
     c.links.invariant.served (omega (arith, c.links.auto.turn-end, c.links-test.false))
 
 pub links-preserved : goal.links-preserved

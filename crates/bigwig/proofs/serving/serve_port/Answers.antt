@@ -24,6 +24,6 @@ returns-in-Ok-print_serving-clause-comes g c ruled u v is =
     (outside (g.W.Channel.held c.print_serving.new.out) (g.K.Keys.coming c.serve_links.new.keys) (g.D.Door.asked c.serve_links.new.door)
     (g.D.Door.coming c.serve_links.new.door) (g.D.Door.returned c.serve_links.new.door) v c.serve_links.new.steps)
     (g.D.Door.asked c.listen.new.self) (g.D.Door.coming c.listen.new.self) (g.D.Door.returned c.listen.new.self) c.serve_links.result
-    c.in-Ok.ensures.coming c.in-Ok.ensures.returned is c.requires c.in-Ok.ensures.port c.serve_links.ensures.asked
+    c.in-Ok.ensures.coming c.in-Ok.ensures.returned is c.requires.stands c.requires.sound c.in-Ok.ensures.port c.serve_links.ensures.asked
     c.in-Ok-print_serving.ensures.writes.whole c.serve_links.ensures.ends
     c.serve_links.ensures.serves

@@ -36,7 +36,8 @@ pub returns-else-is_over_limits-clause-more : goal.returns-else-is_over_limits-c
 returns-else-is_over_limits-clause-more c =
     let within = c.is_over_limits.ensures.within c.if-is_over_limits.false in
     record {
-      none = HasNoHead-front c.args.bytes.now (subst (λ (t : List ℕ). HasNoHead t) c.front.ensures (of_none _ c.in-Ok-None.field-0-is c.in-Ok-None.ensures.none));
+      none = HasNoHead-front c.args.bytes.now
+          (subst (λ (t : List ℕ). HasNoHead t) c.front.ensures (of_none _ c.in-Ok-None.field-0-is c.in-Ok-None.ensures.none));
       short = within.0;
       few = within.1;
     }
