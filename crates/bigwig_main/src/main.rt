@@ -3,22 +3,41 @@
 #![tactic(auto)]
 
 ghost use Rattle.std.specs.Prelude.{◌≡◌, ◌<◌};
+ghost use Rattle.bw_http.specs.Messages.{IsSettled};
 
 use bigwig::{Status, run};
+use bw_door::{Lack, Limits, PortDoor, Settles};
 use bw_lang::{Memory, Text, Words};
 use bw_out::{DiskFiles, Quiet, RandomKeys, Steps, Writing};
-use bw_tcp::TcpDoor;
 use rand_chacha::ChaCha20Rng;
 use std::alloc::Global;
 use std::io::ErrorKind;
 use std::marker::Brand;
+use std::net::Net;
 use std::process::ExitCode;
+use std::sync::Wait;
 use std::sync::ledger::{Blank, Ledger};
 use std::thread::Threads;
+use std::time::Clock;
 use std::{env, io};
 
 /// The exit code where the key generator can't be seeded.
 const NO_KEYS: u8 = 14;
+
+/// A client's first message is whole where reading a request asks for no more.
+#[derive(Drop)]
+struct Messages;
+
+impl Settles for Messages {
+    ghost settled = { λ bytes. IsSettled bytes };
+
+    fn lack(&mut self, bytes: &[u8]) -> Option<Lack> {
+        match bw_http::lack(bytes)? {
+            bw_http::Lack::Line => Some(Lack::Line),
+            bw_http::Lack::Bytes(need) => Some(Lack::Bytes(need)),
+        }
+    }
+}
 
 fn main(rt: HostRuntime) -> ExitCode {
     let generator: ChaCha20Rng = match rand::make_rng(&rt) {
@@ -60,7 +79,7 @@ fn command_line(rt: &HostRuntime) -> Result<Words, Memory> {
 
 /// Runs the program over the real things, with a count of steps that nobody reads. `threads` is where the check makes its
 /// threads.
-fn counted<L: Ledger, R: Threads + Sync>(
+fn counted<L: Ledger, R: Threads + Sync + Net + Clock + Wait>(
     rt: &HostRuntime,
     threads: &R,
     words: &Words,
@@ -72,12 +91,17 @@ fn counted<L: Ledger, R: Threads + Sync>(
     requires some { 0 < blank.parts }
 {
     let alloc: Global = rt.alloc();
-    let mut door = TcpDoor::new(rt);
+    let Ok(mut door) = PortDoor::new(threads, alloc, Limits::usual(), Messages) else {
+        return Status::Memory;
+    };
     let mut steps: Steps<L> = Steps::new(blank);
     let mut out = Writing::new(io::writer(rt));
     let mut files = DiskFiles::new(rt);
     let mut keys = RandomKeys::new(generator);
-    run(
+    let status = run(
         threads, alloc, words, &mut files, &mut door, &mut keys, &mut out, &Quiet, &mut steps,
-    )
+    );
+    // The status stands, whether or not each client takes its reply.
+    let _ = door.finish();
+    status
 }
