@@ -7,19 +7,21 @@ mod help;
 mod shown;
 
 ghost use Rattle.std.specs.Prelude.{◌≡◌, ◌<◌};
+ghost use Rattle.bw_http.specs.Messages.{IsSettled};
 
 use crate::ends::{Troubles, say_end, say_memory};
 use crate::shown::ShownDoor;
 use bigwig::{Status, run};
+use bw_door::{Lack, Limits, PortDoor, Settles};
 use bw_lang::{Memory, Text, Words};
 use bw_out::{DiskFiles, Quiet, RandomKeys, Steps, Writing};
-use bw_tcp::TcpDoor;
 use rand_chacha::ChaCha20Rng;
 use std::alloc::Global;
 use std::io::{ErrorKind, IsTerminal};
 use std::marker::Brand;
 use std::net::Net;
 use std::process::ExitCode;
+use std::sync::Wait;
 use std::sync::ledger::{Blank, Ledger};
 use std::thread::Threads;
 use std::time::Clock;
@@ -27,6 +29,21 @@ use std::{env, io};
 
 /// The exit code where the key generator can't be seeded.
 const NO_KEYS: u8 = 14;
+
+/// A client's first message is whole where reading a request asks for no more.
+#[derive(Drop)]
+struct Messages;
+
+impl Settles for Messages {
+    ghost settled = { λ bytes. IsSettled bytes };
+
+    fn lack(&mut self, bytes: &[u8]) -> Option<Lack> {
+        match bw_http::lack(bytes)? {
+            bw_http::Lack::Line => Some(Lack::Line),
+            bw_http::Lack::Bytes(need) => Some(Lack::Bytes(need)),
+        }
+    }
+}
 
 fn main(rt: HostRuntime) -> ExitCode {
     let generator: ChaCha20Rng = match rand::make_rng(&rt) {
@@ -71,7 +88,7 @@ fn command_line(rt: &HostRuntime) -> Result<Words, Memory> {
 
 /// Runs the program over the real things, with a count of steps that nobody reads. `threads` is where the check makes its
 /// threads.
-fn counted<L: Ledger, R: Threads + Sync>(
+fn counted<L: Ledger, R: Threads + Sync + Net + Clock + Wait>(
     rt: &HostRuntime,
     threads: &R,
     words: &Words,
@@ -83,7 +100,11 @@ fn counted<L: Ledger, R: Threads + Sync>(
     requires some { 0 < blank.parts }
 {
     let alloc: Global = rt.alloc();
-    let mut door = ShownDoor::new(TcpDoor::new(rt), rt, rt.stderr().is_terminal());
+    let Ok(port_door) = PortDoor::new(threads, alloc, Limits::usual(), Messages) else {
+        let _ = say_memory(rt);
+        return Status::Memory;
+    };
+    let mut door = ShownDoor::new(port_door, rt, rt.stderr().is_terminal());
     let mut steps: Steps<L> = Steps::new(blank);
     let mut out = Writing::new(io::writer(rt));
     let mut files = DiskFiles::new(alloc, rt);
@@ -96,13 +117,11 @@ fn counted<L: Ledger, R: Threads + Sync>(
         of_file: files.trouble(),
         of_output: out.trouble(),
         port: door.port,
-        of_port: port_trouble(&door.inner),
+        of_port: door.inner.last_error(),
     };
     say_end(rt, status, &troubles);
-    status
-}
 
-/// Why the last call of the door failed.
-fn port_trouble<R: Net + Clock + Copy>(_door: &TcpDoor<R>) -> Option<ErrorKind> {
-    None
+    // The status stands, whether or not each client takes its reply.
+    let _ = door.inner.finish();
+    status
 }

@@ -1,0 +1,78 @@
+//! The stream of a client, and what changes of it are told under.
+ghost use Rattle.std.specs.Prelude.{◌≡◌};
+
+use mio::net::TcpStream;
+use mio::{Interest, Registry, Token};
+
+/// How many places there may be. A token is the place of a client, and so many times a number that it has alone.
+const PLACES: usize = 65_536;
+
+/// The place that a token names.
+pub(crate) fn place_of(token: usize) -> usize {
+    token % PLACES
+}
+
+/// The token of a place and a number.
+pub(crate) fn token_of(number: usize, place: usize) -> usize {
+    number.wrapping_mul(PLACES).wrapping_add(place)
+}
+
+/// The stream of a client.
+#[derive(Drop)]
+pub(crate) struct Socket<S> {
+    pub(crate) stream: S,
+
+    /// What changes of the stream are told under, if they are.
+    token: Option<usize>,
+}
+
+impl<S> Socket<S> {
+    /// A stream of which no changes are told.
+    pub(crate) fn new(stream: S) -> Self
+        ensures { result.stream ≡ stream }
+    {
+        Socket {
+            stream,
+            token: None,
+        }
+    }
+
+    /// The number in its token: the later the stream was first waited for, the greater.
+    pub(crate) fn number(&self) -> usize {
+        match self.token {
+            Some(token) => token / PLACES,
+            None => 0,
+        }
+    }
+
+    /// Whether changes are told.
+    pub(crate) fn is_told(&self) -> bool {
+        self.token.is_some()
+    }
+
+    /// Whether changes are told under this token.
+    pub(crate) fn is_told_as(&self, token: usize) -> bool {
+        self.token == Some(token)
+    }
+}
+
+impl Socket<TcpStream> {
+    /// Changes are told from now on under a token of the same place as this one. It says whether they are.
+    pub(crate) fn watch(&mut self, registry: &Registry, token: usize) -> bool
+        ensures { self.new.stream ≡ self.old.stream }
+    {
+        let both = Interest::READABLE | Interest::WRITABLE;
+        let told = match self.token {
+            Some(known) if place_of(known) == place_of(token) => return true,
+            Some(_) => registry.reregister(&mut self.stream, Token(token), both),
+            None => registry.register(&mut self.stream, Token(token), both),
+        };
+        match told {
+            Ok(()) => {
+                self.token = Some(token);
+                true
+            }
+            Err(_) => false,
+        }
+    }
+}
