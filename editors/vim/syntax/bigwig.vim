@@ -5,6 +5,8 @@
 if exists('b:current_syntax')
   finish
 endif
+let s:cpo = &cpo
+set cpo&vim
 syntax case match
 syntax sync fromstart
 
@@ -27,8 +29,10 @@ syntax match bigwigEscape +\\["\\n]+ contained
 syntax match bigwigOpenString +[^"]$+ contained
 
 " Between <html> and </html>: text, tags and gaps. The page around them has html, head, body and form.
-syntax region bigwigTemplate matchgroup=bigwigTemplateMark start="<html>" end="</html>" contains=bigwigTag,bigwigGap,bigwigReference,bigwigBadReference,bigwigReserved
-syntax region bigwigTag matchgroup=bigwigTagName start="<[a-z][a-z0-9]*" start="</[a-z][a-z0-9]*" end="/\=>" contained contains=bigwigAttribute,bigwigValue,bigwigGapOfAttribute
+syntax region bigwigTemplate matchgroup=bigwigTemplateMark start="<html>" end="</html>"
+      \ contains=bigwigTag,bigwigGap,bigwigReference,bigwigBadReference,bigwigReserved
+syntax region bigwigTag matchgroup=bigwigTagName start="<[a-z][a-z0-9]*" start="</[a-z][a-z0-9]*" end="/\=>" contained
+      \ contains=bigwigAttribute,bigwigValue,bigwigGapOfAttribute
 syntax match bigwigReserved "<\%(html\|head\|body\|form\)\>" contained
 syntax match bigwigAttribute "\<[a-z][a-z0-9-]*\ze=" contained
 syntax region bigwigValue start=+="+hs=s+1 end=+"+ contained contains=bigwigReference,bigwigBadReference
@@ -63,3 +67,5 @@ highlight default link bigwigBadReference Error
 highlight default link bigwigReserved Error
 
 let b:current_syntax = 'bigwig'
+let &cpo = s:cpo
+unlet s:cpo
