@@ -45,7 +45,7 @@ ended_or_fault ends.WriteFault = inr (inr (inl refl))
 
 serving_or_fault : (ruled : Ruled) (port most : ℕ) (before after : Outside) (status : Status) → IsServing ruled port most before after status
     → (status ≡ Done) ⊎ IsFree status
-serving_or_fault ruled port most before after status (no_port e k) = inr (inr (inr (inl e)))
+serving_or_fault ruled port most before after status (no_port e m k) = inr (inr (inr (inl e)))
 serving_or_fault ruled port most before after status (no_line e a p k) = inr (inr (inl e))
 serving_or_fault ruled port most before after status (links_served (inl e) a p l) = inl e
 serving_or_fault ruled port most before after status (links_served (inr e) a p l) = inr (inr (inr (inl e)))

@@ -26,9 +26,11 @@ comes_then q next a before after r g (no_memory e k) = no_memory e k
 
 -- the code stopped at one of the questions, and reported it
 pub stopped_so : (q : Question Work) (s : Stop) (held now : Option (List ℕ)) (r : Status) → IsStop q s → IsReported s held now r → Speaks q held now r
-stopped_so q (stop.Says refusal text) held now r i p o = said _ i (record { prints = p; kept = refl })
-stopped_so q stop.ReadFault held now r i p o = read_fault p.0 (ap (λ (h : Option (List ℕ)). let x : Outside = record o { printed = h } in x) p.1)
-stopped_so q stop.Memory held now r i p o = no_memory p.0 (ap (λ (h : Option (List ℕ)). let x : Outside = record o { printed = h } in x) p.1)
+stopped_so q (stop.Says refusal text) held now r i p o unread = said _ i (record { prints = p; kept = refl })
+stopped_so q stop.ReadFault held now r i p o unread =
+    read_fault p.0 (ap (λ (h : Option (List ℕ)). let x : Outside = record o { printed = h; unread = unread } in x) p.1)
+stopped_so q stop.Memory held now r i p o unread =
+    no_memory p.0 (ap (λ (h : Option (List ℕ)). let x : Outside = record o { printed = h; unread = unread } in x) p.1)
 
 pub stopped_speaks : (told : Option Disk) (q : Disk → Question Work) (s : Stop) (held now : Option (List ℕ)) (r : Status)
     → IfSome told (λ d. IsStop (q d) s) → IsReported s held now r → IfSome told (λ d. Speaks (q d) held now r)
@@ -38,7 +40,7 @@ stopped_speaks (Some d) q s held now r i p = stopped_so (q d) s held now r i p
 -- the questions led to a text, and it was printed
 pub text_so : (q : Question Work) (text : List ℕ) (held now : Option (List ℕ)) (r : Status) → q.gives (prints text)
     → Prints (record { status = status.Done; text = text }) held now r → Speaks q held now r
-text_so q text held now r g p o = done (prints text) g (record { prints = p; kept = refl })
+text_so q text held now r g p o unread = done (prints text) g (record { prints = p; kept = refl })
 
 pub text_speaks : (told : Option Disk) (q : Disk → Question Work) (text : List ℕ) (held now : Option (List ℕ)) (r : Status)
     → IfSome told (λ d. (q d).gives (prints text)) → Prints (record { status = status.Done; text = text }) held now r
@@ -47,24 +49,27 @@ text_speaks None q text held now r g p = tt
 text_speaks (Some d) q text held now r g p = text_so (q d) text held now r g p
 
 -- code that only prints also replies so
-pub speaks_replies : (told : Option Disk) (q : Disk → Question Work) (held now : Option (List ℕ)) (keys : Option Coming) (steps : ℕ) (r : Status)
-    → IfSome told (λ d. Speaks (q d) held now r) → IfSome told (λ d. Replies (q d) held now keys keys steps steps r)
-speaks_replies None q held now keys steps r s = tt
-speaks_replies (Some d) q held now keys steps r s = λ o. s (record o { keys = keys; steps = steps })
+pub speaks_replies : (told : Option Disk) (q : Disk → Question Work) (held now : Option (List ℕ)) (keys : Option Coming) (unread : Option (List ℕ))
+    (steps : ℕ) (r : Status) → IfSome told (λ d. Speaks (q d) held now r) → IfSome told (λ d. Replies (q d) held now keys keys unread steps steps r)
+speaks_replies None q held now keys unread steps r s = tt
+speaks_replies (Some d) q held now keys unread steps r s = λ o. s (record o { keys = keys; steps = steps }) unread
 
 -- ---- the words
 
 -- what was only printed, or answered on `out`, is all that comes
-pub speaks_comes : (told : Option Disk) (q : Disk → Question Work) (held now : Option (List ℕ)) (r : Status) (o : Outside)
-    → IfSome told (λ d. Speaks (q d) held now r) → IfSome told (λ d. Comes (q d) (record o { printed = held }) (record o { printed = now }) r)
-speaks_comes None q held now r o s = tt
-speaks_comes (Some d) q held now r o s = s o
+pub speaks_comes : (told : Option Disk) (q : Disk → Question Work) (held now : Option (List ℕ)) (r : Status) (o : Outside) (unread : Option (List ℕ))
+    → IfSome told (λ d. Speaks (q d) held now r)
+    → IfSome told (λ d. Comes (q d) (record o { printed = held }) (record o { printed = now; unread = unread }) r)
+speaks_comes None q held now r o unread s = tt
+speaks_comes (Some d) q held now r o unread s = s o unread
 
-pub replies_comes : (told : Option Disk) (q : Disk → Question Work) (held now : Option (List ℕ)) (keys later : Option Coming) (steps after : ℕ)
-    (r : Status) (o : Outside) → IfSome told (λ d. Replies (q d) held now keys later steps after r)
-    → IfSome told (λ d. Comes (q d) (record o { printed = held; keys = keys; steps = steps }) (record o { printed = now; keys = later; steps = after }) r)
-replies_comes None q held now keys later steps after r o s = tt
-replies_comes (Some d) q held now keys later steps after r o s = s o
+pub replies_comes : (told : Option Disk) (q : Disk → Question Work) (held now : Option (List ℕ)) (keys later : Option Coming)
+    (unread : Option (List ℕ)) (steps after : ℕ) (r : Status) (o : Outside)
+    → IfSome told (λ d. Replies (q d) held now keys later unread steps after r)
+    → IfSome told (λ d. Comes (q d) (record o { printed = held; keys = keys; steps = steps })
+    (record o { printed = now; keys = later; unread = unread; steps = after }) r)
+replies_comes None q held now keys later unread steps after r o s = tt
+replies_comes (Some d) q held now keys later unread steps after r o s = s o
 
 -- the work is that of this command
 pub of_command : (told : Option Disk) (c d : Command) (before after : Outside) (r : Status) → c ≡ d
@@ -78,8 +83,15 @@ words_come None words c before after r e h = tt
 words_come (Some disk) words c before after r e h = comes_then (command words) (work disk) c before after r e h
 
 -- the words are refused
-pub usage_comes : (told : Option Disk) (words : List (List ℕ)) (held now : Option (List ℕ)) (r : Status) (o : Outside) → command_of words ≡ None
-    → Prints (record { status = status.Usage; text = usage_line }) held now r
-    → IfSome told (λ disk. Comes (asked words disk) (record o { printed = held }) (record o { printed = now }) r)
-usage_comes None words held now r o e p = tt
-usage_comes (Some disk) words held now r o e p = said (record { status = status.Usage; text = usage_line }) (inl (e, refl)) (record { prints = p; kept = refl })
+pub usage_comes : (told : Option Disk) (words : List (List ℕ)) (held now : Option (List ℕ)) (r : Status) (o : Outside) (unread : Option (List ℕ))
+    → command_of words ≡ None → Prints (record { status = status.Usage; text = usage_line }) held now r
+    → IfSome told (λ disk. Comes (asked words disk) (record o { printed = held }) (record o { printed = now; unread = unread }) r)
+usage_comes None words held now r o unread e p = tt
+usage_comes (Some disk) words held now r o unread e p =
+    said (record { status = status.Usage; text = usage_line }) (inl (e, refl)) (record { prints = p; kept = refl })
+
+-- there was no memory for the words
+pub memory_comes : (told : Option Disk) (words : List (List ℕ)) (o : Outside) (unread : Option (List ℕ))
+    → IfSome told (λ disk. Comes (asked words disk) o (record o { unread = unread }) status.Memory)
+memory_comes None words o unread = tt
+memory_comes (Some disk) words o unread = no_memory refl refl

@@ -26,43 +26,44 @@ use Rattle.std.proofs.Common.{
   length-append,
 }
 use Rattle.bw_answer.specs.Answers.{Place, IsAt, Answers}
+use Rattle.bw_answer.specs.Courses.{Course}
 use Rattle.bw_answer.specs.Good.{RepliesAreGood}
 use Rattle.bw_answer.specs.declared.ends.StreamEnd.{StreamEnd}
 use Rattle.bw_answer.specs.declared.ends.StreamEnd.TheVariants as ends
 use Rattle.bw_check.specs.Accepts.{Accepts}
-use Rattle.bw_cover.specs.Worlds.{Reached}
 use Rattle.bw_model.specs.Runs.{At}
 use Rattle.bw_model.specs.Sessions.{World}
 use Rattle.bw_out.specs.Causes.{Shows}
 use Rattle.bw_out.specs.Doors.{Returned, Arrives, GivesBack}
 use Rattle.bw_out.specs.Told.{Coming}
+use Rattle.bw_sound.specs.Worlds.{IsSoundWorld}
 use Rattle.bw_world.specs.Seen.{Seen}
 use Rattle.bw_world.specs.Stands.{StandsFor}
 use Rattle.bigwig.specs.Asked.{Ruled}
 use Rattle.bigwig.specs.Checks.{IsRuled}
 use Rattle.bigwig.specs.Outcomes.{Between, Outside, AreServed, IsServed, AreGivenBack, ServesLinks, begins}
 use Rattle.bigwig.specs.declared.status.Status.TheVariants.{Done, DoorFault}
-use Rattle.bigwig.proofs.Reaching.{course_reaches}
+use Rattle.bigwig.proofs.Reaching.{course_is_sound}
 
--- so many links were given back, and the world of the code stands for the model world that they leave, which requests reach
+-- so many links were given back, and the world of the code stands for the model world that they leave, which is sound
 abbrev pub HasServed : ℕ → Seen → Seen → Outside → Outside → Type 0
 HasServed n first seen before after =
-    (ruled : Ruled) (world : World) → IsRuled first.service ruled → StandsFor first world → Reached ruled.service world
+    (ruled : Ruled) (world : World) → IsRuled first.service ruled → StandsFor first world → IsSoundWorld ruled.service world
     → (keys : Coming) → before.keys ≡ Some keys → (links : List (List ℕ)) → before.coming ≡ Some links
     → (given : List Returned) → before.returned ≡ Some given
     → (backs : List Returned) × (rest : List (List ℕ)) × (to : Between)
     × AreGivenBack ruled (record { world = world; keys = keys; steps = before.steps }) links given backs rest to after
-    × (length backs ≡ n) × StandsFor seen to.world × Reached ruled.service to.world
+    × (length backs ≡ n) × StandsFor seen to.world × IsSoundWorld ruled.service to.world
 
 pub served_none : (seen : Seen) (o : Outside) → HasServed 0 seen seen o o
-served_none seen o ruled world is stands reached keys k links l given g = (
+served_none seen o ruled world is stands sound keys k links l given g = (
   [],
   links,
   record { world = world; keys = keys; steps = o.steps },
   record { served = (refl, refl); returned = g ∙ ap Some (sym (append-nil given)); coming = l; keys = k; steps = refl },
   refl,
   stands,
-  reached,
+  sound,
 )
 
 -- one link more was served
@@ -77,38 +78,37 @@ serves_one ruled from to next links (b ∷ backs) rest more bytes back s e i =
 
 -- a link was answered on its first message
 link_served : (ruled : Ruled) (from : Between) (bytes : List ℕ) (old new : Place) (back : Returned) (end : StreamEnd)
-    → Accepts ruled.service ruled.schema → Reached ruled.service from.world
+    → Accepts ruled.service ruled.schema → IsSoundWorld ruled.service from.world
     → StandsFor old.seen from.world → old.taken ≡ [] → old.left ≡ Some bytes → old.held ≡ Some [] → old.keys ≡ Some from.keys → old.steps ≡ from.steps
     → new.held ≡ back.written → new.left ≡ back.unread → Shows (end ≡ ends.ReadFault) 0 back.read_faults
     → Shows (end ≡ ends.WriteFault) 0 back.write_faults → Answers ruled.service 1 old new end → RepliesAreGood ruled.service old
     → (to : Between) × (new.keys ≡ Some to.keys) × (new.steps ≡ to.steps) × StandsFor new.seen to.world × IsServed ruled from bytes back to
-    × Reached ruled.service to.world
-link_served ruled from bytes old new back end accepts reached stands none left held keys steps written unread read write answers good =
+    × IsSoundWorld ruled.service to.world
+link_served ruled from bytes old new back end accepts sound stands none left held keys steps written unread read write answers good =
     let at : At = begins from bytes in
     let is : IsAt old at = record { stands = stands; bytes = (bytes, left, sym (ap (λ l. l ++ bytes) none)); keys = keys } in
-    let a = answers at is in (
+    let a = answers at is in
+    let course = subst (λ h. Course ruled.service 1 at a.0 h back.written new.taken a.1 end) held
+    (subst (λ n. Course ruled.service 1 at a.0 old.held n new.taken a.1 end) written a.4) in (
       record { world = a.0.world; keys = a.0.keys; steps = new.steps },
-      a.1.keys,
+      a.2.keys,
       refl,
-      a.1.stands,
+      a.2.stands,
       record {
         end = end;
         streamed = record {
-          old = old;
-          new = new;
           rest = a.0.bytes;
-          course = a.2;
-          pages = λ replies. good ruled.schema at replies accepts is reached;
-          unhandled = (a.1.bytes.0, sym unread ∙ a.1.bytes.1, a.1.bytes.2);
-          held_is = held;
-          now_is = written;
-          from_is = steps;
-          to_is = refl;
+          taken = new.taken;
+          cost = a.1;
+          course = course;
+          unhandled = (a.2.bytes.0, sym unread ∙ a.2.bytes.1, a.2.bytes.2);
+          steps = a.3 ∙ ap (λ n. n + a.1) steps;
+          pages = λ replies. good ruled.schema at replies accepts is sound;
         };
         read_fault = read;
         write_fault = write;
       },
-      course_reaches ruled.service 1 at a.0 old new end a.2 reached,
+      course_is_sound ruled.service ruled.schema 1 at a.0 old.held new.held new.taken a.1 end accepts a.4 sound,
     )
 
 -- what a count shows from nothing on
@@ -128,9 +128,9 @@ pub served_more : {Link : Type 0} (left held : Link → Option (List ℕ)) (n : 
     → GivesBack returned after.returned back
     → HasServed (n + 1) first later before after
 served_more left held n first seen later before mid after coming returned next link back old new end had by is arrives seen_is taken left_is held_is
-    keys_is steps_is answers good written unread read write later_is drawn spent coming_is returned_is gives ruled world ruled_is stands reached keys k
+    keys_is steps_is answers good written unread read write later_is drawn spent coming_is returned_is gives ruled world ruled_is stands sound keys k
     links l given g =
-    let h = had ruled world ruled_is stands reached keys k links l given g in
+    let h = had ruled world ruled_is stands sound keys k links l given g in
     let backs = h.0 in
     let to = h.2 in
     let were = h.3 in
@@ -167,18 +167,18 @@ given_so ruled from links given backs rest to mid after g c r k s =
     record { served = g.served; returned = r ∙ g.returned; coming = c ∙ g.coming; keys = k ∙ g.keys; steps = s ∙ g.steps }
 
 pub over_most : (n most : ℕ) (first seen : Seen) (before after : Outside) → HasServed n first seen before after → n ≡ most → (ruled : Ruled) (w : World)
-    → IsRuled first.service ruled → StandsFor first w → Reached ruled.service w → ServesLinks ruled w most before after Done
-over_most n most first seen before after had full ruled w is stands reached keys k links l given g =
-    let h = had ruled w is stands reached keys k links l given g in
+    → IsRuled first.service ruled → StandsFor first w → IsSoundWorld ruled.service w → ServesLinks ruled w most before after Done
+over_most n most first seen before after had full ruled w is stands sound keys k links l given g =
+    let h = had ruled w is stands sound keys k links l given g in
     (h.0, h.1, h.2, h.3, omega (arith, h.4), inl (refl, inr (h.4 ∙ full)))
 
 pub over_none : {Link : Type 0} (left held : Link → Option (List ℕ)) (n most : ℕ) (first seen : Seen) (before mid after : Outside) (next : Option Link)
     → n < most → HasServed n first seen before mid → next ≡ None
     → Arrives left held mid.coming after.coming next → after.returned ≡ mid.returned → after.keys ≡ mid.keys → after.steps ≡ mid.steps
-    → (ruled : Ruled) (w : World) → IsRuled first.service ruled → StandsFor first w → Reached ruled.service w
+    → (ruled : Ruled) (w : World) → IsRuled first.service ruled → StandsFor first w → IsSoundWorld ruled.service w
     → ServesLinks ruled w most before after Done
-over_none left held n most first seen before mid after next fewer had none arrives r ks st ruled w is stands reached keys k links l given g =
-    let h = had ruled w is stands reached keys k links l given g in
+over_none left held n most first seen before mid after next fewer had none arrives r ks st ruled w is stands sound keys k links l given g =
+    let h = had ruled w is stands sound keys k links l given g in
     let were = h.3 in
     let came = subst (λ c. Arrives left held c after.coming None) were.coming (subst (λ x. Arrives left held mid.coming after.coming x) none arrives) in
     let same : after.coming ≡ mid.coming = came.1 ∙ ap Some (sym came.0) ∙ sym were.coming in
@@ -186,10 +186,10 @@ over_none left held n most first seen before mid after next fewer had none arriv
 
 pub over_fault : (n most : ℕ) (first seen : Seen) (before mid after : Outside) → n < most → HasServed n first seen before mid → after.coming ≡ mid.coming
     → after.returned ≡ mid.returned → after.keys ≡ mid.keys → after.steps ≡ mid.steps
-    → (ruled : Ruled) (w : World) → IsRuled first.service ruled → StandsFor first w → Reached ruled.service w
+    → (ruled : Ruled) (w : World) → IsRuled first.service ruled → StandsFor first w → IsSoundWorld ruled.service w
     → ServesLinks ruled w most before after DoorFault
-over_fault n most first seen before mid after fewer had c r ks st ruled w is stands reached keys k links l given g =
-    let h = had ruled w is stands reached keys k links l given g in
+over_fault n most first seen before mid after fewer had c r ks st ruled w is stands sound keys k links l given g =
+    let h = had ruled w is stands sound keys k links l given g in
     (h.0, h.1, h.2, given_so ruled _ links given h.0 h.1 h.2 mid after h.3 c r ks st, omega (arith, h.4), inr (refl, omega (arith, h.4)))
 
 -- what is said of a link that came

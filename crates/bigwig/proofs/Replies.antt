@@ -5,13 +5,13 @@ use Rattle.bw_answer.specs.Answers.{Place, IsAt, Answers}
 use Rattle.bw_answer.specs.Good.{RepliesAreGood}
 use Rattle.bw_answer.specs.declared.ends.StreamEnd.{StreamEnd}
 use Rattle.bw_check.specs.Accepts.{Accepts}
-use Rattle.bw_cover.specs.Worlds.{Reached, none as nothing_yet}
 use Rattle.bw_lang.specs.declared.service.Service.{Service}
 use Rattle.bw_model.specs.Runs.{At}
 use Rattle.bw_model.specs.Sessions.{World, empty}
-use Rattle.bw_out.specs.Doors.{Returned, Asks}
+use Rattle.bw_out.specs.Doors.{Returned, Asks, MayAsk}
 use Rattle.bw_out.specs.Told.{Coming, Disk, Finds}
 use Rattle.bw_out.specs.Writes.{AppendsPart}
+use Rattle.bw_sound.specs.Worlds.{BeginsSound, IsSoundWorld}
 use Rattle.bw_world.specs.Seen.{Seen}
 use Rattle.bw_world.specs.Stands.{StandsFor}
 use Rattle.bigwig.specs.Asked.{Ruled, Work, accepted_file, accepted, file, replayed, at_port}
@@ -50,12 +50,12 @@ accepted_said (Some d) name named ruled work e g = (ruled, g, e)
 -- ---- the requests of a file
 
 -- nothing has changed, whatever was asked
-pub nothing_replied : (told : Option Disk) (service : Service) (q : Disk → Ruled → Question Work) (held : Option (List ℕ)) (keys : Option Coming) (steps : ℕ)
-    (r : Status) → (r ≡ status.ReadFault) ⊎ (r ≡ status.Memory)
-    → IfSome told (λ d. (ruled : Ruled) → IsRuled service ruled → Replies (q d ruled) held held keys keys steps steps r)
-nothing_replied None service q held keys steps r why = tt
-nothing_replied (Some d) service q held keys steps r (inl e) = λ ruled is o. read_fault e refl
-nothing_replied (Some d) service q held keys steps r (inr e) = λ ruled is o. no_memory e refl
+pub nothing_replied : (told : Option Disk) (service : Service) (q : Disk → Ruled → Question Work) (held : Option (List ℕ)) (keys : Option Coming)
+    (unread : Option (List ℕ)) (steps : ℕ) (r : Status) → (r ≡ status.ReadFault) ⊎ (r ≡ status.Memory)
+    → IfSome told (λ d. (ruled : Ruled) → IsRuled service ruled → Replies (q d ruled) held held keys keys unread steps steps r)
+nothing_replied None service q held keys unread steps r why = tt
+nothing_replied (Some d) service q held keys unread steps r (inl e) = λ ruled is o. read_fault e refl
+nothing_replied (Some d) service q held keys unread steps r (inr e) = λ ruled is o. no_memory e refl
 
 absent_stop : (disk : Disk) (name : List ℕ) (s : Stop) → disk name ≡ None → SaysLine refusals.File (no_file_line name) s → IsStop (file disk name) s
 absent_stop disk name (stop.Says refusal text) e a = (
@@ -68,44 +68,41 @@ absent_stop disk name stop.Memory e a = tt
 
 -- there is no file of the name
 pub absent_replied : {File : Type 0} (left : File → Option (List ℕ)) (told : Option Disk) (name : List ℕ) (next : Option File) (s : Stop)
-    (service : Service) (most : ℕ) (held now : Option (List ℕ)) (keys : Option Coming) (steps : ℕ) (r : Status) → next ≡ None
+    (service : Service) (most : ℕ) (held now : Option (List ℕ)) (keys : Option Coming) (unread : Option (List ℕ)) (steps : ℕ) (r : Status) → next ≡ None
     → Finds left told name next → SaysLine refusals.File (no_file_line name) s → IsReported s held now r
-    → IfSome told (λ d. (ruled : Ruled) → IsRuled service ruled → Replies (replayed d name most ruled) held now keys keys steps steps r)
-absent_replied left None name next s service most held now keys steps r none f a p = tt
-absent_replied left (Some d) name next s service most held now keys steps r none f a p =
+    → IfSome told (λ d. (ruled : Ruled) → IsRuled service ruled → Replies (replayed d name most ruled) held now keys keys unread steps steps r)
+absent_replied left None name next s service most held now keys unread steps r none f a p = tt
+absent_replied left (Some d) name next s service most held now keys unread steps r none f a p =
     let stops = absent_stop d name s (subst (λ x. Finds left (Some d) name x) none f) a in
     λ ruled is o.
     stopped_so (replayed d name most ruled) s held now r
-    (stops_first (file d name) (λ stream. found (replays ruled stream most)) s stops) p (record o { keys = keys; steps = steps })
+    (stops_first (file d name) (λ stream. found (replays ruled stream most)) s stops) p (record o { keys = keys; steps = steps }) unread
 
 -- a stream was answered from the world in which nothing was requested yet
 stream_replied : (ruled : Ruled) (bytes : List ℕ) (most : ℕ) (old new : Place) (end : StreamEnd) (r : Status) (o : Outside)
-    → Accepts ruled.service ruled.schema → r ≡ status_of end → StandsFor old.seen (empty ruled.service) → old.taken ≡ [] → old.left ≡ Some bytes
+    → Accepts ruled.service ruled.schema → r ≡ status_of end → StandsFor old.seen (empty ruled.service) → BeginsSound ruled.service
+    → old.taken ≡ [] → old.left ≡ Some bytes
     → Answers ruled.service most old new end → RepliesAreGood ruled.service old
     → IsReplayed ruled bytes most (record o { printed = old.held; keys = old.keys; steps = old.steps })
-    (record o { printed = new.held; keys = new.keys; steps = new.steps }) r
-stream_replied ruled bytes most old new end r o accepts e stands none left answers good = record {
+    (record o { printed = new.held; keys = new.keys; unread = new.left; steps = new.steps }) r
+stream_replied ruled bytes most old new end r o accepts e stands sound none left answers good = record {
   end = end;
-  left = new.left;
   status_is = e;
   streamed = λ keys k.
       let at : At = begins (record { world = empty ruled.service; keys = keys; steps = old.steps }) bytes in
       let here : IsAt old at = record { stands = stands; bytes = (bytes, left, sym (ap (λ l. l ++ bytes) none)); keys = k } in
       let a = answers at here in (
         record { world = a.0.world; keys = a.0.keys; steps = new.steps },
-        a.1.keys,
+        a.2.keys,
         refl,
         record {
-          old = old;
-          new = new;
           rest = a.0.bytes;
-          course = a.2;
-          pages = λ replies. good ruled.schema at replies accepts here nothing_yet;
-          unhandled = a.1.bytes;
-          held_is = refl;
-          now_is = refl;
-          from_is = refl;
-          to_is = refl;
+          taken = new.taken;
+          cost = a.1;
+          course = a.4;
+          unhandled = a.2.bytes;
+          steps = a.3;
+          pages = λ replies. good ruled.schema at replies accepts here (sound ruled.schema 1 1 accepts);
         },
       );
   kept = (refl, refl, refl);
@@ -113,91 +110,103 @@ stream_replied ruled bytes most old new end r o accepts e stands none left answe
 
 -- the requests of a file were answered
 pub requests_replied : {File : Type 0} (left : File → Option (List ℕ)) (told : Option Disk) (name : List ℕ) (next : Option File) (file : File) (most : ℕ)
-    (old new : Place) (end : StreamEnd) (r : Status) → r ≡ status_of end → next ≡ Some file → Finds left told name next
-    → StandsFor old.seen (empty old.seen.service) → old.taken ≡ [] → old.left ≡ left file → Answers old.seen.service most old new end
+    (old new : Place) (unread : Option (List ℕ)) (end : StreamEnd) (r : Status) → unread ≡ new.left → r ≡ status_of end → next ≡ Some file
+    → Finds left told name next
+    → StandsFor old.seen (empty old.seen.service) → BeginsSound old.seen.service → old.taken ≡ [] → old.left ≡ left file
+    → Answers old.seen.service most old new end
     → RepliesAreGood old.seen.service old
     → IfSome told (λ d. (ruled : Ruled) → IsRuled old.seen.service ruled
-    → Replies (replayed d name most ruled) old.held new.held old.keys new.keys old.steps new.steps r)
-requests_replied left None name next file most old new end r e some f stands none here answers good = tt
-requests_replied left (Some d) name next file most old new end r e some f stands none here answers good =
+    → Replies (replayed d name most ruled) old.held new.held old.keys new.keys unread old.steps new.steps r)
+requests_replied left None name next file most old new unread end r was e some f stands sound none here answers good = tt
+requests_replied left (Some d) name next file most old new unread end r was e some f stands sound none here answers good =
     let found_so = subst (λ x. Finds left (Some d) name x) some f in
     λ ruled is o.
     let same : old.seen.service ≡ ruled.service = sym is.0 in
     done (replays ruled found_so.0 most) (found_so.0, found_so.1, refl)
-    (stream_replied ruled found_so.0 most old new end r o is.1 e (subst (λ s. StandsFor old.seen (empty s)) same stands) none (here ∙ found_so.2)
-    (subst (λ s. Answers s most old new end) same answers) (subst (λ s. RepliesAreGood s old) same good))
+    (subst (λ u. IsReplayed ruled found_so.0 most (record o { printed = old.held; keys = old.keys; steps = old.steps })
+    (record o { printed = new.held; keys = new.keys; unread = u; steps = new.steps }) r) (sym was)
+    (stream_replied ruled found_so.0 most old new end r o is.1 e (subst (λ s. StandsFor old.seen (empty s)) same stands)
+    (subst BeginsSound same sound) none (here ∙ found_so.2)
+    (subst (λ s. Answers s most old new end) same answers) (subst (λ s. RepliesAreGood s old) same good)))
 
 -- the service is the one that the world was made with
 pub by_service : (told : Option Disk) (q : Disk → Ruled → Question Work) (service seen : Service) (held now : Option (List ℕ)) (keys later : Option Coming)
-    (steps after : ℕ) (r : Status) → seen ≡ service
-    → IfSome told (λ d. (ruled : Ruled) → IsRuled seen ruled → Replies (q d ruled) held now keys later steps after r)
-    → IfSome told (λ d. (ruled : Ruled) → IsRuled service ruled → Replies (q d ruled) held now keys later steps after r)
-by_service told q service seen held now keys later steps after r e h =
-    subst (λ s. IfSome told (λ d. (ruled : Ruled) → IsRuled s ruled → Replies (q d ruled) held now keys later steps after r)) e h
+    (unread : Option (List ℕ)) (steps after : ℕ) (r : Status) → seen ≡ service
+    → IfSome told (λ d. (ruled : Ruled) → IsRuled seen ruled → Replies (q d ruled) held now keys later unread steps after r)
+    → IfSome told (λ d. (ruled : Ruled) → IsRuled service ruled → Replies (q d ruled) held now keys later unread steps after r)
+by_service told q service seen held now keys later unread steps after r e h =
+    subst (λ s. IfSome told (λ d. (ruled : Ruled) → IsRuled s ruled → Replies (q d ruled) held now keys later unread steps after r)) e h
 
 -- the service was found, and then its requests were answered, whose file is asked for by the text of its name
 pub replies_found : (told later_told : Option Disk) (name : List ℕ) (named : Option (List ℕ)) (requests text : List ℕ) (most : ℕ) (ruled : Ruled)
-    (held now : Option (List ℕ)) (keys later : Option Coming) (steps after : ℕ) (r : Status) → later_told ≡ told → text ≡ requests
-    → IfSome told (λ d. (accepted_file d name named).gives ruled)
-    → IfSome later_told (λ d. (x : Ruled) → IsRuled ruled.service x → Replies (replayed d text most x) held now keys later steps after r)
-    → IfSome told (λ d. Replies (accepted_file d name named >>= replayed d requests most) held now keys later steps after r)
-replies_found None later_told name named requests text most ruled held now keys later steps after r e t g h = tt
-replies_found (Some d) later_told name named requests text most ruled held now keys later steps after r e t g h =
-    let all = subst (λ o. IfSome o (λ d. (x : Ruled) → IsRuled ruled.service x → Replies (replayed d text most x) held now keys later steps after r)) e h in
+    (held now : Option (List ℕ)) (keys later : Option Coming) (unread : Option (List ℕ)) (steps after : ℕ) (r : Status) → later_told ≡ told
+    → text ≡ requests → IfSome told (λ d. (accepted_file d name named).gives ruled)
+    → IfSome later_told (λ d. (x : Ruled) → IsRuled ruled.service x → Replies (replayed d text most x) held now keys later unread steps after r)
+    → IfSome told (λ d. Replies (accepted_file d name named >>= replayed d requests most) held now keys later unread steps after r)
+replies_found None later_told name named requests text most ruled held now keys later unread steps after r e t g h = tt
+replies_found (Some d) later_told name named requests text most ruled held now keys later unread steps after r e t g h =
+    let all = subst
+    (λ o. IfSome o (λ d. (x : Ruled) → IsRuled ruled.service x → Replies (replayed d text most x) held now keys later unread steps after r)) e h in
     let is = found_accepted d name named ruled g in
     λ o.
     comes_then (accepted_file d name named) (replayed d requests most) ruled _ _ r g
-    (subst (λ n. Replies (replayed d n most ruled) held now keys later steps after r) t (all ruled is) o)
+    (subst (λ n. Replies (replayed d n most ruled) held now keys later unread steps after r) t (all ruled is) o)
 
 -- ---- links
 
-outside_same : (p : Option (List ℕ)) (k : Option Coming) (a : Option ℕ) (c d : Option (List (List ℕ))) (r t : Option (List Returned)) (s : ℕ) → c ≡ d
-    → r ≡ t → outside p k a c r s ≡ outside p k a d t s
-outside_same p k a c d r t s e f = ap (λ x. outside p k a x r s) e ∙ ap (λ x. outside p k a d x s) f
+outside_same : (p : Option (List ℕ)) (k : Option Coming) (a : Option (List ℕ)) (c d : Option (List (List ℕ))) (r t : Option (List Returned))
+    (u : Option (List ℕ)) (s : ℕ) → c ≡ d → r ≡ t → outside p k a c r u s ≡ outside p k a d t u s
+outside_same p k a c d r t u s e f = ap (λ x. outside p k a x r u s) e ∙ ap (λ x. outside p k a d x u s) f
 
 -- the port couldn't be listened on
-pub no_port_comes : (ruled : Ruled) (port most : ℕ) (o : Outside) (asked : Option ℕ) (coming : Option (List (List ℕ)))
-    (returned : Option (List Returned)) → coming ≡ o.coming → returned ≡ o.returned
-    → Comes (at_port port most ruled) o (outside o.printed o.keys asked coming returned o.steps) status.DoorFault
-no_port_comes ruled port most o asked coming returned e f =
-    done (serves ruled port most) refl (no_port refl (outside_same o.printed o.keys asked coming o.coming returned o.returned o.steps e f))
+pub no_port_comes : (ruled : Ruled) (port most : ℕ) (o : Outside) (asked : Option (List ℕ)) (coming : Option (List (List ℕ)))
+    (returned : Option (List Returned)) (unread : Option (List ℕ)) → coming ≡ o.coming → returned ≡ o.returned → MayAsk o.asked asked port
+    → Comes (at_port port most ruled) o (outside o.printed o.keys asked coming returned unread o.steps) status.DoorFault
+no_port_comes ruled port most o asked coming returned unread e f a =
+    done (serves ruled port most) refl (no_port refl a (outside_same o.printed o.keys asked coming o.coming returned o.returned unread o.steps e f))
 
 -- the line was printed in a first part
-pub no_line_comes : (ruled : Ruled) (port most : ℕ) (o : Outside) (printed : Option (List ℕ)) (asked : Option ℕ) (coming : Option (List (List ℕ)))
-    (returned : Option (List Returned)) → coming ≡ o.coming → returned ≡ o.returned
-    → Asks asked port → AppendsPart o.printed printed (serving_line port)
-    → Comes (at_port port most ruled) o (outside printed o.keys asked coming returned o.steps) status.WriteFault
-no_line_comes ruled port most o printed asked coming returned e f a p =
-    done (serves ruled port most) refl (no_line refl a p (outside_same printed o.keys asked coming o.coming returned o.returned o.steps e f))
+pub no_line_comes : (ruled : Ruled) (port most : ℕ) (o : Outside) (printed asked : Option (List ℕ)) (coming : Option (List (List ℕ)))
+    (returned : Option (List Returned)) (unread : Option (List ℕ)) → coming ≡ o.coming → returned ≡ o.returned
+    → Asks o.asked asked port → AppendsPart o.printed printed (serving_line port)
+    → Comes (at_port port most ruled) o (outside printed o.keys asked coming returned unread o.steps) status.WriteFault
+no_line_comes ruled port most o printed asked coming returned unread e f a p =
+    done (serves ruled port most) refl (no_line refl a p (outside_same printed o.keys asked coming o.coming returned o.returned unread o.steps e f))
 
 -- links were served
-pub serving_comes : (ruled : Ruled) (seen : Seen) (port most : ℕ) (o after : Outside) (asked : Option ℕ) (coming : Option (List (List ℕ)))
+pub serving_comes : (ruled : Ruled) (seen : Seen) (port most : ℕ) (o after : Outside) (asked : Option (List ℕ)) (coming : Option (List (List ℕ)))
     (returned : Option (List Returned)) (s : Status) → coming ≡ o.coming → returned ≡ o.returned
-    → IsRuled seen.service ruled → StandsFor seen (empty seen.service) → Asks asked port → after.asked ≡ asked
+    → IsRuled seen.service ruled → StandsFor seen (empty seen.service) → BeginsSound seen.service → Asks o.asked asked port → after.asked ≡ asked
     → Appends o.printed after.printed (serving_line port) → (s ≡ status.Done) ⊎ (s ≡ status.DoorFault)
-    → ((r : Ruled) (m : World) → IsRuled seen.service r → StandsFor seen m → Reached r.service m
-    → ServesLinks r m most (outside None o.keys asked coming returned o.steps) (record after { printed = None }) s)
+    → ((r : Ruled) (m : World) → IsRuled seen.service r → StandsFor seen m → IsSoundWorld r.service m
+    → ServesLinks r m most (outside None o.keys asked coming returned None o.steps) (record after { printed = None; unread = None }) s)
     → Comes (at_port port most ruled) o after s
-serving_comes ruled seen port most o after asked coming returned s e f is stands asks same line ends gives =
-    let unprinted : Outside = record after { printed = None } in
-    let from = gives ruled (empty ruled.service) is (subst (λ t. StandsFor seen (empty t)) (sym is.0) stands) nothing_yet in
+serving_comes ruled seen port most o after asked coming returned s e f is stands sound asks same line ends gives =
+    let unprinted : Outside = record after { printed = None; unread = None } in
+    let from = gives ruled (empty ruled.service) is (subst (λ t. StandsFor seen (empty t)) (sym is.0) stands)
+    (subst BeginsSound (sym is.0) sound ruled.schema 1 1 is.1) in
     let all : ServesLinks ruled (empty ruled.service) most o after s = λ keys k links l given g.
     let x = from keys k links (e ∙ l) given (f ∙ g) in
     (x.0, x.1, x.2, given_so ruled _ links given x.0 x.1 x.2 unprinted after x.3 refl refl refl refl, x.4, x.5) in
-    done (serves ruled port most) refl (links_served ends (subst (λ x. Asks x port) (sym same) asks) line all)
+    done (serves ruled port most) refl (links_served ends (subst (λ x. Asks o.asked x port) (sym same) asks) line all)
 
 -- the service is the one that the world was made with
 pub by_same_service : (port most : ℕ) (service seen : Service) (before after : Outside) (s : Status) → seen ≡ service
-    → ((ruled : Ruled) → IsRuled seen ruled → Comes (at_port port most ruled) before after s)
-    → (ruled : Ruled) → IsRuled service ruled → Comes (at_port port most ruled) before after s
+    → ((ruled : Ruled) (u v : Option (List ℕ)) → IsRuled seen ruled
+    → Comes (at_port port most ruled) (record before { unread = u }) (record after { unread = v }) s)
+    → (ruled : Ruled) (u v : Option (List ℕ)) → IsRuled service ruled
+    → Comes (at_port port most ruled) (record before { unread = u }) (record after { unread = v }) s
 by_same_service port most service seen before after s e h =
-    subst (λ t. (ruled : Ruled) → IsRuled t ruled → Comes (at_port port most ruled) before after s) e h
+    subst (λ t. (ruled : Ruled) (u v : Option (List ℕ)) → IsRuled t ruled
+    → Comes (at_port port most ruled) (record before { unread = u }) (record after { unread = v }) s) e h
 
 -- the service was found, and then its port was served
 pub port_comes : (told : Option Disk) (name : List ℕ) (named : Option (List ℕ)) (port most : ℕ) (ruled : Ruled) (before after : Outside) (s : Status)
     → IfSome told (λ d. (accepted_file d name named).gives ruled)
-    → ((x : Ruled) → IsRuled ruled.service x → Comes (at_port port most x) before after s)
+    → ((x : Ruled) (u v : Option (List ℕ)) → IsRuled ruled.service x
+    → Comes (at_port port most x) (record before { unread = u }) (record after { unread = v }) s)
     → IfSome told (λ d. Comes (accepted_file d name named >>= at_port port most) before after s)
 port_comes None name named port most ruled before after s g h = tt
 port_comes (Some d) name named port most ruled before after s g h =
-    comes_then (accepted_file d name named) (at_port port most) ruled before after s g (h ruled (found_accepted d name named ruled g))
+    comes_then (accepted_file d name named) (at_port port most) ruled before after s g
+    (h ruled before.unread after.unread (found_accepted d name named ruled g))

@@ -4,6 +4,7 @@ pub mod Codes
 pub mod Commands
 pub mod FaultLines
 pub mod Laws
+pub mod Headline
 pub mod Lines
 pub mod Making
 pub mod Numbers

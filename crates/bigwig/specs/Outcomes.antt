@@ -1,14 +1,14 @@
 -- What the program comes to: its status, and what is then printed, drawn and given back.
-use Rattle.std.specs.Prelude.{◌≡◌, ◌⊎◌, ◌<◌, ◌≤◌, ℕ, List, [], ◌∷◌, ◌++◌, length, Option, Some, codes, decimal}
+use Rattle.std.specs.Prelude.{◌≡◌, ◌⊎◌, ◌<◌, ◌≤◌, ◌+◌, ℕ, List, [], ◌∷◌, ◌++◌, length, Option, Some, codes, decimal}
 use Rattle.std.specs.Io.KnownBytes.{Appends}
 use Rattle.bw_http.specs.declared.replies.Reply.{Reply}
 use Rattle.bw_model.specs.Runs.{At}
 use Rattle.bw_model.specs.Sessions.{World, empty}
 use Rattle.bw_out.specs.Causes.{Shows}
-use Rattle.bw_out.specs.Doors.{Returned, Asks}
+use Rattle.bw_out.specs.Doors.{Returned, Asks, MayAsk}
 use Rattle.bw_out.specs.Told.{Coming}
 use Rattle.bw_out.specs.Writes.{AppendsPart}
-use Rattle.bw_answer.specs.Answers.{Place, Course, AreLeft}
+use Rattle.bw_answer.specs.Courses.{AreLeft, Course}
 use Rattle.bw_answer.specs.declared.ends.StreamEnd.{StreamEnd}
 use Rattle.bw_answer.specs.declared.ends.StreamEnd.TheVariants as ends
 use Rattle.bw_sound.specs.Good.{AreGood}
@@ -18,19 +18,20 @@ use Rattle.bigwig.specs.Questions.{Said, Question, line}
 use Rattle.bigwig.specs.declared.status.Status.{Status}
 use Rattle.bigwig.specs.declared.status.Status.TheVariants.{Done, ReadFault, WriteFault, DoorFault, Memory}
 
--- what is seen of the outside: what `out` holds, the keys to come, the port that was asked for, the links to come and
--- those given back, and the steps so far
+-- what is seen of the outside: what `out` holds, the keys to come, the ports that were asked for, the links to come and
+-- those given back, what the file that was closed last had left to read, and the steps so far
 pub record Outside : Type 0 where
   pub printed : Option (List ℕ)
   pub keys : Option Coming
-  pub asked : Option ℕ
+  pub asked : Option (List ℕ)
   pub coming : Option (List (List ℕ))
   pub returned : Option (List Returned)
+  pub unread : Option (List ℕ)
   pub steps : ℕ
 
-abbrev pub outside : Option (List ℕ) → Option Coming → Option ℕ → Option (List (List ℕ)) → Option (List Returned) → ℕ → Outside
-outside printed keys asked coming returned steps =
-    record { printed = printed; keys = keys; asked = asked; coming = coming; returned = returned; steps = steps }
+abbrev pub outside : Option (List ℕ) → Option Coming → Option (List ℕ) → Option (List (List ℕ)) → Option (List Returned) → Option (List ℕ) → ℕ → Outside
+outside printed keys asked coming returned unread steps =
+    record { printed = printed; keys = keys; asked = asked; coming = coming; returned = returned; unread = unread; steps = steps }
 
 -- between two streams: the model world, the keys to come, and the steps so far
 pub record Between : Type 0 where
@@ -42,21 +43,18 @@ pub record Between : Type 0 where
 abbrev pub begins : Between → List ℕ → At
 begins from bytes = record { world = from.world; bytes = bytes; keys = from.keys }
 
--- These bytes were answered by a run of at most so many messages, whose replies are appended to what was held; `left` is
--- what was not read. Each page among the replies is good: it is valid by the schema, and a shown page has each field that
--- its show receives.
+-- These bytes were answered by a run of at most so many messages, whose replies are appended to what was held. What follows
+-- them is `rest`, of which some bytes were taken, and `left` was not read. Each page among the replies is good: it is valid by
+-- the schema, and a shown page has each field that its show receives.
 pub record IsStreamed (most : ℕ) (ruled : Ruled) (from : Between) (bytes : List ℕ) (to : Between) (held now left : Option (List ℕ))
     (end : StreamEnd) : Type 0 where
-  pub old : Place
-  pub new : Place
   pub rest : List ℕ
-  pub course : Course ruled.service most (begins from bytes) (begins to rest) old new end
+  pub taken : List ℕ
+  pub cost : ℕ
+  pub course : Course ruled.service most (begins from bytes) (begins to rest) held now taken cost end
+  pub unhandled : AreLeft taken left rest
+  pub steps : to.steps ≡ from.steps + cost
   pub pages : (replies : List Reply) → AreGood ruled.service ruled.schema (begins from bytes) replies
-  pub unhandled : AreLeft new.taken left rest
-  pub held_is : old.held ≡ held
-  pub now_is : new.held ≡ now
-  pub from_is : old.steps ≡ from.steps
-  pub to_is : new.steps ≡ to.steps
 
 -- the status of a stream that ended so
 abbrev pub status_of : StreamEnd → Status
@@ -68,18 +66,19 @@ status_of ends.WriteFault = WriteFault
 abbrev pub Prints : Said → Option (List ℕ) → Option (List ℕ) → Status → Type 0
 Prints what held now status = ((status ≡ what.status) × Appends held now what.text) ⊎ ((status ≡ WriteFault) × AppendsPart held now what.text)
 
--- this was said, and nothing else has changed
+-- this was said, and nothing else has changed, but for the files that were read before
 pub record IsSaid (what : Said) (before after : Outside) (status : Status) : Type 0 where
   pub prints : Prints what before.printed after.printed status
-  pub kept : after ≡ record before { printed = after.printed }
+  pub kept : after ≡ record before { printed = after.printed; unread = after.unread }
 
--- the requests of a file were answered on `out`, from the world in which nothing was requested yet
+-- The requests of a file were answered on `out`, from the world in which nothing was requested yet. What was not read of
+-- them is what the file had left as it was closed.
 pub record IsReplayed (ruled : Ruled) (stream : List ℕ) (most : ℕ) (before after : Outside) (status : Status) : Type 0 where
   pub end : StreamEnd
   pub status_is : status ≡ status_of end
-  pub left : Option (List ℕ)
   pub streamed : (keys : Coming) → before.keys ≡ Some keys → (to : Between) × (after.keys ≡ Some to.keys) × (after.steps ≡ to.steps)
-      × IsStreamed most ruled (record { world = empty ruled.service; keys = keys; steps = before.steps }) stream to before.printed after.printed left end
+      × IsStreamed most ruled (record { world = empty ruled.service; keys = keys; steps = before.steps }) stream to before.printed after.printed
+      after.unread end
   pub kept : (after.asked ≡ before.asked) × (after.coming ≡ before.coming) × (after.returned ≡ before.returned)
 
 -- A link that had these bytes was answered and given back: by a run of at most one message, and a fault on it is what
@@ -123,14 +122,15 @@ ServesLinks ruled world most before after status =
 abbrev pub serving_line : ℕ → List ℕ
 serving_line port = codes "serving " ++ line (decimal port)
 
--- The port couldn't be listened on, and nothing else has changed; or it was asked for and the line that says so was
+-- The port couldn't be listened on, and nothing else has changed; or it was asked for, once, and the line that says so was
 -- printed in a first part; or the whole line was, and then links were served from the world in which nothing was
--- requested yet.
+-- requested yet. No other port was asked for.
 pub data IsServing (ruled : Ruled) (port most : ℕ) (before after : Outside) (status : Status) : Type 0 where
-  no_port : status ≡ DoorFault → after ≡ record before { asked = after.asked } → IsServing ruled port most before after status
-  no_line : status ≡ WriteFault → Asks after.asked port → AppendsPart before.printed after.printed (serving_line port)
-      → after ≡ record before { asked = after.asked; printed = after.printed } → IsServing ruled port most before after status
-  links_served : (status ≡ Done) ⊎ (status ≡ DoorFault) → Asks after.asked port → Appends before.printed after.printed (serving_line port)
+  no_port : status ≡ DoorFault → MayAsk before.asked after.asked port → after ≡ record before { asked = after.asked; unread = after.unread }
+      → IsServing ruled port most before after status
+  no_line : status ≡ WriteFault → Asks before.asked after.asked port → AppendsPart before.printed after.printed (serving_line port)
+      → after ≡ record before { asked = after.asked; printed = after.printed; unread = after.unread } → IsServing ruled port most before after status
+  links_served : (status ≡ Done) ⊎ (status ≡ DoorFault) → Asks before.asked after.asked port → Appends before.printed after.printed (serving_line port)
       → ServesLinks ruled (empty ruled.service) most before after status → IsServing ruled port most before after status
 
 -- what comes of the work
@@ -140,18 +140,20 @@ IsDone (replays ruled stream most) before after status = IsReplayed ruled stream
 IsDone (serves ruled port most) before after status = IsServing ruled port most before after status
 
 -- What comes of the questions. What is said is printed; or the work is done; or, after a read fault or for want of
--- memory, nothing has changed.
+-- memory, nothing has changed, but for the files that were read.
 pub data Comes (question : Question Work) (before after : Outside) (status : Status) : Type 0 where
   said : (what : Said) → question.says what → IsSaid what before after status → Comes question before after status
   done : (work : Work) → question.gives work → IsDone work before after status → Comes question before after status
-  read_fault : status ≡ ReadFault → after ≡ before → Comes question before after status
-  no_memory : status ≡ Memory → after ≡ before → Comes question before after status
+  read_fault : status ≡ ReadFault → after ≡ record before { unread = after.unread } → Comes question before after status
+  no_memory : status ≡ Memory → after ≡ record before { unread = after.unread } → Comes question before after status
 
 -- the same, of code that only prints
 abbrev pub Speaks : Question Work → Option (List ℕ) → Option (List ℕ) → Status → Type 0
-Speaks question held now status = (o : Outside) → Comes question (record o { printed = held }) (record o { printed = now }) status
+Speaks question held now status =
+    (o : Outside) (unread : Option (List ℕ)) → Comes question (record o { printed = held }) (record o { printed = now; unread = unread }) status
 
 -- the same, of code that answers on `out`
-abbrev pub Replies : Question Work → Option (List ℕ) → Option (List ℕ) → Option Coming → Option Coming → ℕ → ℕ → Status → Type 0
-Replies question held now keys later steps after status =
-    (o : Outside) → Comes question (record o { printed = held; keys = keys; steps = steps }) (record o { printed = now; keys = later; steps = after }) status
+abbrev pub Replies : Question Work → Option (List ℕ) → Option (List ℕ) → Option Coming → Option Coming → Option (List ℕ) → ℕ → ℕ → Status → Type 0
+Replies question held now keys later unread steps after status =
+    (o : Outside) → Comes question (record o { printed = held; keys = keys; steps = steps })
+    (record o { printed = now; keys = later; unread = unread; steps = after }) status

@@ -1,5 +1,6 @@
 //! `make`: a made service, its check and its turns.
 ghost use Rattle.std.specs.Prelude.{◌≡◌, ◌≢◌, ◌≤◌, ◌<◌, ◌++◌, IfOk, IsErrOf, OnOk};
+ghost use Rattle.bw_http.specs.Forms.{IsTextForm};
 ghost use Rattle.bw_model.specs.Sessions.{empty};
 ghost use Rattle.bw_out.specs.Causes.{Shows};
 ghost use Rattle.bw_world.specs.Stands.{StandsFor};
@@ -123,6 +124,7 @@ fn send_one<L: Ledger>(
     request: &Request,
     steps: &mut Steps<L>,
 ) -> Result<u64, Memory>
+    requires { IsTextForm request.now.form }
     ensures sent { IfOk result (spec.IsSent world.old world.new request.now) }
     ensures service { world.new.service ≡ world.old.service }
 {

@@ -1,8 +1,10 @@
 //! All that the program does.
 ghost use Rattle.std.specs.Prelude.{◌≡◌, ◌≢◌, ◌⊎◌, None, IfSome};
 ghost use Rattle.bw_out.specs.Causes.{Shows};
+ghost use Rattle.bw_out.specs.Told.{AreWords};
 ghost use Rattle.bigwig.specs.Asked.{asked, work};
 ghost use Rattle.bigwig.specs.Commands.{command_of, AreWorkers, IsInRange};
+ghost use Rattle.bigwig.specs.Headline.{Headline};
 ghost use Rattle.bigwig.specs.Outcomes.{Comes, Speaks, outside};
 ghost use Rattle.bigwig.specs.declared.command.Command.TheVariants as commands;
 
@@ -53,8 +55,12 @@ pub fn run<R: Threads + Sync, F: Files, D: Door, K: Keys, W: Sink, P: Pulse, L: 
     steps: &mut Steps<L>,
 ) -> Status
     ensures comes { IfSome (F.told files.old) (λ disk. Comes (asked words.now disk)
-        (outside (W.held out.old) (K.coming keys.old) (D.asked door.old) (D.coming door.old) (D.returned door.old) steps.old)
-        (outside (W.held out.new) (K.coming keys.new) (D.asked door.new) (D.coming door.new) (D.returned door.new) steps.new) result) }
+        (outside (W.held out.old) (K.coming keys.old) (D.asked door.old) (D.coming door.old) (D.returned door.old) (F.unread files.old) steps.old)
+        (outside (W.held out.new) (K.coming keys.new) (D.asked door.new) (D.coming door.new) (D.returned door.new) (F.unread files.new) steps.new) result) }
+    ensures headline { IfSome (F.told files.old) (λ disk. Headline words.now disk
+        (outside (W.held out.old) (K.coming keys.old) (D.asked door.old) (D.coming door.old) (D.returned door.old) (F.unread files.old) steps.old)
+        (outside (W.held out.new) (K.coming keys.new) (D.asked door.new) (D.coming door.new) (D.returned door.new) (F.unread files.new) steps.new) result) }
+    ensures words { AreWords (K.coming keys.old) }
     ensures usage { command_of words.now ≡ None → (result ≡ Status.Usage) ⊎ ((result ≡ Status.WriteFault) ⊎ (result ≡ Status.Memory)) }
     ensures usage_only { result ≡ Status.Usage → command_of words.now ≡ None }
     ensures read_fault { Shows (result ≡ Status.ReadFault) (F.faults files.old) (F.faults files.new) }
@@ -82,8 +88,8 @@ fn obey<R: Threads + Sync, F: Files, D: Door, K: Keys, W: Sink, P: Pulse, L: Led
 ) -> Status
     requires { IsInRange command.now }
     ensures comes { IfSome (F.told files.old) (λ disk. Comes (work disk command.now)
-        (outside (W.held out.old) (K.coming keys.old) (D.asked door.old) (D.coming door.old) (D.returned door.old) steps.old)
-        (outside (W.held out.new) (K.coming keys.new) (D.asked door.new) (D.coming door.new) (D.returned door.new) steps.new) result) }
+        (outside (W.held out.old) (K.coming keys.old) (D.asked door.old) (D.coming door.old) (D.returned door.old) (F.unread files.old) steps.old)
+        (outside (W.held out.new) (K.coming keys.new) (D.asked door.new) (D.coming door.new) (D.returned door.new) (F.unread files.new) steps.new) result) }
     ensures not_usage { result ≢ Status.Usage }
     ensures read_fault { Shows (result ≡ Status.ReadFault) (F.faults files.old) (F.faults files.new) }
     ensures write_fault { Shows (result ≡ Status.WriteFault) (W.write_faults out.old) (W.write_faults out.new) }

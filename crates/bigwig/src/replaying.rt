@@ -2,6 +2,7 @@
 ghost use Rattle.std.specs.Prelude.{◌≡◌, ◌≢◌, [], IfSome};
 ghost use Rattle.bw_out.specs.Causes.{Shows};
 ghost use Rattle.bw_model.specs.Sessions.{empty};
+ghost use Rattle.bw_sound.specs.Worlds.{BeginsSound};
 ghost use Rattle.bw_world.specs.Stands.{StandsFor};
 ghost use Rattle.bw_answer.specs.Answers as answers;
 ghost use Rattle.bw_answer.specs.Good.{RepliesAreGood};
@@ -43,7 +44,7 @@ pub fn replay_command<R: Threads + Sync, F: Files, K: Keys, W: Sink, P: Pulse, L
 ) -> Status
     requires { AreWorkers judging.now.workers }
     ensures comes { IfSome (F.told files.old) (λ disk. Replies (work disk (commands.Replay service.now requests.now judging.now most))
-        (W.held out.old) (W.held out.new) (K.coming keys.old) (K.coming keys.new) steps.old steps.new result) }
+        (W.held out.old) (W.held out.new) (K.coming keys.old) (K.coming keys.new) (F.unread files.new) steps.old steps.new result) }
     ensures others { (result ≢ Status.Usage) × (result ≢ Status.DoorFault) }
     ensures read_fault { Shows (result ≡ Status.ReadFault) (F.faults files.old) (F.faults files.new) }
     ensures write_fault { Shows (result ≡ Status.WriteFault) (W.write_faults out.old) (W.write_faults out.new) }
@@ -75,7 +76,7 @@ fn replay_file<F: Files, K: Keys, W: Sink, L: Ledger>(
     steps: &mut Steps<L>,
 ) -> Status
     ensures comes { IfSome (F.told files.old) (λ disk. (ruled : Ruled) → IsRuled checked.typed.service ruled → Replies (replayed disk name.now most ruled)
-        (W.held out.old) (W.held out.new) (K.coming keys.old) (K.coming keys.new) steps.old steps.new result) }
+        (W.held out.old) (W.held out.new) (K.coming keys.old) (K.coming keys.new) (F.unread files.new) steps.old steps.new result) }
     ensures others { (result ≢ Status.Usage) × (result ≢ Status.DoorFault) }
     ensures read_fault { Shows (result ≡ Status.ReadFault) (F.faults files.old) (F.faults files.new) }
     ensures write_fault { Shows (result ≡ Status.WriteFault) (W.write_faults out.old) (W.write_faults out.new) }
@@ -101,9 +102,10 @@ fn replay_in<F: Files, K: Keys, W: Sink, L: Ledger>(
     out: &mut W,
     steps: &mut Steps<L>,
 ) -> Status
-    requires { StandsFor world.old (empty world.old.service) }
+    requires stands { StandsFor world.old (empty world.old.service) }
+    requires sound { BeginsSound world.old.service }
     ensures comes { IfSome (F.told files.old) (λ disk. (ruled : Ruled) → IsRuled world.old.service ruled → Replies (replayed disk name.now most ruled)
-        (W.held out.old) (W.held out.new) (K.coming keys.old) (K.coming keys.new) steps.old steps.new result) }
+        (W.held out.old) (W.held out.new) (K.coming keys.old) (K.coming keys.new) (F.unread files.new) steps.old steps.new result) }
     ensures others { (result ≢ Status.Usage) × (result ≢ Status.DoorFault) }
     ensures read_fault { Shows (result ≡ Status.ReadFault) (F.faults files.old) (F.faults files.new) }
     ensures write_fault { Shows (result ≡ Status.WriteFault) (W.write_faults out.old) (W.write_faults out.new) }
@@ -137,9 +139,10 @@ fn replay_from<F: Files, K: Keys, W: Sink, L: Ledger>(
     steps: &mut Steps<L>,
 ) -> Status
     requires stands { StandsFor world.old (empty world.old.service) }
+    requires sound { BeginsSound world.old.service }
     requires none { intake.old ≡ [] }
     ensures comes { IfSome (F.told files.old) (λ disk. (ruled : Ruled) → IsRuled world.old.service ruled → Replies (replayed disk name.now most ruled)
-        (W.held out.old) (W.held out.new) (K.coming keys.old) (K.coming keys.new) steps.old steps.new result) }
+        (W.held out.old) (W.held out.new) (K.coming keys.old) (K.coming keys.new) (F.unread files.new) steps.old steps.new result) }
     ensures others { (result ≢ Status.Usage) × (result ≢ Status.DoorFault) }
     ensures read_fault { Shows (result ≡ Status.ReadFault) (F.faults files.old) (F.faults files.new) }
     ensures write_fault { Shows (result ≡ Status.WriteFault) (W.write_faults out.old) (W.write_faults out.new) }

@@ -1,9 +1,9 @@
 //! Links that are served, one after another, over one world.
-ghost use Rattle.std.specs.Prelude.{◌≡◌, ◌≢◌, ◌⊎◌, [], None, IfSome};
-ghost use Rattle.bw_cover.specs.Worlds.{Reached};
+ghost use Rattle.std.specs.Prelude.{◌≡◌, ◌≢◌, ◌⊎◌, ℕ, List, [], Option, None, IfSome};
 ghost use Rattle.bw_model.specs.Sessions as model;
 ghost use Rattle.bw_out.specs.Causes.{HasCause, Shows};
 ghost use Rattle.bw_out.specs.Writes.{Writes};
+ghost use Rattle.bw_sound.specs.Worlds.{BeginsSound, IsSoundWorld};
 ghost use Rattle.bw_world.specs.Stands.{StandsFor};
 ghost use Rattle.bigwig.specs.Asked.{Ruled, at_port, work};
 ghost use Rattle.bigwig.specs.Checks.{IsRuled};
@@ -43,8 +43,8 @@ pub fn serve_command<R: Threads + Sync, F: Files, D: Door, K: Keys, W: Sink, P: 
 ) -> Status
     requires { AreWorkers judging.now.workers }
     ensures comes { IfSome (F.told files.old) (λ disk. Comes (work disk (commands.Serve service.now judging.now port most))
-        (outside (W.held out.old) (K.coming keys.old) (D.asked door.old) (D.coming door.old) (D.returned door.old) steps.old)
-        (outside (W.held out.new) (K.coming keys.new) (D.asked door.new) (D.coming door.new) (D.returned door.new) steps.new) result) }
+        (outside (W.held out.old) (K.coming keys.old) (D.asked door.old) (D.coming door.old) (D.returned door.old) (F.unread files.old) steps.old)
+        (outside (W.held out.new) (K.coming keys.new) (D.asked door.new) (D.coming door.new) (D.returned door.new) (F.unread files.new) steps.new) result) }
     ensures not_usage { result ≢ Status.Usage }
     ensures read_fault { Shows (result ≡ Status.ReadFault) (F.faults files.old) (F.faults files.new) }
     ensures write_fault { Shows (result ≡ Status.WriteFault) (W.write_faults out.old) (W.write_faults out.new) }
@@ -67,9 +67,9 @@ fn serve_service<D: Door, K: Keys, W: Sink, L: Ledger>(
     out: &mut W,
     steps: &mut Steps<L>,
 ) -> Status
-    ensures comes { (ruled : Ruled) → IsRuled checked.typed.service ruled → Comes (at_port port most ruled)
-        (outside (W.held out.old) (K.coming keys.old) (D.asked door.old) (D.coming door.old) (D.returned door.old) steps.old)
-        (outside (W.held out.new) (K.coming keys.new) (D.asked door.new) (D.coming door.new) (D.returned door.new) steps.new) result }
+    ensures comes { (ruled : Ruled) (u v : Option (List ℕ)) → IsRuled checked.typed.service ruled → Comes (at_port port most ruled)
+        (outside (W.held out.old) (K.coming keys.old) (D.asked door.old) (D.coming door.old) (D.returned door.old) u steps.old)
+        (outside (W.held out.new) (K.coming keys.new) (D.asked door.new) (D.coming door.new) (D.returned door.new) v steps.new) result }
     ensures others { (result ≢ Status.Usage) × (result ≢ Status.ReadFault) }
     ensures write_fault { Shows (result ≡ Status.WriteFault) (W.write_faults out.old) (W.write_faults out.new) }
     ensures door_fault { Shows (result ≡ Status.DoorFault) (D.faults door.old) (D.faults door.new) }
@@ -95,10 +95,11 @@ fn serve_world<D: Door, K: Keys, W: Sink, L: Ledger>(
     out: &mut W,
     steps: &mut Steps<L>,
 ) -> Status
-    requires { StandsFor world.old (model.empty world.old.service) }
-    ensures comes { (ruled : Ruled) → IsRuled world.old.service ruled → Comes (at_port port most ruled)
-        (outside (W.held out.old) (K.coming keys.old) (D.asked door.old) (D.coming door.old) (D.returned door.old) steps.old)
-        (outside (W.held out.new) (K.coming keys.new) (D.asked door.new) (D.coming door.new) (D.returned door.new) steps.new) result }
+    requires stands { StandsFor world.old (model.empty world.old.service) }
+    requires sound { BeginsSound world.old.service }
+    ensures comes { (ruled : Ruled) (u v : Option (List ℕ)) → IsRuled world.old.service ruled → Comes (at_port port most ruled)
+        (outside (W.held out.old) (K.coming keys.old) (D.asked door.old) (D.coming door.old) (D.returned door.old) u steps.old)
+        (outside (W.held out.new) (K.coming keys.new) (D.asked door.new) (D.coming door.new) (D.returned door.new) v steps.new) result }
     ensures others { (result ≢ Status.Usage) × (result ≢ Status.ReadFault) }
     ensures write_fault { Shows (result ≡ Status.WriteFault) (W.write_faults out.old) (W.write_faults out.new) }
     ensures door_fault { Shows (result ≡ Status.DoorFault) (D.faults door.old) (D.faults door.new) }
@@ -131,10 +132,11 @@ fn serve_port<D: Door, K: Keys, W: Sink, L: Ledger>(
     out: &mut W,
     steps: &mut Steps<L>,
 ) -> Status
-    requires { StandsFor world.old (model.empty world.old.service) }
-    ensures comes { (ruled : Ruled) → IsRuled world.old.service ruled → Comes (at_port port most ruled)
-        (outside (W.held out.old) (K.coming keys.old) (D.asked door.old) (D.coming door.old) (D.returned door.old) steps.old)
-        (outside (W.held out.new) (K.coming keys.new) (D.asked door.new) (D.coming door.new) (D.returned door.new) steps.new) result }
+    requires stands { StandsFor world.old (model.empty world.old.service) }
+    requires sound { BeginsSound world.old.service }
+    ensures comes { (ruled : Ruled) (u v : Option (List ℕ)) → IsRuled world.old.service ruled → Comes (at_port port most ruled)
+        (outside (W.held out.old) (K.coming keys.old) (D.asked door.old) (D.coming door.old) (D.returned door.old) u steps.old)
+        (outside (W.held out.new) (K.coming keys.new) (D.asked door.new) (D.coming door.new) (D.returned door.new) v steps.new) result }
     ensures others { (result ≢ Status.Usage) × (result ≢ Status.ReadFault) }
     ensures write_fault { Shows (result ≡ Status.WriteFault) (W.write_faults out.old) (W.write_faults out.new) }
     ensures door_fault { Shows (result ≡ Status.DoorFault) (D.faults door.old) (D.faults door.new) }
@@ -170,9 +172,9 @@ fn serve_links<D: Door, K: Keys, L: Ledger>(
     most: u32,
     steps: &mut Steps<L>,
 ) -> Status
-    ensures serves { (ruled : Ruled) (m : model.World) → IsRuled world.old.service ruled → StandsFor world.old m → Reached ruled.service m
-        → ServesLinks ruled m most (outside None (K.coming keys.old) (D.asked door.old) (D.coming door.old) (D.returned door.old) steps.old)
-        (outside None (K.coming keys.new) (D.asked door.new) (D.coming door.new) (D.returned door.new) steps.new) result }
+    ensures serves { (ruled : Ruled) (m : model.World) → IsRuled world.old.service ruled → StandsFor world.old m → IsSoundWorld ruled.service m
+        → ServesLinks ruled m most (outside None (K.coming keys.old) (D.asked door.old) (D.coming door.old) (D.returned door.old) None steps.old)
+        (outside None (K.coming keys.new) (D.asked door.new) (D.coming door.new) (D.returned door.new) None steps.new) result }
     ensures ends { (result ≡ Status.Done) ⊎ (result ≡ Status.DoorFault) }
     ensures asked { D.asked door.new ≡ D.asked door.old }
     ensures door_fault { Shows (result ≡ Status.DoorFault) (D.faults door.old) (D.faults door.new) }

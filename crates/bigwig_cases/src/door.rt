@@ -45,12 +45,13 @@ impl<'a> CaseDoor<'a> {
 }
 
 impl<'a> Door for CaseDoor<'a> {
-    ghost use Rattle.std.specs.Prelude.{◌<◌};
+    ghost use Rattle.std.specs.Prelude.{◌<◌, Some};
+    ghost use Rattle.bw_out.specs.Doors.{ports_of};
     ghost use Rattle.bw_out.specs.MemLinks.{coming_of, given_back_of};
 
     type Link = MemLink<'a>;
 
-    ghost asked = { λ d. d.door.port };
+    ghost asked = { λ d. Some (ports_of d.door.port) };
 
     ghost coming = { λ d. coming_of d.door };
 

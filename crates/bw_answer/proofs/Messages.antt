@@ -18,7 +18,8 @@ use Rattle.bw_out.specs.Told.{Draws, later_words}
 use Rattle.bw_out.specs.Writes.{AppendsPart}
 use Rattle.bw_types.specs.Fields.{field_names}
 use Rattle.bw_world.specs.Stands.{StandsFor, Ends, Handles}
-use Rattle.bw_answer.specs.Answers.{Place, IsAt, AreLeft, bytes_by}
+use Rattle.bw_answer.specs.Answers.{Place, IsAt}
+use Rattle.bw_answer.specs.Courses.{AreLeft, bytes_by}
 use Rattle.bw_answer.specs.Steps.Turns.{Takes, Goes, without_request}
 use Rattle.bw_answer.specs.declared.outcomes.Taken.{Taken}
 use Rattle.bw_answer.specs.declared.outcomes.Taken.TheVariants as takens

@@ -31,6 +31,7 @@ use Rattle.bw_http.specs.Messages.{IsRequest}
 use Rattle.bw_http.specs.declared.replies.Reply.{Reply}
 use Rattle.bw_http.specs.declared.replies.Reply.TheVariants as replies
 use Rattle.bw_http.specs.declared.request.ReadOutcome.{ReadOutcome}
+use Rattle.bw_http.specs.declared.request.ReadOutcome.TheVariants as outcomes
 use Rattle.bw_http.specs.declared.request.Request.{Request}
 use Rattle.bw_http.proofs.OnePath.{one_request}
 use Rattle.bw_http.proofs.Due.{message_exact, end_exact}
@@ -113,23 +114,39 @@ not_refused bytes rest more r o reply cut wrong e =
 turn_or_stop : (service : Service) (at to then : At) (reply : Reply) (last : List Reply) (c : ℕ) → Turn service at reply c to → want reply ≡ 0
     → Stops at last then → ⊥
 turn_or_stop service at to then reply last c (no_memory cut e w k few) none s = no_want reply e none
-turn_or_stop service at to then reply last c (request q cut e k) none (ended rest end) = no_end q at.bytes to.bytes end cut
+turn_or_stop service at to then reply last c (request q cut e k) none (ended rest end) = no_end q at.bytes to.bytes end.0 cut
 turn_or_stop service at to then reply last c (request q cut e k) none (refused o answer rest wrong why) =
     not_refused at.bytes to.bytes rest q o answer cut wrong why
 
 -- ---- message after message
 
--- what stops leaves the world and the keys
-stops_keep : (at to : At) (last : List Reply) → Stops at last to → (to.world ≡ at.world) × (to.keys ≡ at.keys)
-stops_keep at to last (ended rest end) = (refl, refl)
-stops_keep at to last (refused o answer rest wrong why) = (refl, refl)
+-- what is refused leaves the bytes
+refusal_keeps : (bytes rest : List ℕ) (o : ReadOutcome) (reply : Reply) → Cut bytes (Err o) rest → refusal o ≡ Some reply → rest ≡ bytes
+refusal_keeps bytes rest outcomes.End reply c e = c.1
+refusal_keeps bytes rest outcomes.BadHead reply c e = c.1
+refusal_keeps bytes rest outcomes.Truncated reply c e = c.2
+refusal_keeps bytes rest outcomes.HeadTooLong reply c e = c.1
+refusal_keeps bytes rest outcomes.NoHost reply c e = c.1
+refusal_keeps bytes rest outcomes.Coding reply c e = c.1
+refusal_keeps bytes rest outcomes.BadLength reply c e = c.1
+refusal_keeps bytes rest outcomes.LengthRequired reply c e = c.1
+refusal_keeps bytes rest outcomes.BodyTooLong reply c e = c.1
+refusal_keeps bytes rest outcomes.Media reply c e = c.1
+refusal_keeps bytes rest outcomes.ReadFault reply c e = c.1
+refusal_keeps bytes rest outcomes.Memory reply c e = absurd (let none : refusal outcomes.Memory ≡ Some reply = e in cc)
+
+-- what stops leaves all as it was
+stops_keep : (at to : At) (last : List Reply) → Stops at last to → to ≡ at
+stops_keep at to last (ended rest end) = ap (λ (b : List ℕ). let x : At = record at { bytes = b } in x) end.1
+stops_keep at to last (refused o answer rest wrong why) =
+    ap (λ (b : List ℕ). let x : At = record at { bytes = b } in x) (refusal_keeps at.bytes rest o answer wrong why)
 
 -- how a list of messages ends a run
 abbrev EndsAt : ℕ → List Reply → List Reply → At → At → Type 0
 EndsAt most first last mid to = ((length first ≡ most) × (last ≡ []) × (to ≡ mid)) ⊎ ((length first < most) × Stops mid last to)
 
-ends_keep : (most : ℕ) (first last : List Reply) (mid to : At) → EndsAt most first last mid to → (to.world ≡ mid.world) × (to.keys ≡ mid.keys)
-ends_keep most first last mid to (inl x) = (ap (λ (a : At). a.world) x.2, ap (λ (a : At). a.keys) x.2)
+ends_keep : (most : ℕ) (first last : List Reply) (mid to : At) → EndsAt most first last mid to → to ≡ mid
+ends_keep most first last mid to (inl x) = x.2
 ends_keep most first last mid to (inr x) = stops_keep mid to last x.1
 
 -- one message less
@@ -201,6 +218,5 @@ answers_once service most at to then replies others c d one other none nor =
     record {
       handled = same.replies_are;
       spent = same.cost_is;
-      world = kept.0 ∙ ap (λ (a : At). a.world) same.mid_is ∙ sym left.0;
-      keys = kept.1 ∙ ap (λ (a : At). a.keys) same.mid_is ∙ sym left.1;
+      left = kept ∙ same.mid_is ∙ sym left;
     }

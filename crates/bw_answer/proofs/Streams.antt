@@ -28,7 +28,8 @@ use Rattle.std.proofs.KnownBytes.{Appends-nil, Appends-trans}
 use Rattle.bw_http.specs.declared.replies.Reply.{Reply}
 use Rattle.bw_lang.specs.declared.service.Service.{Service}
 use Rattle.bw_model.specs.Runs.{At, Turn, Turns, Stops, Run, wants, answer_of}
-use Rattle.bw_answer.specs.Answers.{Place, Answers, bytes_by}
+use Rattle.bw_answer.specs.Answers.{Place, Answers}
+use Rattle.bw_answer.specs.Courses.{bytes_by}
 use Rattle.bw_answer.specs.Steps.Turns.{Goes, Stands}
 use Rattle.bw_answer.specs.declared.outcomes.Next.{Next}
 use Rattle.bw_answer.specs.declared.outcomes.Next.TheVariants as nexts
@@ -46,7 +47,7 @@ pub wants_then : (first rest : List Reply) → wants (first ++ rest) ≡ wants f
 wants_then [] rest = omega arith
 wants_then (r ∷ rs) rest = let e = wants_then rs rest in omega (arith, e)
 
-answer_then : (service : Service) (first rest : List Reply) → answer_of service (first ++ rest) ≡ answer_of service first ++ answer_of service rest
+pub answer_then : (service : Service) (first rest : List Reply) → answer_of service (first ++ rest) ≡ answer_of service first ++ answer_of service rest
 answer_then service [] rest = refl
 answer_then service (r ∷ rs) rest =
     ap (λ l. bytes_by service r ++ l) (answer_then service rs rest) ∙ sym (append_assoc (bytes_by service r) (answer_of service rs) (answer_of service rest))
@@ -104,7 +105,7 @@ over_full service most n count first now stands full at is =
       all = sym (append-nil so.0);
       ends = inl (so.3 ∙ full, refl, refl);
     } in
-    (s.0, s.1, (so.0, so.1, run, so.4, so.5, so.6))
+    (s.0, so.1, s.1, so.4, (so.0, run, so.5, so.6))
 
 -- none follows
 pub over_ended : (service : Service) (most n count : ℕ) (first old new : Place) → n < most → Stands service n count first old
@@ -118,12 +119,12 @@ over_ended service most n count first old new fewer stands goes at is =
     let run : Run service most at (so.0 ++ now.0) so.1 t.0 =
     record { first = so.0; last = now.0; mid = s.0; turns = so.2; all = refl; ends = inr (omega (arith, so.3, fewer), now.1) } in (
       t.0,
+      so.1,
       t.1,
+      omega (arith, so.4, now.2),
       (
         so.0 ++ now.0,
-        so.1,
         run,
-        omega (arith, so.4, now.2),
         appends_then service first.held old.held new.held so.0 now.0 so.5 now.3,
         omega (arith, sum, so.6, now.4),
       ),
@@ -138,13 +139,13 @@ over_read service most n count first old new fewer stands goes at is =
     let t = goes s.0 s.1 in
     let now = t.2 in (
       t.0,
+      so.1,
       t.1,
+      omega (arith, so.4, now.2),
       (
         so.0,
-        so.1,
         subst (Turns service at so.0 so.1) (sym now.0) so.2,
         omega (arith, so.3, fewer),
-        omega (arith, so.4, now.2),
         subst (λ h. Appends first.held h (answer_of service so.0)) (sym now.3) so.5,
         now.1,
       ),
@@ -189,13 +190,13 @@ over_write service most n count first old new fewer stands goes at is =
     let len = length-append replies (reply ∷ []) in
     let part = now.4 in (
       t.0,
+      so.1 + now.1,
       t.1,
+      omega (arith, so.4, now.3),
       (
         replies ++ reply ∷ [],
-        so.1 + now.1,
         last_run service replies reply so.1 now.1 at s.0 t.0 so.2 now.2,
         omega (arith, len, so.3, fewer),
-        omega (arith, so.4, now.3),
         record {
           earlier = replies;
           last = reply;

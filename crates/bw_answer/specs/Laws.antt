@@ -11,13 +11,13 @@ RunsGoOn =
     Turns service at replies cost mid → length replies ≡ most → Run service more mid others costs to →
     Run service (most + more) at (replies ++ others) (cost + costs) to
 
--- two runs handled the same messages: by the same replies, at the same cost, and with the same world and keys behind them
+-- two runs handled the same messages: by the same replies, at the same cost, and with the same behind them: the world, the
+-- keys, and the bytes that are left
 pub record AreAlike {service : Service} {most : ℕ} {at to then : At} {replies others : List Reply} {cost costs : ℕ} (one : Run service most at replies cost to)
     (other : Run service most at others costs then) : Type 0 where
   pub handled : one.first ≡ other.first
   pub spent : cost ≡ costs
-  pub world : to.world ≡ then.world
-  pub keys : to.keys ≡ then.keys
+  pub left : to ≡ then
 
 -- A stream is answered in one way, unless memory is wanted. How bytes that are no message are refused is left open.
 abbrev pub AnswersOnce : Type 0

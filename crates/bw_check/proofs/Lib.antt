@@ -2,6 +2,7 @@ pub mod Accepting
 pub mod Chunks
 pub mod Joining
 pub mod OneAnswer
+pub mod OneReport
 pub mod PagePlaces
 pub mod Pages
 pub mod Shared

@@ -24,31 +24,31 @@ use Rattle.bw_http.specs.declared.decide.Decision.TheVariants.{Body}
 use Rattle.bw_http.specs.declared.request.Request.{Request}
 use Rattle.bw_http.specs.Heads.{line_count, BeginsWith, IsTooLong}
 use Rattle.bw_http.specs.Decisions.{decide}
-use Rattle.bw_http.specs.Messages.{IsMessage}
+use Rattle.bw_http.specs.Messages.{IsMessage, IsDenied, IsShort}
 use Rattle.bw_http.specs.Cuts.{AtFront, Cut}
 use Rattle.bw_http.proofs.Streams.{message_unique, no_bad, no_long, no_end, not_denied}
 
 -- a whole message comes as its request, or as want of memory
 pub message_exact : (stream : List ℕ) (h : RequestHead) (body after rest : List ℕ) (e : ReadOutcome)
     → IsMessage stream h body after → Cut stream (Err e) rest → (e ≡ Memory) ⊎ (e ≡ ReadFault)
-message_exact stream h body after rest End m c = absurd (no_end h (body ++ after) (subst (λ (t : List ℕ). BeginsWith t h (body ++ after)) c m.begins))
-message_exact stream h body after rest BadHead m c = absurd (no_bad stream h (body ++ after) m.begins c)
+message_exact stream h body after rest End m c = absurd (no_end h (body ++ after) (subst (λ (t : List ℕ). BeginsWith t h (body ++ after)) c.0 m.begins))
+message_exact stream h body after rest BadHead m c = absurd (no_bad stream h (body ++ after) m.begins c.0)
 message_exact stream h body after rest Truncated m c =
     elim c.1 [
-      | inl none ↦ absurd (none h (body ++ after) m.begins)
+      | inl lacks ↦ absurd (lacks.none h (body ++ after) m.begins)
       | inr lacks ↦
           let same = request_unique stream lacks.head h lacks.rest (body ++ after) lacks.begins.reads m.begins.reads in
           let sizes : Body lacks.size ≡ Body (length body) = sym lacks.wants ∙ ap decide same.0 ∙ m.size in
           let size : lacks.size ≡ length body = cc in
           absurd (omega (arith, size, lacks.lacks, ap length same.1, length-append body after))
     ]
-message_exact stream h body after rest HeadTooLong m c = absurd (no_long stream h (body ++ after) m.begins c)
-message_exact stream h body after rest NoHost m c = absurd (not_denied stream h body after NoHost m c)
-message_exact stream h body after rest Coding m c = absurd (not_denied stream h body after Coding m c)
-message_exact stream h body after rest BadLength m c = absurd (not_denied stream h body after BadLength m c)
-message_exact stream h body after rest LengthRequired m c = absurd (not_denied stream h body after LengthRequired m c)
-message_exact stream h body after rest BodyTooLong m c = absurd (not_denied stream h body after BodyTooLong m c)
-message_exact stream h body after rest Media m c = absurd (not_denied stream h body after Media m c)
+message_exact stream h body after rest HeadTooLong m c = absurd (no_long stream h (body ++ after) m.begins c.0)
+message_exact stream h body after rest NoHost m c = absurd (not_denied stream h body after NoHost m c.0)
+message_exact stream h body after rest Coding m c = absurd (not_denied stream h body after Coding m c.0)
+message_exact stream h body after rest BadLength m c = absurd (not_denied stream h body after BadLength m c.0)
+message_exact stream h body after rest LengthRequired m c = absurd (not_denied stream h body after LengthRequired m c.0)
+message_exact stream h body after rest BodyTooLong m c = absurd (not_denied stream h body after BodyTooLong m c.0)
+message_exact stream h body after rest Media m c = absurd (not_denied stream h body after Media m c.0)
 message_exact stream h body after rest ReadFault m c = inr refl
 message_exact stream h body after rest Memory m c = inl refl
 
@@ -79,19 +79,48 @@ no_long_end f =
       | inr lines ↦ absurd (omega (arith, lines, ap line_count nil))
     ]
 
+-- what is too long holds no message, and is not empty
+long_no_denied : (stream : List ℕ) (e : ReadOutcome) → IsTooLong stream → IsDenied stream e → ⊥
+long_no_denied stream e t d = t.0 d.head d.rest d.begins
+
+long_not_short : (stream : List ℕ) → IsTooLong stream → IsShort stream → ⊥
+long_not_short stream t (inl lacks) =
+    elim t.1 [
+      | inl bytes ↦ absurd (omega (arith, bytes, lacks.short))
+      | inr lines ↦ absurd (omega (arith, lines, lacks.few))
+    ]
+long_not_short stream t (inr lacks) = t.0 lacks.head lacks.rest lacks.begins
+
+-- what passes a limit of heads comes as that, or as what is no head
+pub long_exact : (stream : List ℕ) (r : Result Request ReadOutcome) (rest : List ℕ) → IsTooLong stream → Cut stream r rest
+    → (r ≡ Err BadHead) ⊎ ((r ≡ Err HeadTooLong) ⊎ (r ≡ Err ReadFault))
+long_exact stream (Ok q) rest t c = absurd (t.0 c.0 (c.1 ++ rest) c.2.begins)
+long_exact stream (Err End) rest t c = absurd (no_long_end ([], [], refl, subst (λ (s : List ℕ). IsTooLong s) c.0 t))
+long_exact stream (Err BadHead) rest t c = inl refl
+long_exact stream (Err Truncated) rest t c = absurd (long_not_short stream t c.1)
+long_exact stream (Err HeadTooLong) rest t c = inr (inl refl)
+long_exact stream (Err NoHost) rest t c = absurd (long_no_denied stream NoHost t c.0)
+long_exact stream (Err Coding) rest t c = absurd (long_no_denied stream Coding t c.0)
+long_exact stream (Err BadLength) rest t c = absurd (long_no_denied stream BadLength t c.0)
+long_exact stream (Err LengthRequired) rest t c = absurd (long_no_denied stream LengthRequired t c.0)
+long_exact stream (Err BodyTooLong) rest t c = absurd (long_no_denied stream BodyTooLong t c.0)
+long_exact stream (Err Media) rest t c = absurd (long_no_denied stream Media t c.0)
+long_exact stream (Err ReadFault) rest t c = inr (inr refl)
+long_exact stream (Err Memory) rest t c = absurd (t.0 c.0 (c.1 ++ rest) c.2.begins)
+
 -- an empty stream comes as its end
 pub end_exact : (r : Result Request ReadOutcome) (rest : List ℕ) → Cut [] r rest → (r ≡ Err End) ⊎ (r ≡ Err ReadFault)
 end_exact (Ok q) rest c = absurd (no_end c.0 (c.1 ++ rest) c.2.begins)
 end_exact (Err End) rest c = inl refl
-end_exact (Err BadHead) rest c = absurd (no_bad_end c)
+end_exact (Err BadHead) rest c = absurd (no_bad_end c.0)
 end_exact (Err Truncated) rest c = absurd (c.0 refl)
-end_exact (Err HeadTooLong) rest c = absurd (no_long_end c)
-end_exact (Err NoHost) rest c = absurd (no_end c.head c.rest c.begins)
-end_exact (Err Coding) rest c = absurd (no_end c.head c.rest c.begins)
-end_exact (Err BadLength) rest c = absurd (no_end c.head c.rest c.begins)
-end_exact (Err LengthRequired) rest c = absurd (no_end c.head c.rest c.begins)
-end_exact (Err BodyTooLong) rest c = absurd (no_end c.head c.rest c.begins)
-end_exact (Err Media) rest c = absurd (no_end c.head c.rest c.begins)
+end_exact (Err HeadTooLong) rest c = absurd (no_long_end c.0)
+end_exact (Err NoHost) rest c = absurd (no_end c.0.head c.0.rest c.0.begins)
+end_exact (Err Coding) rest c = absurd (no_end c.0.head c.0.rest c.0.begins)
+end_exact (Err BadLength) rest c = absurd (no_end c.0.head c.0.rest c.0.begins)
+end_exact (Err LengthRequired) rest c = absurd (no_end c.0.head c.0.rest c.0.begins)
+end_exact (Err BodyTooLong) rest c = absurd (no_end c.0.head c.0.rest c.0.begins)
+end_exact (Err Media) rest c = absurd (no_end c.0.head c.0.rest c.0.begins)
 end_exact (Err ReadFault) rest c = inr refl
 end_exact (Err Memory) rest c = absurd (no_end c.0 (c.1 ++ rest) c.2.begins)
 

@@ -1,13 +1,39 @@
 -- Bytes that come behind others: what was taken, and where it is no use to look again.
-use Rattle.std.proofs.Common.{◌≡◌, ℕ, ◌-◌, ◌⊎◌, Bool, true, false, not, ◌||◌, ◌&&◌, List, ◌++◌, length, take, drop, refl, sym, ap, ◌∙◌, subst, arith, inl, inr}
+use Rattle.std.proofs.Common.{
+  ◌≡◌,
+  ℕ,
+  ◌-◌,
+  ◌<◌,
+  ◌⊎◌,
+  Bool,
+  true,
+  false,
+  not,
+  ◌||◌,
+  ◌&&◌,
+  List,
+  ◌++◌,
+  length,
+  take,
+  drop,
+  refl,
+  sym,
+  ap,
+  ◌∙◌,
+  subst,
+  arith,
+  inl,
+  inr,
+}
 use Rattle.std.proofs.lemmas.List.{drop_at, take_all, length-append}
 use Rattle.std.proofs.lemmas.List.Folds.{list_all-append}
 use Rattle.std.proofs.lemmas.Bool.{false≢true}
-use Rattle.std.specs.List.{list_all, list_any}
+use Rattle.std.specs.List.{count_by, list_all, list_any}
 use Rattle.std.specs.Bool.{IsFalse}
 use Rattle.httparse.specs.Pieces.{is_newline}
-use Rattle.bw_http.specs.Heads.{HasNoHead, is_line_feed}
-use Rattle.bw_http.proofs.LookingAgain.{no_line, blank_none}
+use Rattle.bw_http.specs.Heads.{HasNoHead, is_line_feed, line_count}
+use Rattle.bw_http.proofs.Lines.{quiet_lines}
+use Rattle.bw_http.proofs.LookingAgain.{no_line, blank_none, skip_all}
 
 -- the bytes behind those that were held before
 abbrev pub behind : List ℕ → List ℕ → List ℕ
@@ -46,4 +72,18 @@ stays_none begun blank old taken held bytes e f before fresh none worth =
       | inr lacks ↦
           let quiet : list_any is_line_feed taken ≡ false = ap (list_any is_line_feed) (sym (behind_is old taken held bytes e f)) ∙ lacks in
           subst (λ (t : List ℕ). HasNoHead t) (sym f) (no_line old taken none quiet)
+    ]
+
+-- and no more lines
+pub stays_few : (begun blank : Bool) (old taken held bytes : List ℕ) → held ≡ old → bytes ≡ old ++ taken
+    → (begun ≡ false → list_all is_newline old ≡ true) → blank ≡ list_all is_newline (behind held bytes) → line_count old < 67
+    → IsFalse (begun || not blank) ⊎ (list_any is_line_feed (behind held bytes) ≡ false) → line_count bytes < 67
+stays_few begun blank old taken held bytes e f before fresh few worth =
+    elim worth [
+      | inl idle ↦
+          let all = skip_all bytes (stays_blank begun blank old taken held bytes e f before fresh idle) in
+          omega (arith, ap (count_by is_line_feed) all)
+      | inr lacks ↦
+          let quiet : list_any is_line_feed taken ≡ false = ap (list_any is_line_feed) (sym (behind_is old taken held bytes e f)) ∙ lacks in
+          omega (arith, few, ap line_count f, quiet_lines old taken quiet)
     ]

@@ -2,6 +2,7 @@ pub mod Buffers
 pub mod Due
 pub mod Filling
 pub mod Heads
+pub mod Lines
 pub mod LookingAgain
 pub mod Lossy
 pub mod Messages

@@ -23,7 +23,7 @@ and-right true b e = e
 and-right false b e = absurd (false≢true e)
 
 -- bytes that are all newlines have nothing behind them
-skip_all : (xs : List ℕ) → list_all is_newline xs ≡ true → skip_newlines xs ≡ []
+pub skip_all : (xs : List ℕ) → list_all is_newline xs ≡ true → skip_newlines xs ≡ []
 skip_all [] e = refl
 skip_all (b ∷ xs) e = skip_one b xs (and-left (is_newline b) _ e) ∙ skip_all xs (and-right (is_newline b) _ e)
 

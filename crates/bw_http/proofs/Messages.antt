@@ -169,10 +169,10 @@ message_taken have ended p m rest e = (m.head, m.body, subst (λ (t : List ℕ).
 -- the source ended before a message was whole
 pub ended_outcome : (have : List ℕ) (ended : Type 0) (e : ReadOutcome) → (have ≡ [] → e ≡ End) → (have ≢ [] → e ≡ Truncated)
     → IsShort have → ended → IsOutcome have ended (Err e) have
-ended_outcome [] ended e end truncated short is = subst (λ (t : ReadOutcome). IsRefusal [] ended t []) (sym (end refl)) (is, refl)
+ended_outcome [] ended e end truncated short is = subst (λ (t : ReadOutcome). IsRefusal [] ended t []) (sym (end refl)) (is, refl, refl)
 ended_outcome (b ∷ have) ended e end truncated short is =
     let some : b ∷ have ≢ [] = λ nil. absurd (omega (arith, ap length nil)) in
-    subst (λ (t : ReadOutcome). IsRefusal (b ∷ have) ended t (b ∷ have)) (sym (truncated some)) (is, some, short)
+    subst (λ (t : ReadOutcome). IsRefusal (b ∷ have) ended t (b ∷ have)) (sym (truncated some)) (is, some, short, refl)
 
 -- ---- bytes that were taken
 

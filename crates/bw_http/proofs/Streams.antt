@@ -1,47 +1,9 @@
 -- From the bytes that were taken to the whole stream, and what is free in a cut.
-use Rattle.std.proofs.Common.{
-  ◌≡◌,
-  ℕ,
-  ◌+◌,
-  ◌⊎◌,
-  ◌<◌,
-  ◌≤◌,
-  Bool,
-  true,
-  false,
-  cond,
-  eqb,
-  List,
-  [],
-  ◌++◌,
-  length,
-  take,
-  drop,
-  refl,
-  sym,
-  ap,
-  ◌∙◌,
-  subst,
-  arith,
-  append_assoc,
-  append-nil,
-  inl,
-  inr,
-  Option,
-  Some,
-  None,
-  Result,
-  Ok,
-  Err,
-}
-use Rattle.std.proofs.lemmas.List.{take-append-drop, length-append, drop_at, take_at, take-append-le, drop-append-le, drop_all, nil_from_length}
-use Rattle.std.proofs.lemmas.List.Sums.{sum_by-append, prefix_len-le-length}
-use Rattle.std.proofs.lemmas.List.Folds.{prefix_len-append}
-use Rattle.std.proofs.lemmas.Bool.{eqb-true, cases_lt}
-use Rattle.std.specs.List.{count_by, prefix_len}
+use Rattle.std.proofs.Common.{◌≡◌, ℕ, ◌⊎◌, ◌<◌, List, [], ◌++◌, length, take, drop, refl, sym, ap, ◌∙◌, subst, arith, append_assoc, append-nil, inl, inr, Option, Some, None, Result, Ok, Err}
+use Rattle.std.proofs.lemmas.List.{take-append-drop, length-append, drop_at, take_at, take-append-le, nil_from_length}
+use Rattle.std.proofs.lemmas.Bool.{cases_lt}
 use Rattle.std.specs.Io.KnownBytes.{Consumes}
-use Rattle.httparse.specs.Grammar.{RequestHead, print_request, ReadsRequest, NeverHasRequest}
-use Rattle.httparse.specs.Pieces.{is_newline}
+use Rattle.httparse.specs.Grammar.{RequestHead, print_request, ReadsRequest, HasNoRequest, NeverHasRequest}
 use Rattle.httparse.proofs.GrammarLemmas.{request_unique, ReadsRequest-append}
 use Rattle.bw_http.specs.declared.request.ReadOutcome.{ReadOutcome}
 use Rattle.bw_http.specs.declared.request.ReadOutcome.TheVariants.{
@@ -60,11 +22,12 @@ use Rattle.bw_http.specs.declared.request.ReadOutcome.TheVariants.{
 }
 use Rattle.bw_http.specs.declared.decide.Decision.TheVariants.{Refused, Body}
 use Rattle.bw_http.specs.declared.request.Request.{Request}
-use Rattle.bw_http.specs.Heads.{is_line_feed, skip_newlines, line_count, BeginsWith, HasNoHead, IsTooLong}
+use Rattle.bw_http.specs.Heads.{line_count, BeginsWith, HasNoHead, IsOverLimits, IsTooLong}
 use Rattle.bw_http.specs.Decisions.{decide}
 use Rattle.bw_http.proofs.Heads.{line_count-head}
+use Rattle.bw_http.proofs.Lines.{lines_grow}
 use Rattle.bw_http.proofs.LookingAgain.{head_in_front}
-use Rattle.bw_http.specs.Messages.{IsMessage, IsDenied, IsShort, IsRefusal, IsOutcome, ComesOf}
+use Rattle.bw_http.specs.Messages.{IsMessage, IsDenied, IsSettled, IsShort, IsRefusal, IsOutcome, ComesOf}
 use Rattle.bw_http.specs.Cuts.{AtFront, CutsAs, Cut, Tells}
 
 -- ---- more bytes behind a head
@@ -84,20 +47,23 @@ denied-append bytes more e d = record { head = d.head; rest = d.rest ++ more; be
 
 -- ---- the whole stream
 
+behind : {kept have : List ℕ} (left : List ℕ) → kept ≡ have → kept ++ left ≡ have ++ left
+behind left e = ap (λ (t : List ℕ). t ++ left) e
+
 refusal_cut : (have left : List ℕ) (e : ReadOutcome) (rest : List ℕ) → IsRefusal have (left ≡ []) e rest → CutsAs (have ++ left) e (rest ++ left)
-refusal_cut have left End rest r = ap (λ (t : List ℕ). have ++ t) r.0 ∙ append-nil have ∙ r.1
-refusal_cut have left BadHead rest r = (have, left, refl, r)
+refusal_cut have left End rest r = (ap (λ (t : List ℕ). have ++ t) r.0 ∙ append-nil have ∙ r.1, behind left r.2)
+refusal_cut have left BadHead rest r = ((have, left, refl, r.0), behind left r.1)
 refusal_cut have left Truncated rest r =
     let same : have ++ left ≡ have = ap (λ (t : List ℕ). have ++ t) r.0 ∙ append-nil have in
-    (λ e. r.1 (sym same ∙ e), subst (λ (t : List ℕ). IsShort t) (sym same) r.2)
-refusal_cut have left HeadTooLong rest r = (have, left, refl, r)
-refusal_cut have left NoHost rest r = denied-append have left NoHost r
-refusal_cut have left Coding rest r = denied-append have left Coding r
-refusal_cut have left BadLength rest r = denied-append have left BadLength r
-refusal_cut have left LengthRequired rest r = denied-append have left LengthRequired r
-refusal_cut have left BodyTooLong rest r = denied-append have left BodyTooLong r
-refusal_cut have left Media rest r = denied-append have left Media r
-refusal_cut have left ReadFault rest r = ((have, left, refl, r.0), ap (λ (t : List ℕ). t ++ left) r.1)
+    (λ e. r.1 (sym same ∙ e), subst (λ (t : List ℕ). IsShort t) (sym same) r.2, behind left r.3)
+refusal_cut have left HeadTooLong rest r = ((have, left, refl, r.0), behind left r.1)
+refusal_cut have left NoHost rest r = (denied-append have left NoHost r.0, behind left r.1)
+refusal_cut have left Coding rest r = (denied-append have left Coding r.0, behind left r.1)
+refusal_cut have left BadLength rest r = (denied-append have left BadLength r.0, behind left r.1)
+refusal_cut have left LengthRequired rest r = (denied-append have left LengthRequired r.0, behind left r.1)
+refusal_cut have left BodyTooLong rest r = (denied-append have left BodyTooLong r.0, behind left r.1)
+refusal_cut have left Media rest r = (denied-append have left Media r.0, behind left r.1)
+refusal_cut have left ReadFault rest r = ((have, left, refl, r.0), behind left r.1)
 refusal_cut have left Memory rest r = (r.0, r.1, message-append have left r.0 r.1 rest r.2)
 
 outcome_cut : (have left : List ℕ) (r : Result Request ReadOutcome) (rest : List ℕ) → IsOutcome have (left ≡ []) r rest
@@ -117,30 +83,6 @@ cut_tells before (Some left) held r rest c bytes e =
 
 -- ---- what is free
 
--- the lines of the front are lines of the whole
-lines_grow : (a b : List ℕ) → line_count a ≤ line_count (a ++ b)
-lines_grow a b = go (eqb (prefix_len is_newline a) (length a)) refl
-  where
-    k : ℕ
-    k = prefix_len is_newline a
-
-    small : prefix_len is_newline a ≤ length a
-    small = prefix_len-le-length is_newline a
-
-    go : (t : Bool) → eqb (prefix_len is_newline a) (length a) ≡ t → line_count a ≤ line_count (a ++ b)
-    go true e =
-        let all : prefix_len is_newline a ≡ length a = eqb-true _ _ e in
-        let none : line_count a ≡ 0 = ap (count_by is_line_feed) (drop_all (prefix_len is_newline a) a (omega arith)) in
-        omega (arith, none)
-    go false e =
-        let same : prefix_len is_newline (a ++ b) ≡ prefix_len is_newline a
-        = prefix_len-append is_newline a b ∙ ap (λ (t : Bool). cond t (length a + prefix_len is_newline b) (prefix_len is_newline a)) e in
-        let split : skip_newlines (a ++ b) ≡ skip_newlines a ++ b
-        = ap (λ (n : ℕ). drop n (a ++ b)) same ∙ drop-append-le (prefix_len is_newline a) a b small in
-        let counts : line_count (a ++ b) ≡ line_count a + count_by is_line_feed b
-        = ap (count_by is_line_feed) split ∙ sum_by-append (λ (x : ℕ). cond (is_line_feed x) 1 0) (skip_newlines a) b in
-        omega (arith, counts)
-
 -- where it ends behind the front, the front is its beginning
 front_in_head : (front more : List ℕ) (h : RequestHead) (rest : List ℕ) → BeginsWith (front ++ more) h rest
     → length front < length (print_request h) → print_request h ≡ front ++ drop (length front) (print_request h)
@@ -149,6 +91,14 @@ front_in_head front more h rest b longer =
     let start : take n (print_request h) ≡ front
     = sym (take-append-le n (print_request h) rest (omega arith)) ∙ ap (take n) (sym b.reads.1) ∙ take_at front more n refl in
     sym (take-append-drop n (print_request h)) ∙ ap (λ (t : List ℕ). t ++ drop n (print_request h)) start
+
+-- what passes a limit passes it whatever follows
+limits_grow : (front more : List ℕ) → IsOverLimits front → IsOverLimits (front ++ more)
+limits_grow front more over =
+    elim over [
+      | inl bytes ↦ inl (omega (arith, bytes, length-append front more))
+      | inr lines ↦ inr (omega (arith, lines, lines_grow front more))
+    ]
 
 -- a front without a head and over the limits has none, whatever follows
 pub too_long_stays : (front more : List ℕ) → IsTooLong front → HasNoHead (front ++ more)
@@ -163,6 +113,22 @@ too_long_stays front more t h rest b =
             absurd (omega (arith, b.limits.lines, grow, same))
       ]
       | inr fits ↦ absurd (t.0 h (drop (length (print_request h)) front) (head_in_front front more h rest b fits))
+    ]
+
+-- what is settled is settled whatever follows
+pub settled_stays : (front more : List ℕ) → IsSettled front → IsSettled (front ++ more)
+settled_stays front more settled =
+    elim settled [
+      | inl whole ↦ inl (whole.0, whole.1, whole.2 ++ more, message-append front more whole.0 whole.1 whole.2 whole.3)
+      | inr other ↦
+          elim other [
+            | inl denied ↦ inr (inl (denied.0, denied-append front more denied.0 denied.1))
+            | inr last ↦
+                elim last [
+                  | inl long ↦ inr (inr (inl (too_long_stays front more long, limits_grow front more long.1)))
+                  | inr bad ↦ inr (inr (inr (λ after. subst HasNoRequest (sym (append_assoc front more after)) (bad (more ++ after)))))
+                ]
+          ]
     ]
 
 -- a stream has at most one whole message
@@ -208,22 +174,22 @@ not_denied stream h body rest e m d =
 pub denied_exact : (stream : List ℕ) (e : ReadOutcome) (r : Result Request ReadOutcome) (rest : List ℕ)
     → IsDenied stream e → Cut stream r rest → (r ≡ Err e) ⊎ (r ≡ Err ReadFault)
 denied_exact stream e (Ok q) rest d c = absurd (not_denied stream c.0 c.1 rest e c.2 d)
-denied_exact stream e (Err End) rest d c = absurd (no_end d.head d.rest (subst (λ (t : List ℕ). BeginsWith t d.head d.rest) c d.begins))
-denied_exact stream e (Err BadHead) rest d c = absurd (no_bad stream d.head d.rest d.begins c)
+denied_exact stream e (Err End) rest d c = absurd (no_end d.head d.rest (subst (λ (t : List ℕ). BeginsWith t d.head d.rest) c.0 d.begins))
+denied_exact stream e (Err BadHead) rest d c = absurd (no_bad stream d.head d.rest d.begins c.0)
 denied_exact stream e (Err Truncated) rest d c =
     elim c.1 [
-      | inl none ↦ absurd (none d.head d.rest d.begins)
+      | inl lacks ↦ absurd (lacks.none d.head d.rest d.begins)
       | inr lacks ↦
           let same = same_decision stream d.head lacks.head d.rest lacks.rest d.begins lacks.begins in
           let bad : Refused e ≡ Body lacks.size = sym d.test ∙ same ∙ lacks.wants in
           cc
     ]
-denied_exact stream e (Err HeadTooLong) rest d c = absurd (no_long stream d.head d.rest d.begins c)
-denied_exact stream e (Err NoHost) rest d c = inl (same_test stream e NoHost d c)
-denied_exact stream e (Err Coding) rest d c = inl (same_test stream e Coding d c)
-denied_exact stream e (Err BadLength) rest d c = inl (same_test stream e BadLength d c)
-denied_exact stream e (Err LengthRequired) rest d c = inl (same_test stream e LengthRequired d c)
-denied_exact stream e (Err BodyTooLong) rest d c = inl (same_test stream e BodyTooLong d c)
-denied_exact stream e (Err Media) rest d c = inl (same_test stream e Media d c)
+denied_exact stream e (Err HeadTooLong) rest d c = absurd (no_long stream d.head d.rest d.begins c.0)
+denied_exact stream e (Err NoHost) rest d c = inl (same_test stream e NoHost d c.0)
+denied_exact stream e (Err Coding) rest d c = inl (same_test stream e Coding d c.0)
+denied_exact stream e (Err BadLength) rest d c = inl (same_test stream e BadLength d c.0)
+denied_exact stream e (Err LengthRequired) rest d c = inl (same_test stream e LengthRequired d c.0)
+denied_exact stream e (Err BodyTooLong) rest d c = inl (same_test stream e BodyTooLong d c.0)
+denied_exact stream e (Err Media) rest d c = inl (same_test stream e Media d c.0)
 denied_exact stream e (Err ReadFault) rest d c = inr refl
 denied_exact stream e (Err Memory) rest d c = absurd (not_denied stream c.0 c.1 rest e c.2 d)

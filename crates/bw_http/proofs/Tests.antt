@@ -86,20 +86,20 @@ unfolding is_sound
 never e h fails is = false≢true (sym fails ∙ sym (ap is_sound is) ∙ decide_sound h)
 
 -- what a test refuses is refused as that
-pub denied_refusal : (have : List ℕ) (ended : Type 0) (e : ReadOutcome) (rest : List ℕ) → IsDenied have e → IsRefusal have ended e rest
+pub denied_refusal : (have : List ℕ) (ended : Type 0) (e : ReadOutcome) → IsDenied have e → IsRefusal have ended e have
 unfolding is_test
-denied_refusal have ended End rest d = absurd (never End d.head refl d.test)
-denied_refusal have ended BadHead rest d = absurd (never BadHead d.head refl d.test)
-denied_refusal have ended Truncated rest d = absurd (never Truncated d.head refl d.test)
-denied_refusal have ended HeadTooLong rest d = absurd (never HeadTooLong d.head refl d.test)
-denied_refusal have ended NoHost rest d = d
-denied_refusal have ended Coding rest d = d
-denied_refusal have ended BadLength rest d = d
-denied_refusal have ended LengthRequired rest d = d
-denied_refusal have ended BodyTooLong rest d = d
-denied_refusal have ended Media rest d = d
-denied_refusal have ended ReadFault rest d = absurd (never ReadFault d.head refl d.test)
-denied_refusal have ended Memory rest d = absurd (never Memory d.head refl d.test)
+denied_refusal have ended End d = absurd (never End d.head refl d.test)
+denied_refusal have ended BadHead d = absurd (never BadHead d.head refl d.test)
+denied_refusal have ended Truncated d = absurd (never Truncated d.head refl d.test)
+denied_refusal have ended HeadTooLong d = absurd (never HeadTooLong d.head refl d.test)
+denied_refusal have ended NoHost d = (d, refl)
+denied_refusal have ended Coding d = (d, refl)
+denied_refusal have ended BadLength d = (d, refl)
+denied_refusal have ended LengthRequired d = (d, refl)
+denied_refusal have ended BodyTooLong d = (d, refl)
+denied_refusal have ended Media d = (d, refl)
+denied_refusal have ended ReadFault d = absurd (never ReadFault d.head refl d.test)
+denied_refusal have ended Memory d = absurd (never Memory d.head refl d.test)
 
 -- no test refuses a head as a read fault
 pub denied_no_fault : (have : List ℕ) (e : ReadOutcome) → IsDenied have e → e ≡ ReadFault → ⊥

@@ -1,5 +1,5 @@
 -- Heads within the limits. What a head is, is the grammar of `httparse` (RFC 9112, sections 2 to 5).
-use Rattle.std.specs.Prelude.{ℕ, ◌≤◌, ◌⊎◌, Bool, List, length, drop, ◌==◌}
+use Rattle.std.specs.Prelude.{ℕ, ◌<◌, ◌≤◌, ◌⊎◌, Bool, List, length, drop, ◌==◌}
 use Rattle.std.specs.List.{count_by, prefix_len}
 use Rattle.httparse.specs.Ascii.{line_feed}
 use Rattle.httparse.specs.Pieces.{is_newline}
@@ -30,6 +30,12 @@ pub record BeginsWith (bytes : List ℕ) (h : RequestHead) (rest : List ℕ) : T
 -- no prefix of the bytes is a head within the limits
 abbrev pub HasNoHead : List ℕ → Type 0
 HasNoHead bytes = (h : RequestHead) (rest : List ℕ) → ¬ (BeginsWith bytes h rest)
+
+-- no head yet, and no limit of heads is passed
+pub record LacksHead (bytes : List ℕ) : Type 0 where
+  pub none : HasNoHead bytes
+  pub short : length bytes < 16384
+  pub few : line_count bytes < 67
 
 -- so many bytes, or so many lines, that no head can follow
 abbrev pub IsOverLimits : List ℕ → Type 0

@@ -3,9 +3,9 @@ use Rattle.std.specs.Prelude.{◌≡◌, ◌⊎◌, List, ℕ, [], ◌++◌, Res
 use Rattle.httparse.specs.Grammar.{RequestHead}
 use Rattle.bw_http.specs.declared.request.Request.{Request}
 use Rattle.bw_http.specs.declared.request.ReadOutcome.{ReadOutcome}
-use Rattle.bw_http.specs.declared.request.ReadOutcome.TheVariants.{End, ReadFault, Memory}
+use Rattle.bw_http.specs.declared.request.ReadOutcome.TheVariants.{End, BadHead, HeadTooLong, ReadFault, Memory}
 use Rattle.bw_http.specs.Heads.{HasNoHead, IsTooLong}
-use Rattle.bw_http.specs.Messages.{IsMessage, IsDenied, IsRequest}
+use Rattle.bw_http.specs.Messages.{IsMessage, IsDenied, IsSettled, IsRequest}
 use Rattle.bw_http.specs.Cuts.{Cut}
 use Rattle.bw_http.specs.Forms.{IsTextForm}
 
@@ -31,6 +31,12 @@ ReadsExactly =
     (stream : List ℕ) (h : RequestHead) (body after rest : List ℕ) (e : ReadOutcome)
     → IsMessage stream h body after → Cut stream (Err e) rest → (e ≡ Memory) ⊎ (e ≡ ReadFault)
 
+-- what passes a limit of heads, and begins with none, comes as too long or as what is no head
+abbrev pub RefusesLong : Type 0
+RefusesLong =
+    (stream : List ℕ) (r : Result Request ReadOutcome) (rest : List ℕ) → IsTooLong stream → Cut stream r rest
+    → (r ≡ Err BadHead) ⊎ CameAs r HeadTooLong
+
 -- an empty stream comes as its end
 abbrev pub EndsExactly : Type 0
 EndsExactly = (r : Result Request ReadOutcome) (rest : List ℕ) → Cut [] r rest → CameAs r End
@@ -42,6 +48,10 @@ StaysRefused = (front more : List ℕ) (e : ReadOutcome) → IsDenied front e �
 -- what is too long has no head whatever follows
 abbrev pub StaysTooLong : Type 0
 StaysTooLong = (front more : List ℕ) → IsTooLong front → HasNoHead (front ++ more)
+
+-- what is settled is settled whatever follows
+abbrev pub StaysSettled : Type 0
+StaysSettled = (front more : List ℕ) → IsSettled front → IsSettled (front ++ more)
 
 -- want of memory takes the message that a request would take
 abbrev pub MemoryGoesOn : Type 0

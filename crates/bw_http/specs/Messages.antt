@@ -26,7 +26,7 @@ use Rattle.bw_http.specs.declared.reading.Lack.{Lack}
 use Rattle.bw_http.specs.declared.reading.Lack.TheVariants.{Line, Bytes}
 use Rattle.bw_http.specs.declared.reading.Verdict.{Verdict}
 use Rattle.bw_http.specs.declared.reading.Verdict.TheVariants.{Bad, TooLong, Denied, Whole, Short}
-use Rattle.bw_http.specs.Heads.{BeginsWith, HasNoHead, IsTooLong}
+use Rattle.bw_http.specs.Heads.{BeginsWith, LacksHead, IsTooLong}
 use Rattle.bw_http.specs.Decisions.{decide, method_of, is_post}
 use Rattle.bw_http.specs.Forms.{form_of}
 use Rattle.bw_http.specs.Paths.{LeadsTo}
@@ -53,9 +53,9 @@ pub record LacksBody (bytes : List ℕ) : Type 0 where
   pub wants : decide head ≡ Body size
   pub lacks : length rest < size
 
--- no message is whole
+-- no message is whole, and no limit is passed
 abbrev pub IsShort : List ℕ → Type 0
-IsShort bytes = HasNoHead bytes ⊎ LacksBody bytes
+IsShort bytes = LacksHead bytes ⊎ LacksBody bytes
 
 -- the request that a head and a body send; only a POST sends a form
 pub record IsRequest (h : RequestHead) (body : List ℕ) (r : Request) : Type 0 where
@@ -77,7 +77,7 @@ pub record IsMessageAt (bytes : List ℕ) (p : Parts) : Type 0 where
 
 -- no message is whole before another line has ended, or before there are so many bytes
 abbrev pub Lacks : List ℕ → Lack → Type 0
-Lacks bytes Line = HasNoHead bytes × (length bytes < 16384)
+Lacks bytes Line = LacksHead bytes
 Lacks bytes (Bytes need) = (length bytes < need) × (need ≤ 81920) × ((more : List ℕ) → length (bytes ++ more) < need → IsShort (bytes ++ more))
 
 -- what the verdict says of the bytes
@@ -88,18 +88,24 @@ IsVerdict bytes (Denied e) = IsDenied bytes e
 IsVerdict bytes (Whole p) = IsMessageAt bytes p
 IsVerdict bytes (Short lack) = Lacks bytes lack
 
--- why no request came of the bytes that were taken, and what is kept of them
+-- the bytes begin with a whole message, or with what is refused whatever follows
+abbrev pub IsSettled : List ℕ → Type 0
+IsSettled bytes =
+    ((h : RequestHead) × (body : List ℕ) × (rest : List ℕ) × IsMessage bytes h body rest)
+    ⊎ ((e : ReadOutcome) × IsDenied bytes e) ⊎ IsTooLong bytes ⊎ NeverHasRequest bytes
+
+-- Why no request came of the bytes that were taken, and what is kept of them: all, but for want of memory.
 abbrev pub IsRefusal : List ℕ → Type 0 → ReadOutcome → List ℕ → Type 0
-IsRefusal have ended End rest = ended × (have ≡ [])
-IsRefusal have ended BadHead rest = NeverHasRequest have
-IsRefusal have ended Truncated rest = ended × (have ≢ []) × IsShort have
-IsRefusal have ended HeadTooLong rest = IsTooLong have
-IsRefusal have ended NoHost rest = IsDenied have NoHost
-IsRefusal have ended Coding rest = IsDenied have Coding
-IsRefusal have ended BadLength rest = IsDenied have BadLength
-IsRefusal have ended LengthRequired rest = IsDenied have LengthRequired
-IsRefusal have ended BodyTooLong rest = IsDenied have BodyTooLong
-IsRefusal have ended Media rest = IsDenied have Media
+IsRefusal have ended End rest = ended × (have ≡ []) × (rest ≡ have)
+IsRefusal have ended BadHead rest = NeverHasRequest have × (rest ≡ have)
+IsRefusal have ended Truncated rest = ended × (have ≢ []) × IsShort have × (rest ≡ have)
+IsRefusal have ended HeadTooLong rest = IsTooLong have × (rest ≡ have)
+IsRefusal have ended NoHost rest = IsDenied have NoHost × (rest ≡ have)
+IsRefusal have ended Coding rest = IsDenied have Coding × (rest ≡ have)
+IsRefusal have ended BadLength rest = IsDenied have BadLength × (rest ≡ have)
+IsRefusal have ended LengthRequired rest = IsDenied have LengthRequired × (rest ≡ have)
+IsRefusal have ended BodyTooLong rest = IsDenied have BodyTooLong × (rest ≡ have)
+IsRefusal have ended Media rest = IsDenied have Media × (rest ≡ have)
 IsRefusal have ended ReadFault rest = IsShort have × (rest ≡ have)
 IsRefusal have ended Memory rest = (h : RequestHead) × (body : List ℕ) × IsMessage have h body rest
 

@@ -1,10 +1,10 @@
 //! The head at the front of the bytes.
-ghost use Rattle.std.specs.Prelude.{◌≡◌, ◌<◌, length, take, IsTrue, IsFalse, IfOk, IfSome, IfNone, OnErr};
+ghost use Rattle.std.specs.Prelude.{◌≡◌, ◌<◌, ◌+◌, length, take, IsTrue, IsFalse, IfOk, IfSome, IfNone, OnErr};
 ghost use Rattle.std.specs.List.{count_by};
 ghost use Rattle.httparse.specs.Grammar.{NeverHasRequest};
 ghost use Rattle.httparse.specs.Pieces.{is_newline};
 ghost use Rattle.httparse.specs.Spans.{IsRequestOf, IsRequestWithin};
-ghost use Rattle.bw_http.specs.Heads.{line_count, is_line_feed, skip_newlines, HasNoHead, IsOverLimits, IsTooLong};
+ghost use Rattle.bw_http.specs.Heads.{line_count, is_line_feed, skip_newlines, HasNoHead, LacksHead, IsOverLimits, IsTooLong};
 ghost use Rattle.bw_http.specs.Looks.{IfWhole, OnBad, OnTooLong, OnMore, IsHeadAt};
 
 use httparse::spans::{HeaderSpan, RequestSpans, parse_request};
@@ -92,7 +92,7 @@ fn parse(bytes: &[u8], headers: &mut [HeaderSpan]) -> Result<Option<RequestSpans
 /// Whether the bytes pass a limit of heads.
 fn is_over_limits(bytes: &[u8]) -> bool
     ensures over { IsTrue result → IsOverLimits bytes.now }
-    ensures within { IsFalse result → length bytes.now < HEAD }
+    ensures within { IsFalse result → (length bytes.now < HEAD) × (line_count bytes.now < LINES + 3) }
 {
     bytes.len() >= HEAD || count_lines(bytes) >= LINES + 3
 }
@@ -103,7 +103,7 @@ pub fn look(bytes: &[u8], headers: &mut [HeaderSpan]) -> HeadLook
     ensures whole { IfWhole result (IsHeadAt bytes.now headers.new) }
     ensures bad { OnBad result (NeverHasRequest bytes.now) }
     ensures long { OnTooLong result (IsTooLong bytes.now) }
-    ensures more { OnMore result (HasNoHead bytes.now × (length bytes.now < HEAD)) }
+    ensures more { OnMore result (LacksHead bytes.now) }
 {
     match parse(front(bytes), headers) {
         Ok(Some(spans)) => HeadLook::Whole(spans),

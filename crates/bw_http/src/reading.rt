@@ -5,7 +5,7 @@ ghost use Rattle.std.specs.Io.KnownBytes.{IsAtEnd};
 ghost use Rattle.httparse.specs.Pieces as spec;
 ghost use Rattle.bw_out.specs.Sends.{Takes};
 ghost use Rattle.bw_http.specs.Taken.{IsFilled};
-ghost use Rattle.bw_http.specs.Heads.{HasNoHead, is_line_feed};
+ghost use Rattle.bw_http.specs.Heads.{LacksHead, is_line_feed};
 ghost use Rattle.bw_http.specs.Looks.{IsHeadAt};
 ghost use Rattle.bw_http.specs.Messages.{IsVerdict, Lacks, IsShort, IsMessageAt, IsRequest, ComesOf};
 ghost use Rattle.bw_http.specs.Cuts.{Tells};
@@ -33,7 +33,7 @@ pub struct Parts {
 }
 
 /// What has to come before it is worth to look at the bytes again.
-#[derive(Clone, Copy, Debug)]
+#[derive(Clone, Copy, Debug, PartialEq, Eq)]
 pub enum Lack {
     /// The end of a line: there is no head yet, and heads end in a line feed.
     Line,
@@ -85,7 +85,7 @@ fn judge(bytes: &[u8], spans: RequestSpans, headers: &[HeaderSpan]) -> Verdict
 }
 
 /// What the bytes are so far.
-fn examine(bytes: &[u8]) -> Verdict
+pub fn examine(bytes: &[u8]) -> Verdict
     ensures { IsVerdict bytes.now result }
 {
     let mut headers = [EMPTY_HEADER_SPAN; 64];
@@ -134,8 +134,8 @@ fn fill_line<S: Source>(intake: &mut Intake, source: &mut S) -> Result<bool, Fai
     requires { Lacks intake.old Lack.Line }
     ensures filled { IsFilled (S.left source.old) (S.left source.new) intake.old intake.new }
     ensures grown { IfOk result (λ more. more ≡ true → length intake.old < length intake.new) }
-    ensures ended { IfOk result (λ more. more ≡ false → HasNoHead intake.new × IsAtEnd (S.left source.new)) }
-    ensures short { OnErr result (HasNoHead intake.new) }
+    ensures ended { IfOk result (λ more. more ≡ false → LacksHead intake.new × IsAtEnd (S.left source.new)) }
+    ensures short { OnErr result (LacksHead intake.new) }
     ensures takes { Takes S.Channel source.old source.new (IsErr result) }
 {
     let mut begun = !is_blank(intake.bytes());
@@ -238,7 +238,8 @@ fn at_end(intake: &Intake) -> ReadOutcome
 /// Reads the next request of a stream: the bytes in the intake, and then those of the source. What follows it stays in
 /// the intake. In whatever pieces the bytes come, they are taken only as far as the message goes, or its piece.
 ///
-/// The refusals are tested in the order of `ReadOutcome`, and each but `Memory` ends the stream. `End`, `NoHost`,
+/// The refusals are tested in the order of `ReadOutcome`, and each but `Memory` ends the stream and leaves it as it is:
+/// the bytes that were taken stay in the intake. `End`, `NoHost`,
 /// `Coding`, `BadLength`, `LengthRequired`, `BodyTooLong` and `Media` come exactly where the bytes say so; `BadHead`,
 /// `HeadTooLong` and `Truncated` only there; and `ReadFault` only where the source's count rose.
 pub fn read_request<S: Source>(

@@ -32,14 +32,14 @@ pub struct Request {
     pub form: Submission,
 }
 
-/// Why no request was read.
+/// Why no request was read. Each but `Memory` leaves all bytes that were taken in the intake.
 #[derive(Clone, Copy, Debug, PartialEq, Eq)]
 pub enum ReadOutcome {
     /// The source ended before a first byte.
     End,
     /// No continuation of the bytes taken is a head.
     BadHead,
-    /// The source ended before the message was whole.
+    /// The source ended before the message was whole, and no limit was passed.
     Truncated,
     /// No first part of the bytes taken is a head, and they pass a limit of heads: 16,384 bytes were taken, or they
     /// hold 67 line feeds from the first byte that is neither CR nor LF.
@@ -56,8 +56,8 @@ pub enum ReadOutcome {
     BodyTooLong,
     /// A POST with a body isn't said to send a form.
     Media,
-    /// A read failed, which the count of the source shows. No message was whole in the bytes taken, and all of them
-    /// stay in the intake.
+    /// A read failed, which the count of the source shows. No message was whole in the bytes taken, and no limit was
+    /// passed.
     ReadFault,
     /// There was no memory for the request. The whole message was taken, so that the next call reads the next one.
     Memory,

@@ -1,7 +1,7 @@
 //! The door at a port of this machine.
 ghost use Rattle.std.specs.Prelude.{◌≡◌, ◌≢◌, ◌≤◌, ◌⊎◌, Some, None, Ok, IfOk, IfSome, OnOk, OnErr};
 ghost use Rattle.bw_out.specs.Causes.{HasCause};
-ghost use Rattle.bw_out.specs.Doors.{Asks};
+ghost use Rattle.bw_out.specs.Doors.{ports_of};
 ghost use Rattle.bw_tcp.specs.Ends.{AreAccepted, end_of};
 
 use crate::link::{End, TcpLink};
@@ -15,14 +15,14 @@ const TRIES: u32 = 101;
 /// A door at a port of the loopback address 127.0.0.1, so that only programs of this machine reach it. It tells the port
 /// and nothing of the links that come, of which there is always a next one: it is waited for.
 ///
-/// `listen` fails where the system refuses the port. `next` fails where the system gave no link 101 times in a row, or
+/// `listen` fails where the system refuses the port, or where a port is listened on already. `next` fails where the system gave no link 101 times in a row, or
 /// where no port is listened on.
 #[derive(Drop)]
 pub struct TcpDoor<R: Net + Clock + Copy> {
     rt: R,
     listener: Option<R::Listener>,
 
-    /// The port that was last asked for.
+    /// The port that was asked for.
     asked: Option<u16>,
 
     /// How often in a row the system gave no link to the last call of `next`.
@@ -100,7 +100,7 @@ fn accept_retrying<R: Net + Clock + Copy>(
 impl<R: Net + Clock + Copy> Door for TcpDoor<R> {
     type Link = TcpLink<R>;
 
-    ghost asked = { λ door. door.asked };
+    ghost asked = { λ door. Some (ports_of door.asked) };
 
     ghost coming = { λ _. None };
 
@@ -109,6 +109,10 @@ impl<R: Net + Clock + Copy> Door for TcpDoor<R> {
     ghost faults = { λ door. door.faults };
 
     fn listen(&mut self, port: u16) -> Result<(), Failed> {
+        if self.asked.is_some() {
+            self.faults = self.faults.saturating_add(1);
+            return Err(Failed);
+        }
         match TcpListener::bind(&self.rt, (Ipv4Addr::LOCALHOST, port)) {
             Ok(listener) => {
                 self.listener = Some(listener);
@@ -124,7 +128,7 @@ impl<R: Net + Clock + Copy> Door for TcpDoor<R> {
 
     fn next(&mut self) -> Result<Option<TcpLink<R>>, Failed>
         ensures fresh { IfOk result (λ next. IfSome next (λ link. (link.read_faults ≡ 0) × (link.write_faults ≡ 0))) }
-        ensures asked { self.new.asked ≡ self.old.asked }
+        ensures asked { Some (ports_of self.new.asked) ≡ Some (ports_of self.old.asked) }
         ensures cause { HasCause self.old.faults self.new.faults result }
 
         // There is always a link to come, and none could be had only where the system gave none at 101 tries in a row.
@@ -141,7 +145,7 @@ impl<R: Net + Clock + Copy> Door for TcpDoor<R> {
     }
 
     fn give_back(&mut self, link: TcpLink<R>)
-        ensures asked { self.new.asked ≡ self.old.asked }
+        ensures asked { Some (ports_of self.new.asked) ≡ Some (ports_of self.old.asked) }
         ensures faults { self.new.faults ≡ self.old.faults }
 
         // A link of which a call failed is closed at once, and each other one is ended.

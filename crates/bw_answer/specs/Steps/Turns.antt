@@ -13,7 +13,8 @@ use Rattle.bw_lang.specs.declared.service.Service.{Service}
 use Rattle.bw_model.specs.Runs.{At, Turn, Turns, Stops, want, wants, answer_of}
 use Rattle.bw_out.specs.Writes.{AppendsPart}
 use Rattle.bw_types.specs.Fields.{field_names}
-use Rattle.bw_answer.specs.Answers.{Place, IsAt, bytes_by}
+use Rattle.bw_answer.specs.Answers.{Place, IsAt}
+use Rattle.bw_answer.specs.Courses.{bytes_by}
 use Rattle.bw_answer.specs.declared.outcomes.Taken.{Taken}
 use Rattle.bw_answer.specs.declared.outcomes.Taken.TheVariants as takens
 use Rattle.bw_answer.specs.declared.outcomes.Next.{Next}

@@ -9,14 +9,14 @@ pub returns-in-Check-clause-comes : goal.returns-in-Check-clause-comes
 returns-in-Check-clause-comes g c =
     of_command _ _ _ _ _ _ c.in-Check.is (speaks_comes _ (λ disk. work disk (Check c.in-Check.service c.in-Check.judging)) _ _ _
     (outside (g.W.Channel.held c.args.out.now) (g.K.Keys.coming c.args.keys.now) (g.D.Door.asked c.args.door.now) (g.D.Door.coming c.args.door.now)
-    (g.D.Door.returned c.args.door.now) c.args.steps.now) c.check_command.ensures.comes)
+    (g.D.Door.returned c.args.door.now) (g.F.Files.unread c.args.files.now) c.args.steps.now) _ c.check_command.ensures.comes)
 
 pub returns-in-Replay-clause-comes : goal.returns-in-Replay-clause-comes
 returns-in-Replay-clause-comes g c =
     of_command _ _ _ _ _ _ c.in-Replay.is
-    (replies_comes _ (λ disk. work disk (Replay c.in-Replay.service c.in-Replay.requests c.in-Replay.judging c.in-Replay.most)) _ _ _ _ _ _ _
+    (replies_comes _ (λ disk. work disk (Replay c.in-Replay.service c.in-Replay.requests c.in-Replay.judging c.in-Replay.most)) _ _ _ _ _ _ _ _
     (outside (g.W.Channel.held c.args.out.now) (g.K.Keys.coming c.args.keys.now) (g.D.Door.asked c.args.door.now) (g.D.Door.coming c.args.door.now)
-    (g.D.Door.returned c.args.door.now) c.args.steps.now) c.replay_command.ensures.comes)
+    (g.D.Door.returned c.args.door.now) (g.F.Files.unread c.args.files.now) c.args.steps.now) c.replay_command.ensures.comes)
 
 pub returns-in-Serve-clause-comes : goal.returns-in-Serve-clause-comes
 returns-in-Serve-clause-comes g c = of_command _ _ _ _ _ _ c.in-Serve.is c.serve_command.ensures.comes
@@ -25,11 +25,11 @@ pub returns-in-Valid-clause-comes : goal.returns-in-Valid-clause-comes
 returns-in-Valid-clause-comes g c =
     of_command _ _ _ _ _ _ c.in-Valid.is (speaks_comes _ (λ disk. work disk (Valid c.in-Valid.page c.in-Valid.schema)) _ _ _
     (outside (g.W.Channel.held c.args.out.now) (g.K.Keys.coming c.args.keys.now) (g.D.Door.asked c.args.door.now) (g.D.Door.coming c.args.door.now)
-    (g.D.Door.returned c.args.door.now) c.args.steps.now) c.valid_command.ensures.comes)
+    (g.D.Door.returned c.args.door.now) (g.F.Files.unread c.args.files.now) c.args.steps.now) _ c.valid_command.ensures.comes)
 
 pub returns-in-Make-clause-comes : goal.returns-in-Make-clause-comes
 returns-in-Make-clause-comes g c =
     of_command _ _ _ _ _ _ c.in-Make.is (speaks_comes _ (λ disk. work disk (Make c.in-Make.count c.in-Make.workers)) _ _ _
     (outside (g.W.Channel.held c.args.out.now) (g.K.Keys.coming c.args.keys.now) (g.D.Door.asked c.args.door.now) (g.D.Door.coming c.args.door.now)
-    (g.D.Door.returned c.args.door.now) c.args.steps.now)
+    (g.D.Door.returned c.args.door.now) (g.F.Files.unread c.args.files.now) c.args.steps.now) _
     (made_speaks _ c.in-Make.count _ _ _ c.make_command.ensures.comes))

@@ -7,7 +7,7 @@ use Rattle.bigwig.proofs.serving.serve_links.Goals as goal
 pub links-init : goal.links-init
 links-init g c = record {
   served = served_none _ (outside None (g.K.Keys.coming c.args.keys.now) (g.D.Door.asked c.args.door.now) (g.D.Door.coming c.args.door.now)
-      (g.D.Door.returned c.args.door.now) c.args.steps.now);
+      (g.D.Door.returned c.args.door.now) None c.args.steps.now);
   quiet = refl;
   asked = refl;
   service = refl;
@@ -17,28 +17,31 @@ pub returns-in-Err-clause-serves : goal.returns-in-Err-clause-serves
 returns-in-Err-clause-serves g c =
     over_fault c.links.turn _ _ _
     (outside None (g.K.Keys.coming c.args.keys.now) (g.D.Door.asked c.args.door.now) (g.D.Door.coming c.args.door.now)
-    (g.D.Door.returned c.args.door.now) c.args.steps.now)
-    (outside None (g.K.Keys.coming c.links.keys) (g.D.Door.asked c.links.door) (g.D.Door.coming c.links.door) (g.D.Door.returned c.links.door) c.links.steps)
+    (g.D.Door.returned c.args.door.now) None c.args.steps.now)
+    (outside None (g.K.Keys.coming c.links.keys) (g.D.Door.asked c.links.door) (g.D.Door.coming c.links.door)
+    (g.D.Door.returned c.links.door) None c.links.steps)
     (outside None (g.K.Keys.coming c.links.keys) (g.D.Door.asked c.next.new.self) (g.D.Door.coming c.next.new.self)
-    (g.D.Door.returned c.next.new.self) c.links.steps)
+    (g.D.Door.returned c.next.new.self) None c.links.steps)
     c.links-test.true c.links.invariant.served c.in-Err.ensures.kept c.in-Err.ensures.returned refl refl
 
 pub returns-in-Ok-None-clause-serves : goal.returns-in-Ok-None-clause-serves
 returns-in-Ok-None-clause-serves g c =
     over_none g.D.Link.Channel.left g.D.Link.Channel.held c.links.turn _ _ _
     (outside None (g.K.Keys.coming c.args.keys.now) (g.D.Door.asked c.args.door.now) (g.D.Door.coming c.args.door.now)
-    (g.D.Door.returned c.args.door.now) c.args.steps.now)
-    (outside None (g.K.Keys.coming c.links.keys) (g.D.Door.asked c.links.door) (g.D.Door.coming c.links.door) (g.D.Door.returned c.links.door) c.links.steps)
+    (g.D.Door.returned c.args.door.now) None c.args.steps.now)
+    (outside None (g.K.Keys.coming c.links.keys) (g.D.Door.asked c.links.door) (g.D.Door.coming c.links.door)
+    (g.D.Door.returned c.links.door) None c.links.steps)
     (outside None (g.K.Keys.coming c.links.keys) (g.D.Door.asked c.next.new.self) (g.D.Door.coming c.next.new.self)
-    (g.D.Door.returned c.next.new.self) c.links.steps)
+    (g.D.Door.returned c.next.new.self) None c.links.steps)
     _ c.links-test.true c.links.invariant.served c.in-Ok-None.field-0-is c.in-Ok-None.ensures.arrived c.in-Ok-None.ensures.returned refl refl
 
 pub returns-clause-serves : goal.returns-clause-serves
 returns-clause-serves g c =
     over_most c.links.turn _ _ _
     (outside None (g.K.Keys.coming c.args.keys.now) (g.D.Door.asked c.args.door.now) (g.D.Door.coming c.args.door.now)
-    (g.D.Door.returned c.args.door.now) c.args.steps.now)
-    (outside None (g.K.Keys.coming c.links.keys) (g.D.Door.asked c.links.door) (g.D.Door.coming c.links.door) (g.D.Door.returned c.links.door) c.links.steps)
+    (g.D.Door.returned c.args.door.now) None c.args.steps.now)
+    (outside None (g.K.Keys.coming c.links.keys) (g.D.Door.asked c.links.door) (g.D.Door.coming c.links.door)
+    (g.D.Door.returned c.links.door) None c.links.steps)
     c.links.invariant.served (omega (arith, c.links.auto.turn-end, c.links-test.false))
 
 pub links-preserved : goal.links-preserved
@@ -50,11 +53,11 @@ links-preserved g c =
     record {
       served = served_more ch.left ch.held c.links.turn _ c.links.world c.answer-end.new.world
           (outside None (g.K.Keys.coming c.args.keys.now) (g.D.Door.asked c.args.door.now) (g.D.Door.coming c.args.door.now)
-          (g.D.Door.returned c.args.door.now) c.args.steps.now)
+          (g.D.Door.returned c.args.door.now) None c.args.steps.now)
           (outside None (g.K.Keys.coming c.links.keys) (g.D.Door.asked c.links.door) (g.D.Door.coming c.links.door)
-          (g.D.Door.returned c.links.door) c.links.steps)
+          (g.D.Door.returned c.links.door) None c.links.steps)
           (outside None (g.K.Keys.coming c.answer-end.new.keys) (g.D.Door.asked c.give_back.new.self) (g.D.Door.coming c.give_back.new.self)
-          (g.D.Door.returned c.give_back.new.self) c.answer-end.new.steps)
+          (g.D.Door.returned c.give_back.new.self) None c.answer-end.new.steps)
           (g.D.Door.coming c.next.new.self) (g.D.Door.returned c.next.new.self) c.in-Ok-Some.field-0 link
           (record { unread = ch.left after; written = ch.held after; read_faults = ch.read_faults after; write_faults = ch.write_faults after })
           (place ch c.links.world c.clear.new.self link (g.K.Keys.coming c.links.keys) c.links.steps)

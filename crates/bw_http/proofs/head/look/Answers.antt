@@ -1,4 +1,4 @@
-use Rattle.std.proofs.Common.{◌≡◌, ℕ, List, Option, Some, None, subst, arith, rules}
+use Rattle.std.proofs.Common.{◌≡◌, ℕ, List, Option, Some, None, subst, arith}
 use Rattle.std.specs.Option.{IfSome, IfNone}
 use Rattle.httparse.specs.Grammar.{NeverHasRequest}
 use Rattle.httparse.specs.Spans.{IsRequestWithin, IsRequestOf}
@@ -33,7 +33,11 @@ returns-then-is_over_limits-clause-long c =
     )
 
 pub returns-else-is_over_limits-clause-more : goal.returns-else-is_over_limits-clause-more
-returns-else-is_over_limits-clause-more c = (
-  HasNoHead-front c.args.bytes.now (subst (λ (t : List ℕ). HasNoHead t) c.front.ensures (of_none _ c.in-Ok-None.field-0-is c.in-Ok-None.ensures.none)),
-  search rules,
-)
+returns-else-is_over_limits-clause-more c =
+    let within = c.is_over_limits.ensures.within c.if-is_over_limits.false in
+    record {
+      none = HasNoHead-front c.args.bytes.now
+          (subst (λ (t : List ℕ). HasNoHead t) c.front.ensures (of_none _ c.in-Ok-None.field-0-is c.in-Ok-None.ensures.none));
+      short = within.0;
+      few = within.1;
+    }

@@ -1,12 +1,12 @@
-use Rattle.std.proofs.Common.{◌≡◌, ℕ, List, ◌++◌, length, ap, ◌∙◌, arith, subst, true}
+use Rattle.std.proofs.Common.{◌≡◌, ℕ, List, ◌++◌, ◌<◌, length, ap, ◌∙◌, arith, subst, true}
 use Rattle.std.proofs.lemmas.List.{length-append}
 use Rattle.std.proofs.lemmas.Bool.{false≢true}
 use Rattle.std.specs.List.{list_all}
 use Rattle.httparse.specs.Pieces.{is_newline}
 use Rattle.bw_out.proofs.TakeLaws.{took, took_more}
-use Rattle.bw_http.specs.Heads.{HasNoHead}
+use Rattle.bw_http.specs.Heads.{HasNoHead, line_count}
 use Rattle.bw_http.proofs.Messages.{filled_more}
-use Rattle.bw_http.proofs.Filling.{stays_blank, stays_none}
+use Rattle.bw_http.proofs.Filling.{stays_blank, stays_few, stays_none}
 use Rattle.bw_http.proofs.reading.fill_line.Goals as goal
 
 pub more-preserved : goal.more-preserved
@@ -23,6 +23,9 @@ more-preserved g c =
       none = subst (λ (t : List ℕ). HasNoHead t) c.bytes-in-more-2.ensures.value
           (stays_none c.more.begun c.is_blank.result c.more.intake filled.0 held bytes c.bytes-held.ensures.value all
           before.blank c.is_blank.ensures before.none worth);
+      few = subst (λ (t : List ℕ). line_count t < 67) c.bytes-in-more-2.ensures.value
+          (stays_few c.more.begun c.is_blank.result c.more.intake filled.0 held bytes c.bytes-held.ensures.value all
+          before.blank c.is_blank.ensures before.few worth);
       blank = λ idle. subst (λ (t : List ℕ). list_all is_newline t ≡ true) c.bytes-in-more-2.ensures.value
           (stays_blank c.more.begun c.is_blank.result c.more.intake filled.0 held bytes c.bytes-held.ensures.value all
           before.blank c.is_blank.ensures idle);

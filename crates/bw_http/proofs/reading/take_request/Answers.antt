@@ -11,7 +11,7 @@ pub returns-in-Denied-clause-taken : goal.returns-in-Denied-clause-taken
 returns-in-Denied-clause-taken g c = record {
   have = c.turns.intake;
   filled = c.turns.invariant.filled;
-  outcome = denied_refusal c.turns.intake _ c.in-Denied.e _ (subst (λ (t : List ℕ). IsDenied t c.in-Denied.e) c.bytes.ensures.value c.in-Denied.ensures);
+  outcome = denied_refusal c.turns.intake _ c.in-Denied.e (subst (λ (t : List ℕ). IsDenied t c.in-Denied.e) c.bytes.ensures.value c.in-Denied.ensures);
 }
 
 pub returns-in-Denied-clause-takes : goal.returns-in-Denied-clause-takes
