@@ -94,8 +94,9 @@ fn answer_next<C: Source + Sink, K: Keys, L: Ledger>(
 /// there was no memory for. What is left of the stream is in the intake and in the link, so that a further call goes on
 /// from there.
 ///
-/// Where a schema accepts the service, and requests led here from the empty world, every page among the replies is valid
-/// by the schema, and the page of a show has each field that the show receives.
+/// Every page among the replies is valid by each schema that accepts the service, the page of a show has each field that
+/// the show receives, and the bytes read as this one page: so it is for each sound world that this one stands for, and
+/// each `World` stands for one.
 pub fn answer<C: Source + Sink, K: Keys, L: Ledger>(
     alloc: Global,
     world: &mut World,
@@ -113,7 +114,6 @@ pub fn answer<C: Source + Sink, K: Keys, L: Ledger>(
     ensures service { world.new.service ≡ world.old.service }
     ensures pages { RepliesAreGood world.old.service (place C.Channel world.old intake.old link.old (K.coming keys.old) steps.old) }
 {
-    let _ = world.checked();
     let mut count: u32 = 0;
     'messages: for turn in 0..most {
         match answer_next(alloc, world, intake, link, keys, steps) {

@@ -15,7 +15,8 @@ use Rattle.bw_model.specs.Steps.{is_of, reply_to, asks, taken_out, on_path}
 use Rattle.bw_model.specs.Talks.{said_by, said_at}
 use Rattle.bw_model.proofs.Found.{IsOut, no_session, session, out, found, out_is, both, has_number, has_key}
 
-module _ (service : Service) (w : World) (number key : ℕ) (l : Live) (there : find (is_of number key) w.live ≡ Some l) (form : Form) (drawn : ℕ) (said : Said) where
+module _ (service : Service) (w : World) (number key : ℕ) (l : Live) (there : find (is_of number key) w.live ≡ Some l) (form : Form) (drawn : ℕ)
+    (said : Said) where
   -- a visit is replied by it
   visit : (method : Method) (turn : ℕ) (o : Option (Live × List Live)) → IsOut number key w.live o →
       (asks service w method form turn o).reply

@@ -60,7 +60,8 @@ module _ (t : Typed) (schema : Schema) (facts : Facts) (accepted : IsAccepted t.
           ⊎ IsOutside k (first_number service session) (numbered (body_of service session)) → All (HasField service page) (received_of service session k)
       by_number (inl (from, below)) =
           let same = s.number in
-          let agree = shows_receive service session (F.place k) s.step s.term s.received s.is_at s.acts (omega (arith, from, same)) (omega (arith, below, same)) in
+          let agree = shows_receive service session (F.place k) s.step s.term s.received s.is_at s.acts (omega (arith, from, same))
+          (omega (arith, below, same)) in
           subst (All (HasField service page)) (ap received_at s.acts ∙ agree ∙ ap (received_of service session) same) h
       by_number (inr out) =
           subst (λ rs. All (HasField service page) (receives service (scope_of service session k) rs)) (sym (receives_outside service session k out))

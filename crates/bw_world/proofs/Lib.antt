@@ -8,7 +8,6 @@ pub mod Named
 pub mod Opened
 pub mod Own
 pub mod Posted
-pub mod Received
 pub mod Refusals
 pub mod Refused
 pub mod Standing

@@ -1,23 +1,19 @@
 -- A form is refused by the model world exactly where the flow refuses it.
-use Rattle.std.proofs.Common.{◌≡◌, ℕ, List, [], length, Some, sym, ap, ◌∙◌, subst, arith}
+use Rattle.std.proofs.Common.{◌≡◌, ℕ, List, Some, sym, ap, ◌∙◌, subst}
 use Rattle.std.specs.Option.{option_map}
 use Rattle.bw_http.specs.Replies.{IsReply}
 use Rattle.bw_lang.specs.declared.service.Service.{Service}
 use Rattle.bw_lang.specs.Service.Numbers.{first_number}
 use Rattle.bw_types.specs.declared.typed.Typed.{Typed}
 use Rattle.bw_typed.proofs.Services.{shared_are_no_lists}
-use Rattle.bw_flow.specs.Layout.{plan_of, receives}
+use Rattle.bw_flow.specs.Layout.{receives}
 use Rattle.bw_flow.specs.Steps.{Step}
-use Rattle.bw_flow.proofs.Numbered.{all_have_numbers}
-use Rattle.bw_flow.proofs.Stands.{stands_for_all}
 use Rattle.bw_follow.specs.Laws.{IsOf}
 use Rattle.bw_follow.specs.Runs.{fields_of}
-use Rattle.bw_follow.proofs.Kept.{typed_is_ready}
-use Rattle.bw_follow.proofs.Whole.{found, in_range}
 use Rattle.bw_eval.specs.View.{values}
-use Rattle.bw_meaning.specs.GoOn.{body_of}
 use Rattle.bw_meaning.specs.States.{Form}
 use Rattle.bw_model.specs.Received.{receives_of, first_refusal}
+use Rattle.bw_cover.proofs.Received.{fields_are as show_receives}
 use Rattle.bw_run.specs.declared.fields.FieldFault.{FieldFault}
 use Rattle.bw_run.specs.declared.turn.Frame.{Frame}
 use Rattle.bw_run.specs.Fit.{IsFrame}
@@ -28,7 +24,6 @@ use Rattle.bw_world.specs.Changes.{refused}
 use Rattle.bw_world.specs.Seen.{flow_of}
 use Rattle.bw_world.specs.Stands.{fields_of as names}
 use Rattle.bw_world.proofs.Named.{Names, missing_names, shows_are_there}
-use Rattle.bw_world.proofs.Received.{agree}
 use Rattle.bw_world.proofs.Refusals.{refusals_agree}
 
 module _ (typed : Typed) (session : ℕ) (frame : Frame) (fit : IsFrame typed.service (flow_of typed.service) frame)
@@ -48,16 +43,9 @@ module _ (typed : Typed) (session : ℕ) (frame : Frame) (fit : IsFrame typed.se
   fields_are : fit.fields ≡ run.receives_of flow frame
   fields_are = sym (ap fields_of fit.acts) ∙ sym (ap run.received_at fit.is)
 
-  abbrev first : ℕ
-  first = first_number typed.service session
-
   received_are : fit.fields ≡ receives service fit.point.scope (receives_of service session fit.point.number)
   received_are =
-      let ready = typed_is_ready typed in
-      let f = found service flow service.sessions (plan_of service).firsts 1 (length flow) session (stands_for_all service) ready.scoped ready.closed
-      (in_range service.sessions session first (omega (arith, own_point.from, own_point.below))) in
-      agree service flow (all_have_numbers service) frame.point fit.point fit.page fit.fields fit.is fit.acts (body_of service session) first [] 0 f.first
-      (length flow) f.lowered own_point.from own_point.below
+      show_receives service session frame.point fit.point fit.page fit.fields fit.is fit.acts own_point.from own_point.below
 
   pub refused_alike : first_refusal service (receives_of service session (number_at flow frame.point)) (values frame.locals) form ≡ option_map refused
       (first_missing (run.receives_of flow frame) form)
@@ -72,7 +60,7 @@ module _ (typed : Typed) (session : ℕ) (frame : Frame) (fit : IsFrame typed.se
   refusal_names f e =
       subst (Names (names service)) (ap (λ rs. first_missing rs form) (sym received_are ∙ fields_are) ∙ e)
       (missing_names (names service) service fit.point.scope form (receives_of service session fit.point.number)
-      (shows_are_there typed session first fit.point.number))
+      (shows_are_there typed session (first_number service session) fit.point.number))
 
 -- so for the same service by another name
 pub refused_of : (typed : Typed) (service : Service) → typed.service ≡ service → (session : ℕ) (frame : Frame) (form : Form)

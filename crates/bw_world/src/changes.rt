@@ -7,15 +7,15 @@ ghost use Rattle.bw_world.specs.Kept.{IsSuspended};
 ghost use Rattle.bw_world.specs.Seen.{found};
 
 use crate::pages::{last, shown};
+use crate::state::State;
 use crate::suspended::Suspended;
-use crate::world::World;
 use bw_doc::Doc;
 use bw_http::Reply;
 use bw_lang::SessionId;
 use bw_run::{Frame, SharedValues};
 use std::alloc::Global;
 
-impl World {
+impl State {
     /// A session that ends with its first turn: it gets no number.
     pub(crate) fn pass(&mut self, doc: &Doc, shared: SharedValues) -> Reply
         requires { AreShared self.old.service shared }

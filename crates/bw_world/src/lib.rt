@@ -3,6 +3,7 @@
 
 mod changes;
 mod pages;
+mod state;
 mod steps;
 pub mod suspended;
 mod turns;

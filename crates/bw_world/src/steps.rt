@@ -1,22 +1,20 @@
 //! One request is one step.
 ghost use Rattle.std.specs.Prelude.{◌≡◌, ◌≢◌, ◌<◌, ◌^◌, ◌⊎◌, ℕ, Some, length, true};
 ghost use Rattle.bw_http.specs.declared.request.Method.TheVariants as methods;
-ghost use Rattle.bw_http.specs.Replies.{IsReply};
 ghost use Rattle.bw_model.specs.Answers.{turned};
 ghost use Rattle.bw_model.specs.Sessions.{now};
 ghost use Rattle.bw_model.specs.Steps as model;
 ghost use Rattle.bw_types.specs.Scopes.{session_of};
 ghost use Rattle.bw_world.specs.declared.suspended.Suspended.{Suspended};
 ghost use Rattle.bw_world.specs.Changes.{failure, refused};
-ghost use Rattle.bw_world.specs.Good.{IsGoodReply};
 ghost use Rattle.bw_run.specs.Missing.{first_missing};
 ghost use Rattle.bw_run.specs.Turns.{receives_of};
 ghost use Rattle.bw_world.specs.Plain.{is_plain, is_plain_start, is_plain_visit, takes_no_turn};
 ghost use Rattle.bw_world.specs.Seen.{flow_of, found};
-ghost use Rattle.bw_world.specs.Stands.{Steps, Handles, Stays, Rises, fields_of};
+ghost use Rattle.bw_world.specs.Stands.{Steps, Stays};
 
 use crate::pages::index;
-use crate::world::World;
+use crate::state::State;
 use bw_http::{Allow, Method, Path, Reply, Request};
 use bw_lang::{Name, SessionId, Submission, TurnFault};
 use bw_out::Steps as Counter;
@@ -54,7 +52,7 @@ fn refusal(fault: FieldFault) -> Reply
     }
 }
 
-impl World {
+impl State {
     /// The first turn of a session.
     fn begin<L: Ledger>(
         &mut self,
@@ -174,7 +172,7 @@ impl World {
     }
 
     /// A request is answered.
-    fn step<L: Ledger>(
+    pub(crate) fn step<L: Ledger>(
         &mut self,
         alloc: Global,
         request: &Request,
@@ -204,33 +202,5 @@ impl World {
                 _ => self.visit(alloc, request, *number, *of, *turn, steps),
             },
         }
-    }
-
-    /// One request is one step of the world, by the key that was drawn for it: for each world of the meaning that this one
-    /// stands for, the reply is the step's, this world stands for the step's world, and the counter rises by the step's
-    /// cost. Or the reply is `Memory`: there was no memory, the world is as before, and the counter rose by at most 100,000.
-    ///
-    /// A request that needs no page and no turn is never answered `Memory`: of a path or method that isn't served, of a
-    /// session that isn't there, of another turn than the current one, or with a form that isn't taken.
-    ///
-    /// Where a schema accepts the service, and requests led here from the empty world, every page that is answered is valid
-    /// by the schema, and the page of a show has each field that the show receives.
-    pub fn handle<L: Ledger>(
-        &mut self,
-        alloc: Global,
-        request: &Request,
-        key: u64,
-        steps: &mut Counter<L>,
-    ) -> Reply
-        ensures step { Handles self.old self.new result steps.old steps.new (λ m. model.step self.old.service m request.now key) }
-        ensures service { self.new.service ≡ self.old.service }
-        ensures memory { result ≡ Reply.Memory → self.new ≡ self.old }
-        ensures plain { is_plain self.old request.now ≡ true → result ≢ Reply.Memory }
-        ensures reply { IsReply (fields_of self.old.service) result }
-        ensures rises { Rises steps.old steps.new }
-        ensures good { IsGoodReply self.old request.now key result }
-    {
-        let _ = self.checked();
-        self.step(alloc, request, key, steps)
     }
 }

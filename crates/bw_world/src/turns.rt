@@ -13,15 +13,15 @@ ghost use Rattle.bw_world.specs.Kept.{IsKept, IsOwn, IsSuspended};
 ghost use Rattle.bw_world.specs.Seen.{flow_of, found};
 ghost use Rattle.bw_world.specs.Stands.{Rises};
 
+use crate::state::State;
 use crate::suspended::Suspended;
-use crate::world::World;
 use bw_lang::{Name, SessionId, Submission, TurnFault};
 use bw_out::Steps as Counter;
 use bw_run::{FieldFault, Turn, missing, resume, start};
 use std::alloc::Global;
 use std::sync::ledger::Ledger;
 
-impl World {
+impl State {
     /// The session of this number and key, which is live.
     pub(crate) fn one(&self, number: u32, key: u64) -> &Suspended
         requires { (s : Suspended) × (found number key self.now.live ≡ Some s) }

@@ -1,69 +1,64 @@
 //! Worlds.
-ghost use Rattle.std.specs.Prelude.{◌≡◌, ◌≤◌, ◌^◌, length, IfOk, IfSome, option_copied};
+ghost use Rattle.std.specs.Prelude.{◌≡◌, ◌≢◌, ◌≤◌, ◌^◌, true, length, IfOk, IfSome, option_copied};
+ghost use Rattle.bw_http.specs.Forms.{IsTextForm};
+ghost use Rattle.bw_http.specs.Replies.{IsReply};
 ghost use Rattle.bw_model.specs.Sessions.{empty};
+ghost use Rattle.bw_model.specs.Steps as model;
+ghost use Rattle.bw_sound.specs.Worlds.{BeginsSound};
+ghost use Rattle.bw_world.specs.Good.{IsGoodReply, HasGoodReply};
 ghost use Rattle.bw_world.specs.Kept.{IsKept, IsSuspended};
+ghost use Rattle.bw_world.specs.Plain.{is_plain};
 ghost use Rattle.bw_world.specs.Seen.{found};
-ghost use Rattle.bw_world.specs.Stands.{StandsFor};
+ghost use Rattle.bw_world.specs.Stands.{StandsFor, Handles, Rises, fields_of};
 
+use crate::state::State;
 use crate::suspended::Suspended;
 use bw_check::Checked;
+use bw_http::{Reply, Request};
 use bw_lang::Memory;
-use bw_run::{SharedValues, first_values};
-use lru::LruCache;
+use bw_out::Steps as Counter;
+use bw_run::SharedValues;
 use std::alloc::Global;
 use std::marker::Model;
-use std::num::NonZeroUsize;
+use std::sync::ledger::Ledger;
 
 /// The live sessions of a service that the check accepted, and its shared variables. At most 1,000 sessions are live: where
 /// one more begins, the one that wasn't used for the longest time gives way.
 ///
 /// Contracts see the live sessions by their numbers, the most recently used first. Each waits at a show of its own with a
-/// fit frame, and the shared variables are fit.
+/// fit frame, and the shared variables are fit. Whatever was requested, there is a world of the meaning that this one stands
+/// for, and that is sound: each page that is answered from it on is good.
 #[derive(Drop)]
 pub struct World {
-    pub(crate) checked: Checked,
-    pub(crate) next: u64,
-    pub(crate) first: u32,
-    pub(crate) shared: SharedValues,
-    pub(crate) live: LruCache<u32, Suspended>,
+    state: State,
 }
 
 impl Model for World {
-    ghost use Rattle.std.specs.Prelude.{◌≡◌};
     ghost use Rattle.bw_world.specs.Seen.{Seen};
-    ghost use Rattle.bw_world.specs.Kept.{IsKept};
 
     ghost Value = { Seen };
 
     ghost use Rattle.std.specs.Coded.{codes};
     ghost use Rattle.bw_lang.specs.contracts.service.Service as service;
     ghost use Rattle.bw_doc.specs.Encoding.MadeEncoding.{encoded_made};
+    ghost use Rattle.bw_sound.specs.Worlds.{BeginsSound};
+    ghost use Rattle.bw_world.specs.Good.{IsSound};
 
     ghost coded = { Prim.hlevel (codes, encoded_made, service.the_row.coded) };
 
-    ghost view = { λ w. record {
-      service = w.checked.typed.service;
-      shared = w.shared;
-      next = w.next;
-      first = w.first;
-      live = w.live.entries;
-    } };
+    ghost view = { λ w. w.state };
 
-    ghost invariant = { λ w. (w.live.cap ≡ 1000) × IsKept (record {
-      service = w.checked.typed.service;
-      shared = w.shared;
-      next = w.next;
-      first = w.first;
-      live = w.live.entries;
-    }) };
+    ghost invariant = { λ w. ∥ IsSound w.state ∥₁ };
 }
 
 impl World {
     /// The world in which nothing was requested yet: no session is live, the shared variables have the values of their
-    /// literals, and the first session gets number 1, its first turn number 1.
+    /// literals, and the first session gets number 1, its first turn number 1. It stands for the empty world of the meaning,
+    /// which is sound.
     pub fn new(alloc: Global, checked: Checked) -> Result<World, Memory>
         ensures service { IfOk result (λ w. w.service ≡ checked.typed.service) }
         ensures stands { IfOk result (λ w. StandsFor w (empty checked.typed.service)) }
+        ensures sound { IfOk result (λ w. BeginsSound w.service) }
     {
         World::new_at(alloc, checked, 1, 1)
     }
@@ -74,26 +69,10 @@ impl World {
         requires first { 1 ≤ first }
         ensures service { IfOk result (λ w. w.service ≡ checked.typed.service) }
         ensures stands { IfOk result (λ w. StandsFor w (record (empty checked.typed.service) { next = next; first = first })) }
+        ensures sound { IfOk result (λ w. BeginsSound w.service) }
     {
-        let Some(most) = NonZeroUsize::new(1000) else {
-            unreachable!()
-        };
-        let Ok(shared) = first_values(alloc, checked.typed()) else {
-            drop(checked);
-            return Err(Memory);
-        };
-        let Ok(live) = LruCache::new(alloc, most) else {
-            drop(checked);
-            drop(shared);
-            return Err(Memory);
-        };
-        Ok(World {
-            checked,
-            next,
-            first,
-            shared,
-            live,
-        })
+        let state = State::new_at(alloc, checked, next, first)?;
+        Ok(World { state })
     }
 
     /// The live session of this number and key, which waits at a show of its own with a fit frame. It takes no memory, and
@@ -103,8 +82,7 @@ impl World {
         ensures fit { IfSome result (λ s. IsSuspended self.now.service s.now) }
         ensures kept { IsKept self.now }
     {
-        let one = self.live.peek(&number)?;
-        if one.key == key { Some(one) } else { None }
+        self.state.get(number, key)
     }
 
     /// How many sessions are live: at most 1,000. It takes no memory.
@@ -112,20 +90,52 @@ impl World {
         ensures live { result ≡ length self.now.live }
         ensures few { result ≤ 1000 }
     {
-        self.live.len()
+        self.state.live()
     }
 
     /// The shared variables. It takes no memory.
     pub fn shared(&self) -> &SharedValues
         ensures { result.now ≡ self.now.shared }
     {
-        &self.shared
+        self.state.shared()
     }
 
     /// The service. It takes no memory.
     pub fn checked(&self) -> &Checked
         ensures { result.now.typed.service ≡ self.now.service }
     {
-        &self.checked
+        self.state.checked()
+    }
+
+    /// One request is one step of the world, by the key that was drawn for it: for each world of the meaning that this one
+    /// stands for, the reply is the step's, this world stands for the step's world, and the counter rises by the step's
+    /// cost. Or the reply is `Memory`: there was no memory, the world is as before, and the counter rose by at most 100,000.
+    ///
+    /// A request that needs no page and no turn is never answered `Memory`: of a path or method that isn't served, of a
+    /// session that isn't there, of another turn than the current one, or with a form that isn't taken.
+    ///
+    /// Every page that is answered is valid by each schema that accepts the service, the page of a show has each field that
+    /// the show receives, and the bytes read as this one page: so it is for each sound world of the meaning that this one
+    /// stands for, and there is one. The form's values are UTF-8, as the texts of every `Submission` are and as
+    /// `read_request` promises.
+    pub fn handle<L: Ledger>(
+        &mut self,
+        alloc: Global,
+        request: &Request,
+        key: u64,
+        steps: &mut Counter<L>,
+    ) -> Reply
+        requires { IsTextForm request.now.form }
+        ensures step { Handles self.old self.new result steps.old steps.new (λ m. model.step self.old.service m request.now key) }
+        ensures service { self.new.service ≡ self.old.service }
+        ensures memory { result ≡ Reply.Memory → self.new ≡ self.old }
+        ensures plain { is_plain self.old request.now ≡ true → result ≢ Reply.Memory }
+        ensures reply { IsReply (fields_of self.old.service) result }
+        ensures rises { Rises steps.old steps.new }
+        ensures good { IsGoodReply self.old request.now key result }
+        ensures pages { HasGoodReply self.old request.now key result }
+    {
+        let _ = self.state.checked();
+        self.state.step(alloc, request, key, steps)
     }
 }

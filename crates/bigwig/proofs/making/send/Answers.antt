@@ -28,5 +28,5 @@ returns g c =
 pub send_one-requires : goal.send_one-requires
 send_one-requires g c = first_is_text c.in_ok-first.first c.in_ok-first.ensures
 
-pub send_one-in-loop-turn-requires : goal.send_one-in-loop-turn-requires
-send_one-in-loop-turn-requires g c = next_is_text c.in_ok-next.next (c.loop-turn.turn + 1) (omega arith) c.in_ok-next.ensures
+pub send_one-requires-in-loop-turn : goal.send_one-requires-in-loop-turn
+send_one-requires-in-loop-turn g c = next_is_text c.in_ok-next.next (c.loop-turn.turn + 1) (omega arith) c.in_ok-next.ensures

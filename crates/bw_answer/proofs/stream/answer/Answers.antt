@@ -38,13 +38,13 @@ returns-clause-answers g c = over_full c.args.world.now.service _ c.messages.tur
     (omega (arith, c.messages.auto.turn-end, c.messages-test.false))
 
 pub returns-in-Ended-clause-pages : goal.returns-in-Ended-clause-pages
-returns-in-Ended-clause-pages g c = replies_are_good c.checked.result.now.typed _ _ c.checked.ensures
+returns-in-Ended-clause-pages g c = replies_are_good _ _
 
 pub returns-in-ReadFault-clause-pages : goal.returns-in-ReadFault-clause-pages
-returns-in-ReadFault-clause-pages g c = replies_are_good c.checked.result.now.typed _ _ c.checked.ensures
+returns-in-ReadFault-clause-pages g c = replies_are_good _ _
 
 pub returns-in-WriteFault-clause-pages : goal.returns-in-WriteFault-clause-pages
-returns-in-WriteFault-clause-pages g c = replies_are_good c.checked.result.now.typed _ _ c.checked.ensures
+returns-in-WriteFault-clause-pages g c = replies_are_good _ _
 
 pub returns-clause-pages : goal.returns-clause-pages
-returns-clause-pages g c = replies_are_good c.checked.result.now.typed _ _ c.checked.ensures
+returns-clause-pages g c = replies_are_good _ _

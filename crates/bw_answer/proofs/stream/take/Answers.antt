@@ -1,5 +1,9 @@
+use Rattle.bw_http.proofs.Lossy.{requests_are_text}
 use Rattle.bw_answer.proofs.Messages.{request_taken, outcome_taken_as, short_taken}
 use Rattle.bw_answer.proofs.stream.take.Goals as goal
+
+pub handle-requires : goal.handle-requires
+handle-requires g c = requests_are_text _ _ _ c.in-Ok.ensures.taken.outcome.3
 
 pub returns-in-Ok-clause-takes : goal.returns-in-Ok-clause-takes
 returns-in-Ok-clause-takes g c =

@@ -8,7 +8,7 @@ use Rattle.bw_world.specs.Changes.{shown_page, with_first, Either}
 use Rattle.bw_world.specs.Seen.{Seen}
 use Rattle.bw_world.proofs.Keeping.{looked_at, keeps_first, is_with_first, promoted_is}
 use Rattle.bw_world.proofs.Live.{is_found}
-use Rattle.bw_world.proofs.world.World.again.Goals as goal
+use Rattle.bw_world.proofs.state.State.again.Goals as goal
 
 pub invariant_of-self : goal.invariant_of-self
 invariant_of-self c =

@@ -4,8 +4,8 @@ use Rattle.bw_types.specs.declared.typed.Typed.{Typed}
 use Rattle.bw_world.specs.Changes.{shown_page, begun}
 use Rattle.bw_world.specs.Seen.{Seen}
 use Rattle.bw_world.proofs.Keeping.{keeps_new, is_with_new}
-use Rattle.bw_world.proofs.world.World.found.Goals as goal
-use Rattle.bw_world.proofs.world.World.found.Goals.{in-Ok+in-Some-1, in-Ok+in-None-1, in-Err-2}
+use Rattle.bw_world.proofs.state.State.found.Goals as goal
+use Rattle.bw_world.proofs.state.State.found.Goals.{in-Ok+in-Some-1, in-Ok+in-None-1, in-Err-2}
 
 pub invariant_of-self : goal.invariant_of-self
 invariant_of-self c =

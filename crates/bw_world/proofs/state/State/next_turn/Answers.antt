@@ -6,7 +6,7 @@ use Rattle.bw_run.specs.Walks.{number_at}
 use Rattle.bw_types.specs.declared.typed.Typed.{Typed}
 use Rattle.bw_world.specs.Seen.{Seen, flow_of}
 use Rattle.bw_world.proofs.Opened.{next_is, next_owns}
-use Rattle.bw_world.proofs.world.World.next_turn.Goals as goal
+use Rattle.bw_world.proofs.state.State.next_turn.Goals as goal
 
 pub returns-clause-turn : goal.returns-clause-turn
 returns-clause-turn g c m =

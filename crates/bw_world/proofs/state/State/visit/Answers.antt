@@ -7,7 +7,7 @@ use Rattle.bw_world.specs.Stands.{Ends, model}
 use Rattle.bw_world.proofs.Asked.{none_asked}
 use Rattle.bw_world.proofs.Posted.{answered_stale, sent_again}
 use Rattle.bw_world.proofs.Standing.{paged}
-use Rattle.bw_world.proofs.world.World.visit.Goals as goal
+use Rattle.bw_world.proofs.state.State.visit.Goals as goal
 
 pub returns-in_default-clause-step : goal.returns-in_default-clause-step
 returns-in_default-clause-step g c ls h =

@@ -3,7 +3,7 @@ use Rattle.bw_flow.specs.Layout.{plan_of}
 use Rattle.bw_types.specs.declared.typed.Typed.{Typed}
 use Rattle.bw_world.specs.Seen.{Seen}
 use Rattle.bw_world.proofs.Opened.{first_is, first_owns}
-use Rattle.bw_world.proofs.world.World.first_turn.Goals as goal
+use Rattle.bw_world.proofs.state.State.first_turn.Goals as goal
 
 pub returns-clause-turn : goal.returns-clause-turn
 returns-clause-turn g c m =

@@ -6,8 +6,8 @@ use Rattle.bw_world.specs.declared.suspended.Suspended.{Suspended}
 use Rattle.bw_world.specs.Changes.{shown_page, went_on, with_first, Either}
 use Rattle.bw_world.specs.Seen.{Seen}
 use Rattle.bw_world.proofs.Keeping.{keeps_next, is_with_next, next_page}
-use Rattle.bw_world.proofs.world.World.keep.Goals as goal
-use Rattle.bw_world.proofs.world.World.keep.Goals.{in-Ok+in-Some-1, in-Ok+in-None-1, in-Err-2}
+use Rattle.bw_world.proofs.state.State.keep.Goals as goal
+use Rattle.bw_world.proofs.state.State.keep.Goals.{in-Ok+in-Some-1, in-Ok+in-None-1, in-Err-2}
 
 pub invariant_of-self : goal.invariant_of-self
 invariant_of-self c =

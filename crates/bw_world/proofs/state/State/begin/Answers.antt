@@ -11,7 +11,7 @@ use Rattle.bw_world.specs.Stands.{fields_of}
 use Rattle.bw_world.proofs.Begun.{begun_exit, begun_show, begun_failed}
 use Rattle.bw_world.proofs.Opened.{begun_fit}
 use Rattle.bw_world.proofs.Standing.{stayed, paged, failure_is_reply}
-use Rattle.bw_world.proofs.world.World.begin.Goals as goal
+use Rattle.bw_world.proofs.state.State.begin.Goals as goal
 
 pub returns-in-Err-clause-step : goal.returns-in-Err-clause-step
 returns-in-Err-clause-step g c ls h =

@@ -17,7 +17,7 @@ use Rattle.bw_world.proofs.Opened.{went_fit}
 use Rattle.bw_world.proofs.Posted.{post_refused, post_last, post_failed, post_exited, post_shown}
 use Rattle.bw_world.proofs.Refused.{names_of_refused}
 use Rattle.bw_world.proofs.Standing.{stayed, paged, failure_is_reply}
-use Rattle.bw_world.proofs.world.World.post.Goals as goal
+use Rattle.bw_world.proofs.state.State.post.Goals as goal
 
 pub returns-in-Some-clause-step : goal.returns-in-Some-clause-step
 returns-in-Some-clause-step g c s e ls h =

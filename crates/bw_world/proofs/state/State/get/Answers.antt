@@ -4,7 +4,7 @@ use Rattle.bw_world.specs.Kept.{IsSuspended}
 use Rattle.bw_world.specs.Seen.{Seen, found}
 use Rattle.bw_world.proofs.Keeping.{looked}
 use Rattle.bw_world.proofs.Live.{found_it, found_other, found_none}
-use Rattle.bw_world.proofs.world.World.get.Goals as goal
+use Rattle.bw_world.proofs.state.State.get.Goals as goal
 
 pub returns-in_err-one-clause-found : goal.returns-in_err-one-clause-found
 returns-in_err-one-clause-found c =

@@ -2,7 +2,7 @@ use Rattle.std.proofs.Common.{sym, subst}
 use Rattle.bw_run.specs.Fit.{AreShared}
 use Rattle.bw_world.specs.Seen.{Seen}
 use Rattle.bw_world.proofs.Keeping.{kept_shared}
-use Rattle.bw_world.proofs.world.World.pass.Goals as goal
+use Rattle.bw_world.proofs.state.State.pass.Goals as goal
 
 pub invariant_of-self : goal.invariant_of-self
 invariant_of-self c =

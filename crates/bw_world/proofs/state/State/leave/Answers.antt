@@ -1,7 +1,7 @@
 use Rattle.std.proofs.Common.{refl}
 use Rattle.bw_world.specs.Seen.{Seen}
 use Rattle.bw_world.proofs.Keeping.{keeps_others}
-use Rattle.bw_world.proofs.world.World.leave.Goals as goal
+use Rattle.bw_world.proofs.state.State.leave.Goals as goal
 
 pub invariant_of-self : goal.invariant_of-self
 invariant_of-self c =
