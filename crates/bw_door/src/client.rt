@@ -187,11 +187,11 @@ impl<S: Read> Client<S> {
 }
 
 impl Client<TcpStream> {
-    /// Changes of its stream are told from now on, under a token of this place. It says whether they are.
+    /// It is told from now on when there may be more to read, under a token of this place. It says whether it is.
     pub(crate) fn watch(&mut self, registry: &Registry, token: usize) -> bool
         ensures stream { self.new.socket.stream ≡ self.old.socket.stream }
         ensures inbox { self.new.inbox ≡ self.old.inbox }
     {
-        self.socket.watch(registry, token)
+        self.socket.watch(registry, token, false)
     }
 }

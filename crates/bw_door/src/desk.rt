@@ -7,7 +7,6 @@ use crate::leaving::{Leaving, Went};
 use crate::limits::Limits;
 use crate::settles::Settles;
 use mio::Registry;
-use mio::event::Event;
 use mio::net::TcpStream;
 use std::alloc::{AllocError, Global};
 use std::mem;
@@ -134,30 +133,19 @@ impl<W: Settles> Desk<W> {
         }
     }
 
-    /// Sees to the client of which a change is told. One that waits for its message is read from only where there may be
-    /// something to read.
+    /// Sees to the client of a token, of which a change is told.
     pub(crate) fn see_to(
         &mut self,
         crowd: &mut Crowd<TcpStream, W>,
-        change: &Event,
+        token: usize,
         registry: &Registry,
     )
         ensures { crowd.new.out ≡ crowd.old.out }
     {
-        let token = change.token().0;
         if let Some(client) = crowd.take_waiting(token) {
-            if is_only_writable(change) {
-                crowd.put_waiting(client);
-            } else {
-                self.hear(crowd, client, registry);
-            }
+            self.hear(crowd, client, registry);
         } else if let Some(leaving) = crowd.take_leaving(token) {
             self.see_off(crowd, leaving, registry);
         }
     }
-}
-
-/// Whether the change is that bytes may be written, and no other.
-fn is_only_writable(change: &Event) -> bool {
-    !change.is_readable() && !change.is_read_closed() && !change.is_error()
 }

@@ -217,11 +217,11 @@ impl<S: Peer> Leaving<S> {
 }
 
 impl Leaving<TcpStream> {
-    /// Changes of its stream are told from now on, under a token of this place. It says whether they are.
+    /// It is told from now on when there is more to do, under a token of this place. It says whether it is.
     pub(crate) fn watch(&mut self, registry: &Registry, token: usize) -> bool
         ensures stream { self.new.socket.stream ≡ self.old.socket.stream }
         ensures reply { (self.new.reply ≡ self.old.reply) × (self.new.count ≡ self.old.count) }
     {
-        self.socket.watch(registry, token)
+        self.socket.watch(registry, token, !self.told)
     }
 }

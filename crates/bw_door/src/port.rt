@@ -109,10 +109,9 @@ impl Port {
     {
         let mut come = false;
         'changes: for change in changes.iter() {
-            if change.token().0 == LISTENER {
-                come = true;
-            } else {
-                desk.see_to(crowd, change, self.registry());
+            match change.token().0 {
+                LISTENER => come = true,
+                token => desk.see_to(crowd, token, self.registry()),
             }
         }
         come

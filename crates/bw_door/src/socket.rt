@@ -17,6 +17,15 @@ pub(crate) fn token_of(number: usize, place: usize) -> usize {
     number.wrapping_mul(PLACES).wrapping_add(place)
 }
 
+/// Whether bytes may be read, and if asked for whether bytes may be written.
+fn interest_in(writes: bool) -> Interest {
+    if writes {
+        Interest::READABLE | Interest::WRITABLE
+    } else {
+        Interest::READABLE
+    }
+}
+
 /// The stream of a client.
 #[derive(Drop)]
 pub(crate) struct Socket<S> {
@@ -24,6 +33,9 @@ pub(crate) struct Socket<S> {
 
     /// What changes of the stream are told under, if they are.
     token: Option<usize>,
+
+    /// It is told as well when bytes may be written.
+    writes: bool,
 }
 
 impl<S> Socket<S> {
@@ -34,6 +46,7 @@ impl<S> Socket<S> {
         Socket {
             stream,
             token: None,
+            writes: false,
         }
     }
 
@@ -57,22 +70,23 @@ impl<S> Socket<S> {
 }
 
 impl Socket<TcpStream> {
-    /// Changes are told from now on under a token of the same place as this one. It says whether they are.
-    pub(crate) fn watch(&mut self, registry: &Registry, token: usize) -> bool
+    /// It is told from now on when bytes may be read, and if asked for when bytes may be written, under a token of the same
+    /// place as this one. It says whether it is.
+    pub(crate) fn watch(&mut self, registry: &Registry, token: usize, writes: bool) -> bool
         ensures { self.new.stream ≡ self.old.stream }
     {
-        let both = Interest::READABLE | Interest::WRITABLE;
+        let interest = interest_in(writes);
         let told = match self.token {
-            Some(known) if place_of(known) == place_of(token) => return true,
-            Some(_) => registry.reregister(&mut self.stream, Token(token), both),
-            None => registry.register(&mut self.stream, Token(token), both),
+            Some(known) if place_of(known) == place_of(token) && (self.writes || !writes) =>
+                return true,
+            Some(_) => registry.reregister(&mut self.stream, Token(token), interest),
+            None => registry.register(&mut self.stream, Token(token), interest),
         };
-        match told {
-            Ok(()) => {
-                self.token = Some(token);
-                true
-            }
-            Err(_) => false,
+        if told.is_err() {
+            return false;
         }
+        self.token = Some(token);
+        self.writes = writes;
+        true
     }
 }
