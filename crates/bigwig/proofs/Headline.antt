@@ -40,8 +40,8 @@ use Rattle.bw_lang.proofs.Small.{readable_is_woven}
 use Rattle.bw_model.specs.Laws.{is_page}
 use Rattle.bw_model.specs.Runs.{At, Turn, Turns, Run, answer_of}
 use Rattle.bw_model.specs.Runs.Turn.{request, no_memory}
-use Rattle.bw_model.specs.Sessions.{World, empty}
-use Rattle.bw_model.specs.Steps.{Step, step}
+use Rattle.bw_model.specs.Sessions.{empty}
+use Rattle.bw_model.specs.Steps.{Step}
 use Rattle.bw_model.proofs.Quiet.{others_change_nothing}
 use Rattle.bw_out.specs.Causes.{Shows}
 use Rattle.bw_out.specs.Doors.{Returned}
@@ -53,11 +53,10 @@ use Rattle.bw_types.specs.Faults.{IsWellTyped}
 use Rattle.bw_types.specs.Typing.{IsTypedService}
 use Rattle.bw_types.proofs.WellTyped.{typed}
 use Rattle.bigwig.specs.Asked.{Ruled, Work, accepted_file, asked, schema, work}
-use Rattle.bigwig.specs.Asked.Work.{prints, replays, serves}
 use Rattle.bigwig.specs.Commands.{command_of}
 use Rattle.bigwig.specs.Headline.{AreAnswered, AreRight, Headline, IsAnswer, IsAnswered, IsReplay, IsServe, IsServiceOf, rules_text}
 use Rattle.bigwig.specs.Headline.IsAnswered.{whole, broken, unread}
-use Rattle.bigwig.specs.Outcomes.{AreServed, Between, Comes, IsDone, IsReplayed, IsServed, IsServing, IsStreamed, Outside, begins, status_of}
+use Rattle.bigwig.specs.Outcomes.{AreServed, Between, Comes, IsDone, IsReplayed, IsServing, IsStreamed, Outside, begins, status_of}
 use Rattle.bigwig.specs.Outcomes.Comes.{said, done, read_fault, no_memory as no_room}
 use Rattle.bigwig.specs.Outcomes.IsServing.{no_port, no_line, links_served}
 use Rattle.bigwig.specs.declared.command.Command.{Command}

@@ -1,13 +1,11 @@
 -- The check has one report.
-use Rattle.std.proofs.Common.{◌≡◌, ◌<◌, ℕ, List, [], Option, Some, None, refl, sym, ap, ◌∙◌, arith}
+use Rattle.std.proofs.Common.{◌≡◌, ◌<◌, ℕ, List, Some, None, refl, sym, ap, ◌∙◌, arith}
 use Rattle.bw_faults.specs.declared.fault.Fault.{Fault}
 use Rattle.bw_flow.specs.Layout.{points}
-use Rattle.bw_schema.specs.declared.schema.Schema.{Schema}
 use Rattle.bw_types.specs.declared.typed.Typed.{Typed}
-use Rattle.bw_check.specs.Accepts.{Accepts, IsAccepted, IsCheckFault, KeepsLimits}
-use Rattle.bw_check.specs.declared.fault.CheckFault.{CheckFault}
+use Rattle.bw_check.specs.Accepts.{KeepsLimits}
 use Rattle.bw_check.specs.declared.fault.CheckFault.TheVariants.{Refused, TooLarge, TooMany, Memory}
-use Rattle.bw_check.specs.Laws.{IsReport, OneReport, told}
+use Rattle.bw_check.specs.Laws.{OneReport}
 use Rattle.bw_check.proofs.OneAnswer.{one_list, accepted_has_none}
 
 -- a service that keeps its limits is not refused for one of them
