@@ -170,6 +170,8 @@ impl<S: Peer> Leaving<S> {
     /// reset (RFC 9112, section 9.6).
     pub(crate) fn go_on(&mut self, room: &mut [u8], now: u64) -> Went
         requires { 0 < length room.old }
+        ensures kept { result ≡ Went.Waits → Keeps (sent_to (S.contents self.old.socket.stream) self.old.count self.old.reply.items) (sent_to (S.contents self.new.socket.stream) self.new.count self.new.reply.items) }
+        ensures reply { self.new.reply ≡ self.old.reply }
     {
         if !self.told {
             if let Went::Over = self.send(now) {
@@ -195,9 +197,12 @@ impl<S: Peer> Leaving<S> {
     /// Drops what the client still sends.
     fn drop_rest(&mut self, room: &mut [u8]) -> Went
         requires { 0 < length room.old }
+        ensures kept { Keeps (S.contents self.old.socket.stream) (S.contents self.new.socket.stream) }
+        ensures reply { self.new.reply ≡ self.old.reply }
+        ensures count { self.new.count ≡ self.old.count }
     {
-        for _turn in 0..=DROPPED_BYTES {
-            match self.socket.stream.read(room) {
+        'reads: for _turn in 0..=DROPPED_BYTES {
+            match self.socket.stream.skip(room) {
                 Ok(0) => return Went::Over,
                 Ok(count) => {
                     self.dropped = self.dropped.saturating_add(count);
