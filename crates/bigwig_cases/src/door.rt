@@ -68,7 +68,13 @@ impl<'a> Door for CaseDoor<'a> {
             self.faults = self.faults.saturating_add(1);
             return Err(Failed);
         }
-        self.door.listen(port)
+        match self.door.listen(port) {
+            Ok(()) => Ok(()),
+            Err(Failed) => {
+                self.faults = self.faults.saturating_add(1);
+                Err(Failed)
+            }
+        }
     }
 
     fn next(&mut self) -> Result<Option<MemLink<'a>>, Failed> {
