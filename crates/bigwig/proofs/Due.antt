@@ -7,8 +7,8 @@ use Rattle.bigwig.specs.Asked.Work.{prints, replays, serves}
 use Rattle.bigwig.specs.Commands.{command_of}
 use Rattle.bigwig.specs.Laws.{IsAcceptedFile, CheckIsDone, IsValidFile, ValidIsDone, Due, IsFree}
 use Rattle.bigwig.specs.Laws.{SomeStatusIsDue, OneStatusIsDue, ComesWhereDue, DoesItsWork, DoorFaultsServe}
-use Rattle.bw_answer.specs.declared.ends.StreamEnd.{StreamEnd}
-use Rattle.bw_answer.specs.declared.ends.StreamEnd.TheVariants as ends
+use Rattle.bw_world.specs.declared.ends.StreamEnd.{StreamEnd}
+use Rattle.bw_world.specs.declared.ends.StreamEnd.TheVariants as ends
 use Rattle.bigwig.specs.Outcomes.{Outside, IsDone, IsSaid, IsServing, status_of}
 use Rattle.bigwig.specs.Outcomes.Comes.{said, done, read_fault, no_memory}
 use Rattle.bigwig.specs.Outcomes.IsServing.{no_port, no_line, links_served}

@@ -29,10 +29,10 @@ use Rattle.std.proofs.Common.{
   length-append,
 }
 use Rattle.std.specs.Io.KnownBytes.{Appends}
-use Rattle.bw_answer.specs.Courses.{Course, IsBroken, bytes_by}
-use Rattle.bw_answer.specs.declared.ends.StreamEnd.{StreamEnd}
-use Rattle.bw_answer.specs.declared.ends.StreamEnd.TheVariants as ends
-use Rattle.bw_answer.proofs.Streams.{answer_then}
+use Rattle.bw_world.specs.Streams.Courses.{Course, IsBroken, bytes_by}
+use Rattle.bw_world.specs.declared.ends.StreamEnd.{StreamEnd}
+use Rattle.bw_world.specs.declared.ends.StreamEnd.TheVariants as ends
+use Rattle.bw_world.proofs.Streams.Streams.{answer_then}
 use Rattle.bw_http.specs.declared.replies.Reply.{Reply}
 use Rattle.bw_lang.specs.Service.Reads.{Reads}
 use Rattle.bw_lang.specs.declared.service.Service.{Service}

@@ -25,11 +25,11 @@ use Rattle.std.proofs.Common.{
   append_assoc,
   length-append,
 }
-use Rattle.bw_answer.specs.Answers.{Place, IsAt, Answers}
-use Rattle.bw_answer.specs.Courses.{Course}
-use Rattle.bw_answer.specs.Good.{RepliesAreGood}
-use Rattle.bw_answer.specs.declared.ends.StreamEnd.{StreamEnd}
-use Rattle.bw_answer.specs.declared.ends.StreamEnd.TheVariants as ends
+use Rattle.bw_world.specs.Streams.Answers.{Place, IsAt, Answers}
+use Rattle.bw_world.specs.Streams.Courses.{Course}
+use Rattle.bw_world.specs.Streams.Good.{RepliesAreGood}
+use Rattle.bw_world.specs.declared.ends.StreamEnd.{StreamEnd}
+use Rattle.bw_world.specs.declared.ends.StreamEnd.TheVariants as ends
 use Rattle.bw_check.specs.Accepts.{Accepts}
 use Rattle.bw_model.specs.Runs.{At}
 use Rattle.bw_model.specs.Sessions.{World}

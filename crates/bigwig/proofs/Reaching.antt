@@ -1,8 +1,8 @@
 -- The world behind a stream that was answered is sound, where the one before it is.
 use Rattle.std.proofs.Common.{◌≡◌, ◌⊎◌, ◌<◌, ℕ, List, [], length, Option, refl, sym, subst, inl, inr}
-use Rattle.bw_answer.specs.Courses.{Course}
-use Rattle.bw_answer.specs.declared.ends.StreamEnd.{StreamEnd}
-use Rattle.bw_answer.specs.declared.ends.StreamEnd.TheVariants.{Ended, ReadFault, WriteFault}
+use Rattle.bw_world.specs.Streams.Courses.{Course}
+use Rattle.bw_world.specs.declared.ends.StreamEnd.{StreamEnd}
+use Rattle.bw_world.specs.declared.ends.StreamEnd.TheVariants.{Ended, ReadFault, WriteFault}
 use Rattle.bw_check.specs.Accepts.{Accepts}
 use Rattle.bw_http.specs.declared.replies.Reply.{Reply}
 use Rattle.bw_lang.specs.declared.service.Service.{Service}

@@ -1,9 +1,9 @@
 -- Streams that are answered by an accepted service: the requests of a file, and the links of a port.
 use Rattle.std.specs.Io.KnownBytes.{Appends}
 use Rattle.std.proofs.Common.{◌≡◌, ◌⊎◌, ℕ, List, [], ◌++◌, Option, None, Some, IfSome, refl, sym, ap, ◌∙◌, subst, inl, inr}
-use Rattle.bw_answer.specs.Answers.{Place, IsAt, Answers}
-use Rattle.bw_answer.specs.Good.{RepliesAreGood}
-use Rattle.bw_answer.specs.declared.ends.StreamEnd.{StreamEnd}
+use Rattle.bw_world.specs.Streams.Answers.{Place, IsAt, Answers}
+use Rattle.bw_world.specs.Streams.Good.{RepliesAreGood}
+use Rattle.bw_world.specs.declared.ends.StreamEnd.{StreamEnd}
 use Rattle.bw_check.specs.Accepts.{Accepts}
 use Rattle.bw_lang.specs.declared.service.Service.{Service}
 use Rattle.bw_model.specs.Runs.{At}

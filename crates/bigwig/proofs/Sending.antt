@@ -30,9 +30,6 @@ use Rattle.std.proofs.Common.{
   decimal,
 }
 use Rattle.std.specs.List.{range_with_len}
-use Rattle.std.proofs.lemmas.Fmt.{IsAscii-decimal}
-use Rattle.std.proofs.lemmas.Str.{IsUtf8-from_ascii}
-use Rattle.bw_http.specs.Forms.{IsTextForm}
 use Rattle.bw_http.specs.declared.replies.Reply.{Reply}
 use Rattle.bw_http.specs.declared.replies.Reply.TheVariants as replies
 use Rattle.bw_http.specs.declared.request.Request.{Request}
@@ -64,14 +61,6 @@ end_sent old new reply a b n s e some (inr t) = (e ∙ ap page_length t.reply, t
 pub one_sent : (old new : Seen) (request : Request) (reply : Reply) (a b n : ℕ) → n ≡ page_length reply → (reply ≡ replies.Memory → ⊥)
     → Handles old new reply a b (λ m. step old.service m request 0) → IsSent old new request n
 one_sent old new request reply a b n e some handles m stands = end_sent old new reply a b n (step old.service m request 0) e some (handles m stands)
-
--- what is sent is in UTF-8
-pub first_is_text : (r : Request) → r ≡ first_request → IsTextForm r.form
-first_is_text r e = subst (λ (x : Request). IsTextForm x.form) (sym e) tt
-
-pub next_is_text : (r : Request) (turn : ℕ) → turn < 2 ^ 64 → r ≡ next_request turn → IsTextForm r.form
-next_is_text r turn small e =
-    subst (λ (x : Request). IsTextForm x.form) (sym e) (IsUtf8-from_ascii (decimal turn) (IsAscii-decimal turn small), tt)
 
 -- ---- one after another
 

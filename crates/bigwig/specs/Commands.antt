@@ -7,6 +7,8 @@ use Rattle.bigwig.specs.Words.{Written, bigwig, written_by}
 use Rattle.bigwig.specs.declared.command.Command.{Command}
 use Rattle.bigwig.specs.declared.command.Command.TheVariants.{Check, Replay, Serve, Valid, Make}
 use Rattle.bigwig.specs.declared.command.Judging.{Judging}
+use Rattle.bigwig.specs.declared.command.TheConstants.{DEFAULT_PORT, MAX_LINKS, MAX_PORT, MAX_REQUESTS, MAX_WORKERS}
+use Rattle.bw_make.specs.declared.TheConstants.{MAX_PAGES}
 
 -- what a service is judged by: the schema that is named, if one is, and by how many workers
 abbrev pub judging_of : Option (List ℕ) → Option ℕ → Option Judging
@@ -14,7 +16,7 @@ judging_of schema (Some workers) = Some (record { schema = schema; workers = wor
 judging_of schema None = None
 
 abbrev pub judging_by : Written → Option Judging
-judging_by w = judging_of w.schema (number_or 1 16 1 w.workers)
+judging_by w = judging_of w.schema (number_or 1 MAX_WORKERS 1 w.workers)
 
 -- no option is there but the schema and the workers
 abbrev pub has_judging_alone : Written → Bool
@@ -34,7 +36,8 @@ replay_of (Some service) (Some requests) (Some judging) (Some most) = Some (Repl
 replay_of service requests judging most = None
 
 abbrev pub replay_by : Written → Option Command
-replay_by w = if is_none w.port then replay_of w.first w.second (judging_by w) (number_or 1 1000000 1000000 w.limit) else None
+replay_by w =
+    if is_none w.port then replay_of w.first w.second (judging_by w) (number_or 1 MAX_REQUESTS MAX_REQUESTS w.limit) else None
 
 -- serve SERVICE
 abbrev pub serve_of : Option (List ℕ) → Option (List ℕ) → Option Judging → Option ℕ → Option ℕ → Option Command
@@ -42,7 +45,7 @@ serve_of (Some service) None (Some judging) (Some port) (Some most) = Some (Serv
 serve_of service second judging port most = None
 
 abbrev pub serve_by : Written → Option Command
-serve_by w = serve_of w.first w.second (judging_by w) (number_or 1 65535 8080 w.port) (number_or 1 1000000 1000000 w.limit)
+serve_by w = serve_of w.first w.second (judging_by w) (number_or 1 MAX_PORT DEFAULT_PORT w.port) (number_or 1 MAX_LINKS MAX_LINKS w.limit)
 
 -- no option is there but the schema
 abbrev pub has_schema_alone : Written → Bool
@@ -68,10 +71,10 @@ make_of count second workers = None
 -- the number that the word is, if it is there
 abbrev pub count_of : Option (List ℕ) → Option ℕ
 count_of None = None
-count_of (Some t) = number_in 1 250 t
+count_of (Some t) = number_in 1 MAX_PAGES t
 
 abbrev pub make_by : Written → Option Command
-make_by w = if has_workers_alone w then make_of (count_of w.first) w.second (number_or 1 16 1 w.workers) else None
+make_by w = if has_workers_alone w then make_of (count_of w.first) w.second (number_or 1 MAX_WORKERS 1 w.workers) else None
 
 -- the command of this name
 abbrev pub named_by : Option (List ℕ) → Written → Option Command
@@ -100,7 +103,7 @@ command_of words = unless_fault (fault_of bigwig words) (command_by (written_by 
 
 -- from 1 to 16 workers
 abbrev pub AreWorkers : ℕ → Type 0
-AreWorkers n = (1 ≤ n) × (n ≤ 16)
+AreWorkers n = (1 ≤ n) × (n ≤ MAX_WORKERS)
 
 -- the command's numbers are within their ranges
 abbrev pub IsInRange : Command → Type 0
@@ -108,4 +111,4 @@ IsInRange (Check service judging) = AreWorkers judging.workers
 IsInRange (Replay service requests judging most) = AreWorkers judging.workers
 IsInRange (Serve service judging port most) = AreWorkers judging.workers
 IsInRange (Valid page schema) = ⊤
-IsInRange (Make count workers) = (1 ≤ count) × (count ≤ 250) × AreWorkers workers
+IsInRange (Make count workers) = (1 ≤ count) × (count ≤ MAX_PAGES) × AreWorkers workers

@@ -8,9 +8,9 @@ use Rattle.bw_out.specs.Causes.{Shows}
 use Rattle.bw_out.specs.Doors.{Returned, Asks, MayAsk}
 use Rattle.bw_out.specs.Told.{Coming}
 use Rattle.bw_out.specs.Writes.{AppendsPart}
-use Rattle.bw_answer.specs.Courses.{AreLeft, Course}
-use Rattle.bw_answer.specs.declared.ends.StreamEnd.{StreamEnd}
-use Rattle.bw_answer.specs.declared.ends.StreamEnd.TheVariants as ends
+use Rattle.bw_world.specs.Streams.Courses.{AreLeft, Course}
+use Rattle.bw_world.specs.declared.ends.StreamEnd.{StreamEnd}
+use Rattle.bw_world.specs.declared.ends.StreamEnd.TheVariants as ends
 use Rattle.bw_sound.specs.Good.{AreGood}
 use Rattle.bigwig.specs.Asked.{Ruled, Work}
 use Rattle.bigwig.specs.Asked.Work.{prints, replays, serves}

@@ -3,29 +3,28 @@ ghost use Rattle.std.specs.Prelude.{◌≡◌, None, Some, IfOk, IfErr, IsErrOf}
 ghost use Rattle.bigwig.specs.Commands as spec;
 ghost use Rattle.bigwig.specs.Numbers.{number_or};
 ghost use Rattle.bigwig.specs.Words as words;
+ghost use Rattle.bigwig.specs.declared.command.TheConstants.{DEFAULT_PORT, MAX_PORT};
 
 use crate::numbers::{number_in, number_or};
 use crate::words::{Line, WordsFault, read_line, texts_of};
 use bw_lang::{Memory, Text, Words};
+use bw_make::MAX_PAGES;
 use std::alloc::Global;
 
 /// The greatest number of requests that are answered.
-const REQUESTS_MOST: u32 = 1_000_000;
+pub const MAX_REQUESTS: u32 = 1_000_000;
 
 /// The greatest number of links that are served.
-const LINKS_MOST: u32 = 1_000_000;
+pub const MAX_LINKS: u32 = 1_000_000;
 
 /// The greatest number of a port.
-const PORT_MOST: u32 = 65_535;
+pub const MAX_PORT: u32 = 65_535;
 
 /// The port that is served where none is named.
-const PORT: u16 = 8080;
+pub const DEFAULT_PORT: u16 = 8080;
 
 /// The greatest number of workers.
-const WORKERS_MOST: u32 = 16;
-
-/// The greatest number of pages of a made service.
-const PAGES_MOST: u32 = 250;
+pub const MAX_WORKERS: u32 = 16;
 
 /// What a service is judged by.
 #[derive(Debug, Drop)]
@@ -144,7 +143,7 @@ fn judging_by(alloc: Global, line: &Line<'_>) -> Result<Judging, WordsFault>
     ensures ok { IfOk result (λ j. (spec.judging_by (words.line_of line.now) ≡ Some j) × spec.AreWorkers j.workers) }
     ensures refused { IsErrOf result WordsFault.Refused → spec.judging_by (words.line_of line.now) ≡ None }
 {
-    let workers = number_or(1, WORKERS_MOST, 1, line.workers).ok_or(WordsFault::Refused)?;
+    let workers = number_or(1, MAX_WORKERS, 1, line.workers).ok_or(WordsFault::Refused)?;
     let schema = owned_option(alloc, line.schema)?;
     Ok(Judging { schema, workers })
 }
@@ -175,7 +174,7 @@ fn replay_by(alloc: Global, line: &Line<'_>) -> Result<Command, WordsFault>
     }
     let service = line.first.ok_or(WordsFault::Refused)?;
     let requests = line.second.ok_or(WordsFault::Refused)?;
-    let most = number_or(1, REQUESTS_MOST, REQUESTS_MOST, line.limit).ok_or(WordsFault::Refused)?;
+    let most = number_or(1, MAX_REQUESTS, MAX_REQUESTS, line.limit).ok_or(WordsFault::Refused)?;
     let judging = judging_by(alloc, line)?;
     Ok(Command::Replay {
         service: owned(alloc, service)?,
@@ -195,7 +194,7 @@ fn serve_by(alloc: Global, line: &Line<'_>) -> Result<Command, WordsFault>
     }
     let service = line.first.ok_or(WordsFault::Refused)?;
     let port = port_of(line.port).ok_or(WordsFault::Refused)?;
-    let most = number_or(1, LINKS_MOST, LINKS_MOST, line.limit).ok_or(WordsFault::Refused)?;
+    let most = number_or(1, MAX_LINKS, MAX_LINKS, line.limit).ok_or(WordsFault::Refused)?;
     let judging = judging_by(alloc, line)?;
     Ok(Command::Serve {
         service: owned(alloc, service)?,
@@ -207,11 +206,11 @@ fn serve_by(alloc: Global, line: &Line<'_>) -> Result<Command, WordsFault>
 
 /// The port that is named, and 8080 where none is.
 fn port_of(text: Option<&str>) -> Option<u16>
-    ensures { result ≡ number_or 1 65535 8080 (words.text_of text.entry) }
+    ensures { result ≡ number_or 1 MAX_PORT DEFAULT_PORT (words.text_of text.entry) }
 {
     match text {
-        None => Some(PORT),
-        Some(text) => match number_in(1, PORT_MOST, text) {
+        None => Some(DEFAULT_PORT),
+        Some(text) => match number_in(1, MAX_PORT, text) {
             Some(port) => Some(port as u16),
             None => None,
         },
@@ -250,7 +249,7 @@ fn make_by(line: &Line<'_>) -> Result<Command, WordsFault>
         return Err(WordsFault::Refused);
     }
     let count = line.first.ok_or(WordsFault::Refused)?;
-    let count = number_in(1, PAGES_MOST, count).ok_or(WordsFault::Refused)?;
-    let workers = number_or(1, WORKERS_MOST, 1, line.workers).ok_or(WordsFault::Refused)?;
+    let count = number_in(1, MAX_PAGES, count).ok_or(WordsFault::Refused)?;
+    let workers = number_or(1, MAX_WORKERS, 1, line.workers).ok_or(WordsFault::Refused)?;
     Ok(Command::Make { count, workers })
 }

@@ -14,13 +14,13 @@ use crate::status::Refusal;
 use crate::stop::Stop;
 use bw_lang::{Text, Tree};
 use bw_out::Files;
-use bw_read::{PageFault, read_page};
+use bw_read::{MAX_PAGE_BYTES, PageFault, read_page};
 use bw_schema::Schema;
 use bw_valid::valid;
 use std::alloc::Global;
 
 /// One byte more than a page file may have.
-const PAGE_FRONT: usize = 4_195_329;
+const PAGE_FRONT: usize = MAX_PAGE_BYTES + 1;
 
 /// That a page is valid, by the schema of a file or by the built-in one.
 pub fn load_valid<F: Files>(

@@ -11,6 +11,7 @@ ghost use Rattle.bigwig.specs.declared.status.Refusal.TheVariants as refusals;
 use crate::lines::{no_file_line, syntax_line, type_line};
 use crate::status::Refusal;
 use crate::stop::Stop;
+use bw_lang::limits::MAX_FILE_BYTES;
 use bw_lang::{Memory, Service};
 use bw_out::{Failed, Files, ReadStop, read_up_to};
 use bw_syntax::read_service;
@@ -18,7 +19,7 @@ use bw_types::{Typed, resolve};
 use std::alloc::Global;
 
 /// One byte more than a service file may have.
-const SERVICE_FRONT: usize = 1_048_577;
+const SERVICE_FRONT: usize = MAX_FILE_BYTES + 1;
 
 /// That this is refused, or isn't there, with the line that says why.
 pub fn refused(refusal: Refusal, line: Result<Vec<u8>, Memory>) -> Stop

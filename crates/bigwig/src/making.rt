@@ -1,6 +1,5 @@
 //! `make`: a made service, its check and its turns.
 ghost use Rattle.std.specs.Prelude.{◌≡◌, ◌≢◌, ◌≤◌, ◌<◌, ◌++◌, IfOk, IsErrOf, OnOk};
-ghost use Rattle.bw_http.specs.Forms.{IsTextForm};
 ghost use Rattle.bw_model.specs.Sessions.{empty};
 ghost use Rattle.bw_out.specs.Causes.{Shows};
 ghost use Rattle.bw_world.specs.Stands.{StandsFor};
@@ -10,6 +9,7 @@ ghost use Rattle.bigwig.specs.Commands.{AreWorkers};
 ghost use Rattle.bigwig.specs.Making as spec;
 ghost use Rattle.bigwig.specs.Outcomes.{Speaks};
 ghost use Rattle.bigwig.specs.Questions.{IsAnswer, line};
+ghost use Rattle.bw_make.specs.declared.TheConstants.{MAX_PAGES};
 
 use crate::checking::made_checked;
 use crate::report::{print_text, report};
@@ -36,7 +36,7 @@ pub fn make_command<R: Threads + Sync, W: Sink, P: Pulse>(
     out: &mut W,
     pulse: &P,
 ) -> Status
-    requires count { (1 ≤ count) × (count ≤ 250) }
+    requires count { (1 ≤ count) × (count ≤ MAX_PAGES) }
     requires workers { AreWorkers workers }
     ensures comes { Speaks (made_work count) (W.held out.old) (W.held out.new) result }
     ensures others { (result ≢ Status.Usage) × ((result ≢ Status.ReadFault) × (result ≢ Status.DoorFault)) }
@@ -56,7 +56,7 @@ fn made_text<R: Threads + Sync, P: Pulse>(
     workers: u32,
     pulse: &P,
 ) -> Result<Vec<u8>, Stop>
-    requires count { (1 ≤ count) × (count ≤ 250) }
+    requires count { (1 ≤ count) × (count ≤ MAX_PAGES) }
     requires workers { AreWorkers workers }
     ensures answers { IsAnswer (λ text. prints text.items) (made_work count) result }
     ensures no_read { IsErrOf result Stop.ReadFault → ⊥ }
@@ -80,7 +80,7 @@ fn turns<L: Ledger>(
     length: usize,
     blank: Blank,
 ) -> Result<Vec<u8>, Memory>
-    requires count { count ≤ 250 }
+    requires count { count ≤ MAX_PAGES }
     requires name { blank.name ≡ L.name }
     requires parts { blank.parts ≡ L.parts }
     requires some { 0 < blank.parts }
@@ -104,7 +104,7 @@ fn send<L: Ledger>(
     count: u32,
     steps: &mut Steps<L>,
 ) -> Result<u128, Memory>
-    requires count { count ≤ 250 }
+    requires count { count ≤ MAX_PAGES }
     requires stands { StandsFor world.old (empty world.old.service) }
     ensures { IfOk result (λ sent. sent ≡ spec.sent world.old.service (empty world.old.service) (spec.requests count)) }
 {
@@ -124,7 +124,6 @@ fn send_one<L: Ledger>(
     request: &Request,
     steps: &mut Steps<L>,
 ) -> Result<u64, Memory>
-    requires { IsTextForm request.now.form }
     ensures sent { IfOk result (spec.IsSent world.old world.new request.now) }
     ensures service { world.new.service ≡ world.old.service }
 {

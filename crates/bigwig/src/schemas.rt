@@ -11,11 +11,11 @@ use crate::status::Refusal;
 use crate::stop::Stop;
 use bw_lang::{Memory, Text};
 use bw_out::Files;
-use bw_schema::{Schema, built_in, read_schema};
+use bw_schema::{MAX_SCHEMA_BYTES, Schema, built_in, read_schema};
 use std::alloc::Global;
 
 /// One byte more than a schema file may have.
-const SCHEMA_FRONT: usize = 1_048_577;
+const SCHEMA_FRONT: usize = MAX_SCHEMA_BYTES + 1;
 
 /// The built-in schema.
 pub fn default_schema(alloc: Global) -> Result<Schema, Stop>

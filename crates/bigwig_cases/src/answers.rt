@@ -1,11 +1,10 @@
 //! Answers to links over a world, and what is said of them.
 
 use crate::links::CaseLink;
-use bw_answer::{StreamEnd, answer};
 use bw_http::Intake;
 use bw_lang::Memory;
 use bw_out::{MemKeys, MemLink, Steps};
-use bw_world::World;
+use bw_world::{StreamEnd, World, answer};
 use case_files::{Fault, escaped, put_line};
 use std::alloc::{AllocError, Global};
 use std::sync::ledger::Ledger;

@@ -10,6 +10,7 @@ use Rattle.bw_analyse.specs.declared.fault.AnalyseFault.TheVariants.{TooLarge, M
 use Rattle.bw_analyse.specs.Abstracts.{is_below, size_of}
 use Rattle.bw_analyse.specs.Rounds.{empty, round}
 use Rattle.bw_analyse.specs.Rows.{each_below, all_sizes}
+use Rattle.bw_analyse.specs.declared.analysis.TheConstants.{MAX_MEMBERS}
 
 -- the points of a service
 abbrev pub flow_of : Service → List Step
@@ -29,5 +30,5 @@ IsTooLarge service limit = IsOver (all_sizes size_of) (rows service) (empty serv
 
 -- when each fault comes: so many members, more than 2,000,000; want of memory is free
 abbrev pub IsFault : Service → AnalyseFault → Type 0
-IsFault service (TooLarge count) = (2000000 < count) × IsTooLarge service 2000000
+IsFault service (TooLarge count) = (MAX_MEMBERS < count) × IsTooLarge service MAX_MEMBERS
 IsFault service Memory = Unit {0}

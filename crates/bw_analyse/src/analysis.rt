@@ -4,6 +4,7 @@ ghost use Rattle.bw_flow.specs.Layout.{plan_of};
 ghost use Rattle.bw_analyse.specs.Facts.{AreFacts};
 ghost use Rattle.bw_analyse.specs.Least.{IsTooLarge, IsFault};
 ghost use Rattle.bw_analyse.specs.Solutions.{IsSolution};
+ghost use Rattle.bw_analyse.specs.declared.analysis.TheConstants.{MAX_MEMBERS};
 
 use crate::equations::Equations;
 use crate::facts::Facts;
@@ -23,7 +24,7 @@ pub const MAX_MEMBERS: u64 = 2_000_000;
 /// The least solution of a system, where it isn't too large.
 fn least(alloc: Global, equations: &Equations<'_, '_>) -> Result<Solution<Row>, AnalyseFault>
     ensures solution { IfOk result (IsSolution equations.now.ground.now.typed.now.service) }
-    ensures within { IfOk result (λ s. ¬ (IsTooLarge equations.now.ground.now.typed.now.service 2000000)) }
+    ensures within { IfOk result (λ s. ¬ (IsTooLarge equations.now.ground.now.typed.now.service MAX_MEMBERS)) }
     ensures fault { IfErr result (IsFault equations.now.ground.now.typed.now.service) }
 {
     match solve(alloc, equations, MAX_MEMBERS) {
@@ -36,7 +37,7 @@ fn least(alloc: Global, equations: &Equations<'_, '_>) -> Result<Solution<Row>, 
 /// The least solution of a service's system, where it isn't too large.
 fn solved(alloc: Global, ground: &Ground<'_>) -> Result<Solution<Row>, AnalyseFault>
     ensures solution { IfOk result (IsSolution ground.now.typed.now.service) }
-    ensures within { IfOk result (λ s. ¬ (IsTooLarge ground.now.typed.now.service 2000000)) }
+    ensures within { IfOk result (λ s. ¬ (IsTooLarge ground.now.typed.now.service MAX_MEMBERS)) }
     ensures fault { IfErr result (IsFault ground.now.typed.now.service) }
 {
     let equations = Equations::of(alloc, ground)?;
@@ -46,7 +47,7 @@ fn solved(alloc: Global, ground: &Ground<'_>) -> Result<Solution<Row>, AnalyseFa
 /// The facts of a service that is read by this.
 fn facts_of(alloc: Global, ground: &Ground<'_>) -> Result<Facts, AnalyseFault>
     ensures facts { IfOk result (AreFacts ground.now.typed.now.service) }
-    ensures within { IfOk result (λ f. ¬ (IsTooLarge ground.now.typed.now.service 2000000)) }
+    ensures within { IfOk result (λ f. ¬ (IsTooLarge ground.now.typed.now.service MAX_MEMBERS)) }
     ensures fault { IfErr result (IsFault ground.now.typed.now.service) }
 {
     let solution = solved(alloc, ground)?;
@@ -58,7 +59,7 @@ fn facts_of(alloc: Global, ground: &Ground<'_>) -> Result<Facts, AnalyseFault>
 pub fn analyse(alloc: Global, typed: &Typed, flow: &Flow) -> Result<Facts, AnalyseFault>
     requires { flow.now ≡ plan_of typed.now.service }
     ensures facts { IfOk result (AreFacts typed.now.service) }
-    ensures within { IfOk result (λ f. ¬ (IsTooLarge typed.now.service 2000000)) }
+    ensures within { IfOk result (λ f. ¬ (IsTooLarge typed.now.service MAX_MEMBERS)) }
     ensures fault { IfErr result (IsFault typed.now.service) }
 {
     let literals = Literals::of(alloc, typed.service())?;

@@ -8,3 +8,4 @@ pub mod Pages
 pub mod Shared
 pub mod Some
 pub mod Whole
+pub mod Within

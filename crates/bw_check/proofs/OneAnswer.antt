@@ -21,7 +21,7 @@ use Rattle.bw_sum.specs.declared.summary.Summary.{Summary}
 use Rattle.bw_sum.specs.Graph.{graph}
 use Rattle.bw_sum.specs.Templates.{template_items}
 use Rattle.bw_types.specs.declared.typed.Typed.{Typed}
-use Rattle.bw_within.proofs.OneSolution.{facts_are_one}
+use Rattle.bw_check.proofs.Within.OneSolution.{facts_are_one}
 use Rattle.bw_check.specs.Faults.{received_at, IsServiceFault}
 use Rattle.bw_check.specs.Laws.{OneList, AcceptedHasNone, HasNoneIsAccepted}
 use Rattle.bw_check.proofs.Joining.{none_listed, same_listed}

@@ -13,7 +13,7 @@ use Rattle.bw_flow.specs.Steps.{Step}
 use Rattle.bw_flow.specs.View.{act, seen}
 use Rattle.bw_lang.specs.declared.service.Service.{Service}
 use Rattle.bw_lang.specs.Service.Term.{Term}
-use Rattle.bw_within.proofs.Acts.{every}
+use Rattle.bw_check.proofs.Within.Acts.{every}
 use Rattle.bw_check.specs.Pieces.{pages_from}
 
 -- a show or an exit stands at place p behind the first i points

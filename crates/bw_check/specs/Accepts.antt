@@ -11,11 +11,13 @@ use Rattle.bw_faults.specs.Lists.{Lists}
 use Rattle.bw_flow.specs.Layout.{points}
 use Rattle.bw_lang.specs.declared.service.Service.{Service}
 use Rattle.bw_schema.specs.declared.schema.Schema.{Schema}
+use Rattle.bw_flow.specs.declared.lowering.TheConstants.{MAX_POINTS}
+use Rattle.bw_analyse.specs.declared.analysis.TheConstants.{MAX_MEMBERS}
 
 -- the service keeps the limits of the analysis: it has at most 4,096 points, and its least solution has at most 2,000,000 members
 pub record KeepsLimits (service : Service) : Type 0 where
-  pub points : points service.sessions ≤ 4096
-  pub members : ¬ (IsTooLarge service 2000000)
+  pub points : points service.sessions ≤ MAX_POINTS
+  pub members : ¬ (IsTooLarge service MAX_MEMBERS)
 
 -- these are the facts of a service that keeps its limits, and by them it has no fault
 pub record IsAccepted (service : Service) (schema : Schema) (facts : Facts) : Type 0 where
@@ -33,7 +35,7 @@ AreFaults service schema l = (facts : Facts) × AreFacts service facts × Lists 
 
 -- when each refusal comes; want of memory is free
 abbrev pub IsCheckFault : Service → Schema → CheckFault → Type 0
-IsCheckFault service schema (TooMany n) = (n ≡ points service.sessions) × (4096 < n)
-IsCheckFault service schema (TooLarge n) = (points service.sessions ≤ 4096) × (2000000 < n) × IsTooLarge service 2000000
+IsCheckFault service schema (TooMany n) = (n ≡ points service.sessions) × (MAX_POINTS < n)
+IsCheckFault service schema (TooLarge n) = (points service.sessions ≤ MAX_POINTS) × (MAX_MEMBERS < n) × IsTooLarge service MAX_MEMBERS
 IsCheckFault service schema (Refused l) = KeepsLimits service × (l ≡ [] → ⊥) × AreFaults service schema l
 IsCheckFault service schema Memory = Unit {0}

@@ -2,3 +2,4 @@ pub mod Accepts
 pub mod Faults
 pub mod Laws
 pub mod Pieces
+pub mod Within

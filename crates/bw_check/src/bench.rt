@@ -12,6 +12,7 @@ ghost use Rattle.bw_shape.specs.Outlines.{IsPageGraph, IsShape};
 ghost use Rattle.bw_strings.specs.Literals.{literals_of};
 ghost use Rattle.bw_check.specs.Faults.{IsPageFault, IsReceivedFault};
 
+use crate::laws::{pages_are_graphs, received_have_numbers};
 use bw_analyse::{Facts, page_graph};
 use bw_faults::Faults;
 use bw_fields::judge_fields;
@@ -24,7 +25,6 @@ use bw_shape::{Outline, shape};
 use bw_strings::Literals;
 use bw_sum::Summary;
 use bw_types::Typed;
-use bw_within::laws::{pages_are_graphs, received_have_numbers};
 use std::alloc::Global;
 
 /// What every piece is judged by.

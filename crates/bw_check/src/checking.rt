@@ -7,6 +7,8 @@ ghost use Rattle.bw_flow.specs.Layout.{plan_of, points};
 ghost use Rattle.bw_check.specs.Accepts.{Accepts, IsAccepted, IsCheckFault};
 ghost use Rattle.bw_check.specs.Faults.{IsServiceFault};
 ghost use Rattle.bw_schema.specs.declared.schema.Schema.{Schema};
+ghost use Rattle.bw_flow.specs.declared.lowering.TheConstants.{MAX_POINTS};
+ghost use Rattle.bw_analyse.specs.declared.analysis.TheConstants.{MAX_MEMBERS};
 
 use crate::bench::{Bench, joined};
 use crate::checked::Checked;
@@ -79,7 +81,7 @@ fn faults_of<R: Threads + Sync, P: Pulse>(
 
 /// The flow of a service, or that it has too many points.
 fn flow_of(alloc: Global, typed: &Typed) -> Result<Flow, CheckFault>
-    ensures flow { IfOk result (λ f. (f ≡ plan_of typed.now.service) × (points typed.now.service.sessions ≤ 4096)) }
+    ensures flow { IfOk result (λ f. (f ≡ plan_of typed.now.service) × (points typed.now.service.sessions ≤ MAX_POINTS)) }
     ensures fault { IfErr result (λ e. (schema : Schema) → IsCheckFault typed.now.service schema e) }
 {
     match lower(alloc, typed) {
@@ -92,9 +94,9 @@ fn flow_of(alloc: Global, typed: &Typed) -> Result<Flow, CheckFault>
 /// The facts of a service, or that they are too large.
 fn facts_of(alloc: Global, typed: &Typed, flow: &Flow) -> Result<Facts, CheckFault>
     requires lowered { flow.now ≡ plan_of typed.now.service }
-    requires few { points typed.now.service.sessions ≤ 4096 }
+    requires few { points typed.now.service.sessions ≤ MAX_POINTS }
     ensures facts { IfOk result (AreFacts typed.now.service) }
-    ensures within { IfOk result (λ f. ¬ (IsTooLarge typed.now.service 2000000)) }
+    ensures within { IfOk result (λ f. ¬ (IsTooLarge typed.now.service MAX_MEMBERS)) }
     ensures fault { IfErr result (λ e. (schema : Schema) → IsCheckFault typed.now.service schema e) }
 {
     match analyse(alloc, typed, flow) {

@@ -5,6 +5,7 @@ use Rattle.bw_lang.specs.Document.Documents.{deeper, under, here, one_if, is_hol
 use Rattle.bw_lang.specs.Document.Forest.{Forest, none, text, gap, element}
 use Rattle.bw_doc.specs.declared.spots.Spot.{Spot}
 use Rattle.bw_doc.specs.declared.spots.Open.{Open}
+use Rattle.bw_lang.specs.declared.measure.TheConstants.{MAX_NEST, MAX_OPEN_GAPS}
 
 -- nowhere
 abbrev pub nowhere : Spot
@@ -85,9 +86,9 @@ filled_open same o = record { content = unless same o.content; hole = unless sam
 
 -- no more than fit into a document within the limits
 pub record IsSmall (o : Open) : Type 0 where
-  pub count : o.content.count + o.hole.count ≤ 16384
-  pub content : unwrap_or o.content.depth 0 ≤ 500
-  pub hole : unwrap_or o.hole.depth 0 ≤ 500
+  pub count : o.content.count + o.hole.count ≤ MAX_OPEN_GAPS
+  pub content : unwrap_or o.content.depth 0 ≤ MAX_NEST
+  pub hole : unwrap_or o.hole.depth 0 ≤ MAX_NEST
 
 -- of every name
 abbrev pub AreSmall : (ℕ → Open) → Type 0

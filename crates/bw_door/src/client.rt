@@ -161,7 +161,9 @@ impl<S: Read> Client<S> {
     pub(crate) fn read<W: Settles>(&mut self, room: &mut [u8], settles: &mut W, now: u64) -> Heard
         requires some { 0 < length room.old }
         requires few { length room.old ≤ 16384 }
-        ensures kept { result ≢ Heard.Broken → Keeps (sent_by self.old.inbox.items (S.remaining self.old.socket.stream)) (sent_by self.new.inbox.items (S.remaining self.new.socket.stream)) }
+        ensures kept { result ≢ Heard.Broken → Keeps
+            (sent_by self.old.inbox.items (S.remaining self.old.socket.stream))
+            (sent_by self.new.inbox.items (S.remaining self.new.socket.stream)) }
         ensures whole { result ≡ Heard.Whole → ∥ W.settled self.new.inbox.items ∥₁ }
         ensures ended { result ≡ Heard.Ended → IsAtEnd (S.remaining self.new.socket.stream) }
     {

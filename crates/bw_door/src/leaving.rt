@@ -143,7 +143,9 @@ impl<S: Write> Leaving<S> {
     /// Sends what the client takes now. In all it gets the reply, in its order.
     fn send(&mut self, now: u64) -> Went
         requires { self.old.told ≡ false }
-        ensures kept { result ≡ Went.Waits → Keeps (sent_to (S.contents self.old.socket.stream) self.old.count self.old.reply.items) (sent_to (S.contents self.new.socket.stream) self.new.count self.new.reply.items) }
+        ensures kept { result ≡ Went.Waits → Keeps
+            (sent_to (S.contents self.old.socket.stream) self.old.count self.old.reply.items)
+            (sent_to (S.contents self.new.socket.stream) self.new.count self.new.reply.items) }
         ensures reply { self.new.reply ≡ self.old.reply }
         ensures told { self.new.told ≡ false }
     {
@@ -170,7 +172,9 @@ impl<S: Peer> Leaving<S> {
     /// reset (RFC 9112, section 9.6).
     pub(crate) fn go_on(&mut self, room: &mut [u8], now: u64) -> Went
         requires { 0 < length room.old }
-        ensures kept { result ≡ Went.Waits → Keeps (sent_to (S.contents self.old.socket.stream) self.old.count self.old.reply.items) (sent_to (S.contents self.new.socket.stream) self.new.count self.new.reply.items) }
+        ensures kept { result ≡ Went.Waits → Keeps
+            (sent_to (S.contents self.old.socket.stream) self.old.count self.old.reply.items)
+            (sent_to (S.contents self.new.socket.stream) self.new.count self.new.reply.items) }
         ensures reply { self.new.reply ≡ self.old.reply }
     {
         if !self.told {

@@ -28,4 +28,6 @@ pub use link::PortLink;
 pub use settles::{Lack, Settles};
 
 #[cfg(test)]
+mod pieces;
+#[cfg(test)]
 mod tests;

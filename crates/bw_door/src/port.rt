@@ -154,8 +154,8 @@ impl Port {
     }
 
     /// Looks at all clients once: waits up to a time for changes, sees to them, lets clients in, and lets those go whose
-    /// time is over, where that was last done 20 milliseconds ago or earlier. An error is why the system refused. That no client is let in counts as one only where none is in,
-    /// since else it mends itself.
+    /// time is over, where that was last done 20 milliseconds ago or earlier. An error is why the system refused. That no
+    /// client is let in counts as one only where none is in, since else it mends itself.
     fn look<R: Clock, W: Settles>(
         &mut self,
         rt: &R,
@@ -165,8 +165,10 @@ impl Port {
         wait: Option<Duration>,
     ) -> Result<(), ErrorKind>
         ensures out { crowd.new.out ≡ crowd.old.out }
-        ensures waiting { 20 ≤ self.new.looked - self.old.weeded → NoneIs (is_client_late desk.new.limits self.new.looked) crowd.new.waiting }
-        ensures leaving { 20 ≤ self.new.looked - self.old.weeded → NoneIs (is_leaving_late desk.new.limits self.new.looked) crowd.new.leaving }
+        ensures waiting { 20 ≤ self.new.looked - self.old.weeded →
+            NoneIs (is_client_late desk.new.limits self.new.looked) crowd.new.waiting }
+        ensures leaving { 20 ≤ self.new.looked - self.old.weeded →
+            NoneIs (is_leaving_late desk.new.limits self.new.looked) crowd.new.leaving }
         ensures weeded { self.new.looked - self.old.weeded < 20 → self.new.weeded ≡ self.old.weeded }
     {
         let polled = self.poll.poll(changes, wait);

@@ -10,6 +10,7 @@ ghost use Rattle.bw_eval.specs.Sound.{IsShort, IsSound};
 ghost use Rattle.bw_lang.specs.declared.service.Template.{Template};
 
 use crate::value::Value;
+use bw_lang::limits::MAX_STRING_BYTES;
 use bw_lang::{Fun, Memory, Op, Text, TurnFault};
 use itoa::Buffer;
 use std::alloc::Global;
@@ -116,7 +117,7 @@ fn joined(alloc: Global, a: &str, b: &str) -> Result<Value, TurnFault>
     ensures sound { (templates : List Template) → IfOk result (IsSound templates) }
 {
     let len = a.len() as u64 + b.len() as u64;
-    if len > 16_384 {
+    if len > MAX_STRING_BYTES as u64 {
         return Err(TurnFault::StringTooLong(len));
     }
     Ok(Value::Str(concatenation(alloc, a, b)?))

@@ -27,7 +27,7 @@ use Rattle.bw_fields.specs.Found.{is_misfit, fault_of}
 use Rattle.bw_fields.specs.Received as received
 use Rattle.bw_fields.specs.Received.{names_of, is_of_kind}
 use Rattle.bw_fields.specs.Laws.{FieldIsThere}
-use Rattle.bw_nodes.proofs.Bools.{and_parts, and_both}
+use Rattle.bw_shape.proofs.Nodes.Bools.{and_parts, and_both}
 use Rattle.bw_fields.proofs.Sound.{implied, by_values, same_field, no_lack_there}
 use Rattle.bw_fields.proofs.Twice.{not_twice}
 

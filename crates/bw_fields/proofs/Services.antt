@@ -21,7 +21,7 @@ use Rattle.bw_lang.specs.Document.Documents.{is_open}
 use Rattle.bw_lang.specs.Document.Forest.{Forest, none, text, gap, element}
 use Rattle.bw_lang.specs.Table.Names.{same, beside}
 use Rattle.bw_lang.specs.Document.Wrappers.{show_wrapper, exit_wrapper}
-use Rattle.bw_nodes.proofs.Bools.{and_parts, and_both, or_parts}
+use Rattle.bw_shape.proofs.Nodes.Bools.{and_parts, and_both, or_parts}
 use Rattle.bw_sum.specs.Templates.{all_items, template_items}
 use Rattle.bw_types.specs.Fields.{template_fields, kind_of_field}
 use Rattle.bw_types.specs.Scopes.{is_among}

@@ -16,7 +16,7 @@ use Rattle.bw_shape.specs.Tests.{stands}
 use Rattle.bw_shape.specs.Shape as shape
 use Rattle.bw_shape.specs.Shape.{Lacks}
 use Rattle.bw_sum.specs.Unfolding.{FillsValue, kept, left_open, said_in, FillsAttrs, no_more, more, Fills, end, words, inside, left, said, led}
-use Rattle.bw_nodes.proofs.Bools.{and_parts, or_parts}
+use Rattle.bw_shape.proofs.Nodes.Bools.{and_parts, or_parts}
 use Rattle.bw_shape.proofs.Outcomes.{sure}
 use Rattle.bw_shape.proofs.Walks.{stands-append}
 use Rattle.bw_fields.specs.Plain.{is_fixed, is_given, is_plain, ArePlain}

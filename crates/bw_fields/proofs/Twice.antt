@@ -13,7 +13,7 @@ use Rattle.bw_shape.specs.Shape.{Has, Places, Doubles}
 use Rattle.bw_sum.specs.Unfolding.{FillsAttrs, Fills, end, words, inside, left, said, led}
 use Rattle.bw_fields.specs.Plain.{is_plain, ArePlain, controls}
 use Rattle.bw_fields.specs.Laws.{NotTwice}
-use Rattle.bw_nodes.proofs.Bools.{or_parts}
+use Rattle.bw_shape.proofs.Nodes.Bools.{or_parts}
 use Rattle.bw_shape.proofs.Walks.{stands-append}
 use Rattle.bw_fields.proofs.Sound.{same_field}
 

@@ -12,7 +12,7 @@ use Rattle.bw_lang.specs.declared.controls.FieldKind.TheVariants.{Single, Choice
 use Rattle.bw_lang.specs.declared.service.Service.{Service}
 use Rattle.bw_lang.specs.Document.Documents.{close}
 use Rattle.bw_lang.specs.Document.Forest.{Forest}
-use Rattle.bw_nodes.proofs.Bools.{and_parts, and_both}
+use Rattle.bw_shape.proofs.Nodes.Bools.{and_parts, and_both}
 use Rattle.bw_schema.specs.declared.schema.Schema.{Schema}
 use Rattle.bw_strings.specs.Literals.{literals_of}
 use Rattle.bw_sum.specs.Graph.{Graph, graph}

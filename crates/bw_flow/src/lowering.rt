@@ -2,6 +2,7 @@
 ghost use Rattle.std.specs.Prelude.{◌≡◌, ◌≤◌, IfOk, IfErr};
 ghost use Rattle.bw_flow.specs.Layout.{plan_of, points};
 ghost use Rattle.bw_flow.specs.Flows.{IsFlowFault};
+ghost use Rattle.bw_flow.specs.declared.lowering.TheConstants.{MAX_POINTS};
 
 use crate::counting::session_points;
 use crate::draft::Draft;
@@ -36,7 +37,7 @@ impl From<Memory> for FlowFault {
 /// The flow of a service: a point for each statement other than a block, in source order, and one for each `if`, where
 /// its branches meet. `TooMany` comes exactly where there are more than 4,096 points, and `Memory` for want of it.
 pub fn lower(alloc: Global, typed: &Typed) -> Result<Flow, FlowFault>
-    ensures ok { IfOk result (λ f. (f ≡ plan_of typed.now.service) × points typed.now.service.sessions ≤ 4096) }
+    ensures ok { IfOk result (λ f. (f ≡ plan_of typed.now.service) × points typed.now.service.sessions ≤ MAX_POINTS) }
     ensures fault { IfErr result (λ e. IsFlowFault e (points typed.now.service.sessions)) }
 {
     let sessions = typed.service().sessions.as_slice();

@@ -12,7 +12,8 @@ use Rattle.std.proofs.lemmas.Str.{IsUtf8-append, IsUtf8-nil, IsUtf8-from_is_utf8
 use Rattle.form_urlencoded.specs.Form.{raw_pairs, decode}
 use lib.Utf8.{encode}
 use Rattle.bw_http.specs.Decisions.{is_post, method_of}
-use Rattle.bw_http.specs.Forms.{decode_pair, form_of, IsTextForm}
+use Rattle.bw_http.specs.Forms.{decode_pair, form_of}
+use Rattle.bw_lang.specs.Service.Submissions.{IsTextForm}
 use Rattle.bw_http.specs.Laws.{RequestsAreText, CutsAreText}
 
 -- ---- what is valid, and what is replaced

@@ -15,6 +15,7 @@ use Rattle.bw_http.specs.declared.request.Method.TheVariants.{Get, Post, Other}
 use Rattle.bw_http.specs.declared.request.ReadOutcome.TheVariants.{NoHost, Coding, BadLength, LengthRequired, BodyTooLong, Media}
 use Rattle.bw_http.specs.declared.decide.Decision.{Decision}
 use Rattle.bw_http.specs.declared.decide.Decision.TheVariants.{Refused, Body}
+use Rattle.bw_http.specs.declared.decide.TheConstants.{MAX_BODY_BYTES}
 
 -- the two words are one in any letter case
 abbrev pub same_word : List ℕ → List ℕ → Bool
@@ -78,7 +79,7 @@ abbrev pub decide_body : Method → Length → Bool → Decision
 decide_body method Missing form = cond (is_post method) (Refused LengthRequired) (Body 0)
 decide_body method Wrong form = Refused BadLength
 decide_body method (Bytes n) form =
-    cond (nat_lt 65536 n) (Refused BodyTooLong)
+    cond (nat_lt MAX_BODY_BYTES n) (Refused BodyTooLong)
     (cond (is_post method && nat_lt 0 n && not form) (Refused Media) (Body n))
 
 -- the tests in their order: the version, whether there is one host and no coding, and the body's

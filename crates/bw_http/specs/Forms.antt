@@ -1,7 +1,5 @@
 -- The form that a body sends.
 use Rattle.std.specs.Prelude.{ℕ, List, map}
-use Rattle.std.specs.List.{AllByRecursion}
-use Rattle.std.specs.Str.{IsUtf8}
 use Rattle.std.specs.Str.Lossy.{utf8_lossy}
 use Rattle.form_urlencoded.specs.Form.{raw_pairs, decode}
 
@@ -12,7 +10,3 @@ decode_pair pair = (utf8_lossy (decode pair.0), utf8_lossy (decode pair.1))
 -- the pairs of the body, decoded
 abbrev pub form_of : List ℕ → List (List ℕ × List ℕ)
 form_of body = map decode_pair (raw_pairs body)
-
--- each value of the form is UTF-8
-abbrev pub IsTextForm : List (List ℕ × List ℕ) → Type 0
-IsTextForm form = AllByRecursion (λ (pair : List ℕ × List ℕ). IsUtf8 pair.1) form

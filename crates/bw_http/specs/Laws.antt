@@ -7,7 +7,7 @@ use Rattle.bw_http.specs.declared.request.ReadOutcome.TheVariants.{End, BadHead,
 use Rattle.bw_http.specs.Heads.{HasNoHead, IsTooLong}
 use Rattle.bw_http.specs.Messages.{IsMessage, IsDenied, IsSettled, IsRequest}
 use Rattle.bw_http.specs.Cuts.{Cut}
-use Rattle.bw_http.specs.Forms.{IsTextForm}
+use Rattle.bw_lang.specs.Service.Submissions.{IsTextForm}
 
 -- a stream begins with one message at most
 abbrev pub OneMessage : Type 0

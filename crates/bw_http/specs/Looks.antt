@@ -7,6 +7,7 @@ use Rattle.httparse.specs.declared.spans.RequestSpans.{RequestSpans}
 use Rattle.bw_http.specs.declared.head.HeadLook.{HeadLook}
 use Rattle.bw_http.specs.declared.head.HeadLook.TheVariants.{Whole, Bad, TooLong, More}
 use Rattle.bw_http.specs.Heads.{BeginsWith}
+use Rattle.bw_http.specs.declared.head.TheConstants.{MAX_HEAD_BYTES}
 
 abbrev pub IfWhole : HeadLook → (RequestSpans → Type 0) → Type 0
 IfWhole (Whole spans) P = P spans
@@ -36,5 +37,5 @@ OnMore More P = P
 pub record IsHeadAt (bytes : List ℕ) (headers : List HeaderSpan) (r : RequestSpans) : Type 0 where
   pub head : RequestHead
   pub begins : BeginsWith bytes head (drop r.len bytes)
-  pub spans : IsRequestAt (take 16384 bytes) headers r head
-  pub within : IsRequestWithin (take 16384 bytes) headers r
+  pub spans : IsRequestAt (take MAX_HEAD_BYTES bytes) headers r head
+  pub within : IsRequestWithin (take MAX_HEAD_BYTES bytes) headers r

@@ -31,6 +31,7 @@ use Rattle.bw_http.specs.Decisions.{decide, method_of, is_post}
 use Rattle.bw_http.specs.Forms.{form_of}
 use Rattle.bw_http.specs.Paths.{LeadsTo}
 use Rattle.bw_http.specs.Taken.{IsFilled}
+use Rattle.bw_http.specs.declared.intake.TheConstants.{ROOM}
 
 -- the bytes begin with a whole message, its head and its body, and the rest follows it
 pub record IsMessage (bytes : List ℕ) (h : RequestHead) (body rest : List ℕ) : Type 0 where
@@ -78,7 +79,7 @@ pub record IsMessageAt (bytes : List ℕ) (p : Parts) : Type 0 where
 -- no message is whole before another line has ended, or before there are so many bytes
 abbrev pub Lacks : List ℕ → Lack → Type 0
 Lacks bytes Line = LacksHead bytes
-Lacks bytes (Bytes need) = (length bytes < need) × (need ≤ 81920) × ((more : List ℕ) → length (bytes ++ more) < need → IsShort (bytes ++ more))
+Lacks bytes (Bytes need) = (length bytes < need) × (need ≤ ROOM) × ((more : List ℕ) → length (bytes ++ more) < need → IsShort (bytes ++ more))
 
 -- what the verdict says of the bytes
 abbrev pub IsVerdict : List ℕ → Verdict → Type 0

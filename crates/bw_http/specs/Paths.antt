@@ -33,6 +33,7 @@ use Rattle.bw_lang.specs.Text.TokenForms.{IsWord}
 use Rattle.bw_http.specs.Decisions.{same_word}
 use Rattle.bw_http.specs.declared.request.Path.{Path}
 use Rattle.bw_http.specs.declared.request.Path.TheVariants.{Index, Start, Turn, Other}
+use Rattle.bw_lang.specs.declared.limits.TheConstants.{MAX_NAME_BYTES}
 
 abbrev pub is_question : ℕ → Bool
 is_question b = b == byte "?"
@@ -76,7 +77,7 @@ IsCount n = (0 < n) × (n < 2 ^ 32)
 -- it is of one of the three forms: its name is a word of at most 64 bytes, its numbers count, and its key fits 64 bits
 abbrev pub IsForm : Path → Type 0
 IsForm Index = ⊤
-IsForm (Start name) = IsWord name × (length name ≤ 64)
+IsForm (Start name) = IsWord name × (length name ≤ MAX_NAME_BYTES)
 IsForm (Turn number key turn) = IsCount number × (key < 2 ^ 64) × IsCount turn
 IsForm Other = ⊥
 

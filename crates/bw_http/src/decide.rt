@@ -182,6 +182,9 @@ pub fn method_of(bytes: &[u8]) -> Method
     }
 }
 
+/// The bytes of a body.
+pub const MAX_BODY_BYTES: u64 = 65_536;
+
 /// The tests on the body's length and type.
 fn decide_body(method: Method, length: Length, form: bool) -> Decision
     ensures { result ≡ decide_body method length form }
@@ -197,7 +200,7 @@ fn decide_body(method: Method, length: Length, form: bool) -> Decision
         }
         Length::Wrong => Decision::Refused(ReadOutcome::BadLength),
         Length::Bytes(n) => {
-            if 65_536 < n {
+            if MAX_BODY_BYTES < n {
                 Decision::Refused(ReadOutcome::BodyTooLong)
             } else if post && 0 < n && !form {
                 Decision::Refused(ReadOutcome::Media)

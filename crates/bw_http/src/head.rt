@@ -1,20 +1,24 @@
 //! The head at the front of the bytes.
-ghost use Rattle.std.specs.Prelude.{◌≡◌, ◌<◌, ◌+◌, length, take, IsTrue, IsFalse, IfOk, IfSome, IfNone, OnErr};
+ghost use Rattle.std.specs.Prelude.{◌≡◌, ◌<◌, ◌≤◌, ◌+◌, length, take, IsTrue, IsFalse, IfOk, IfSome, IfNone, OnErr};
 ghost use Rattle.std.specs.List.{count_by};
 ghost use Rattle.httparse.specs.Grammar.{NeverHasRequest};
 ghost use Rattle.httparse.specs.Pieces.{is_newline};
 ghost use Rattle.httparse.specs.Spans.{IsRequestOf, IsRequestWithin};
 ghost use Rattle.bw_http.specs.Heads.{line_count, is_line_feed, skip_newlines, HasNoHead, LacksHead, IsOverLimits, IsTooLong};
 ghost use Rattle.bw_http.specs.Looks.{IfWhole, OnBad, OnTooLong, OnMore, IsHeadAt};
+ghost use Rattle.bw_http.specs.declared.head.TheConstants.{MAX_HEADER_LINES, MAX_HEAD_BYTES, MAX_HEAD_LINES};
 
 use httparse::spans::{HeaderSpan, RequestSpans, parse_request};
 use httparse::{Error, Status};
 
-/// The longest head, in bytes.
-pub const HEAD: usize = 16_384;
+/// The bytes of a head.
+pub const MAX_HEAD_BYTES: usize = 16_384;
 
-/// How many header lines a head may have.
-pub const LINES: usize = 64;
+/// The header lines of a head.
+pub const MAX_HEADER_LINES: usize = 64;
+
+/// The lines of a head: its header lines, the request line, and the empty line at its end.
+pub const MAX_HEAD_LINES: usize = 66;
 
 /// What the bytes begin with.
 #[derive(Clone, Copy, Debug)]
@@ -31,10 +35,10 @@ pub enum HeadLook {
 
 /// The bytes that a head may be read from.
 pub fn front(bytes: &[u8]) -> &[u8]
-    ensures { result.now ≡ take 16384 bytes.now }
+    ensures { result.now ≡ take MAX_HEAD_BYTES bytes.now }
 {
-    if bytes.len() > HEAD {
-        &bytes[..HEAD]
+    if bytes.len() > MAX_HEAD_BYTES {
+        &bytes[..MAX_HEAD_BYTES]
     } else {
         bytes
     }
@@ -75,7 +79,7 @@ struct Bad;
 
 /// Looks for a head within the limits, with no further bytes in view.
 fn parse(bytes: &[u8], headers: &mut [HeaderSpan]) -> Result<Option<RequestSpans>, Bad>
-    requires { length headers.old ≡ 64 }
+    requires { length headers.old ≡ MAX_HEADER_LINES }
     ensures within { IfOk result (λ found. IfSome found (IsRequestWithin bytes.now headers.new)) }
     ensures whole { IfOk result (λ found. IfSome found (IsRequestOf bytes.now headers.new)) }
     ensures none { IfOk result (λ found. IfNone found (HasNoHead bytes.now)) }
@@ -92,14 +96,14 @@ fn parse(bytes: &[u8], headers: &mut [HeaderSpan]) -> Result<Option<RequestSpans
 /// Whether the bytes pass a limit of heads.
 fn is_over_limits(bytes: &[u8]) -> bool
     ensures over { IsTrue result → IsOverLimits bytes.now }
-    ensures within { IsFalse result → (length bytes.now < HEAD) × (line_count bytes.now < LINES + 3) }
+    ensures within { IsFalse result → (length bytes.now < MAX_HEAD_BYTES) × (line_count bytes.now ≤ MAX_HEAD_LINES) }
 {
-    bytes.len() >= HEAD || count_lines(bytes) >= LINES + 3
+    bytes.len() >= MAX_HEAD_BYTES || count_lines(bytes) > MAX_HEAD_LINES
 }
 
 /// Looks for a head at the front of the bytes.
 pub fn look(bytes: &[u8], headers: &mut [HeaderSpan]) -> HeadLook
-    requires { length headers.old ≡ 64 }
+    requires { length headers.old ≡ MAX_HEADER_LINES }
     ensures whole { IfWhole result (IsHeadAt bytes.now headers.new) }
     ensures bad { OnBad result (NeverHasRequest bytes.now) }
     ensures long { OnTooLong result (IsTooLong bytes.now) }

@@ -3,6 +3,7 @@ ghost use Rattle.std.specs.Prelude.{◌≡◌, ◌≤◌, ◌<◌, ◌+◌, ◌-
 ghost use Rattle.std.specs.Io.KnownBytes.{IsAtEnd, Keeps};
 ghost use Rattle.bw_out.specs.Sends.{Takes};
 ghost use Rattle.bw_http.specs.Taken.{IsFilled};
+ghost use Rattle.bw_http.specs.declared.intake.TheConstants.{ROOM};
 
 use bw_lang::Memory;
 use bw_out::{Failed, Source};
@@ -25,12 +26,13 @@ pub struct Intake {
 
 impl Model for Intake {
     ghost use Rattle.std.specs.Prelude.{◌≡◌, ◌≤◌, ℕ, List, vec_len, take, drop};
+    ghost use Rattle.bw_http.specs.declared.intake.TheConstants.{ROOM};
 
     ghost Value = { List ℕ };
 
     ghost view = { λ a. drop a.start (take a.end a.buffer.items) };
 
-    ghost invariant = { λ a. (vec_len a.buffer ≡ 81920) × (a.start ≤ a.end) × (a.end ≤ 81920) };
+    ghost invariant = { λ a. (vec_len a.buffer ≡ ROOM) × (a.start ≤ a.end) × (a.end ≤ ROOM) };
 }
 
 impl Intake {

@@ -8,12 +8,10 @@ ghost use Rattle.bw_http.specs.Paths.{IsCount, IsPath, LeadsTo, SpellsTurn, Spel
 
 use crate::decide::same_word;
 use crate::request::Path;
+use bw_lang::limits::MAX_NAME_BYTES;
 use bw_lang::{Memory, Name};
 use std::alloc::Global;
 use std::str::from_utf8;
-
-/// The most bytes of a name.
-const NAME_MOST: usize = 64;
 
 /// The bytes before the first `?`.
 fn before_query(target: &[u8]) -> &[u8]
@@ -174,7 +172,7 @@ fn name_of(path: &str) -> Option<&str>
     ensures { MatchOption result (SpellsNoName path.now) (λ name. SpellsName path.now name.now) }
 {
     let name = after("/", path)?;
-    if name.len() <= NAME_MOST && is_word(name.as_bytes()) {
+    if name.len() <= MAX_NAME_BYTES as usize && is_word(name.as_bytes()) {
         Some(name)
     } else {
         None

@@ -9,10 +9,11 @@ ghost use Rattle.bw_http.specs.Heads.{LacksHead, is_line_feed};
 ghost use Rattle.bw_http.specs.Looks.{IsHeadAt};
 ghost use Rattle.bw_http.specs.Messages.{IsVerdict, Lacks, IsShort, IsMessageAt, IsRequest, ComesOf};
 ghost use Rattle.bw_http.specs.Cuts.{Tells};
+ghost use Rattle.bw_http.specs.declared.intake.TheConstants.{ROOM};
 
 use crate::decide::{Decision, decide_on, method_of};
 use crate::form::read_form;
-use crate::head::{HEAD, HeadLook, front, is_newline, look};
+use crate::head::{HeadLook, MAX_HEAD_BYTES, front, is_newline, look};
 use crate::intake::Intake;
 use crate::paths::path_of;
 use crate::request::{Method, ReadOutcome, Request};
@@ -99,7 +100,7 @@ pub fn examine(bytes: &[u8]) -> Verdict
 
 /// Takes bytes until the intake holds so many. It says whether it does: if not, the source ended before.
 fn fill_to<S: Source>(intake: &mut Intake, source: &mut S, need: usize) -> Result<bool, Failed>
-    requires { need ≤ 81920 }
+    requires { need ≤ ROOM }
     ensures filled { IsFilled (S.left source.old) (S.left source.new) intake.old intake.new }
     ensures reached { IfOk result (λ b. b ≡ true → need ≤ length intake.new) }
     ensures ended { IfOk result (λ b. b ≡ false → (length intake.new < need) × IsAtEnd (S.left source.new)) }
@@ -139,7 +140,7 @@ fn fill_line<S: Source>(intake: &mut Intake, source: &mut S) -> Result<bool, Fai
     ensures takes { Takes S.Channel source.old source.new (IsErr result) }
 {
     let mut begun = !is_blank(intake.bytes());
-    'more: while intake.bytes().len() < HEAD {
+    'more: while intake.bytes().len() < MAX_HEAD_BYTES {
         let held = intake.bytes().len();
         if intake.fill(source)? == 0 {
             return Ok(false);

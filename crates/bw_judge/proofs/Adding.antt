@@ -4,7 +4,7 @@ use Rattle.std.specs.Prelude.{codes}
 use Rattle.bw_faults.specs.declared.fault.Fault.{Fault}
 use Rattle.bw_faults.specs.Lists.{Adds, When}
 use Rattle.bw_faults.proofs.Adding.{adds_none, adds_then}
-use Rattle.bw_rows.proofs.Waking.{last}
+use Rattle.bw_shape.proofs.Rows.Waking.{last}
 use Rattle.bw_judge.specs.declared.content.Spot.{Spot}
 use Rattle.bw_judge.specs.Content.{fault_at, is_bad_tag, tag_fault, OfContent}
 

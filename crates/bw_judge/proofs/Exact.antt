@@ -4,17 +4,17 @@ use Rattle.std.proofs.lemmas.Bool.{false≢true, or_cases}
 use borrow.Author.Tests.{eqb-true}
 use Rattle.bw_lang.specs.Document.Forest.{Forest, none, text, gap, element}
 use Rattle.bw_lang.specs.Table.Names.{name_number}
-use Rattle.bw_rows.specs.Rows.{at}
+use Rattle.bw_shape.specs.Rows.Rows.{at}
 use Rattle.bw_faults.specs.declared.fault.Fault.{Fault}
-use Rattle.bw_nodes.specs.Nodes.{Node, node_at, among, led}
-use Rattle.bw_nodes.specs.Fits.{Fits}
+use Rattle.bw_shape.specs.Nodes.Nodes.{Node, node_at, among, led}
+use Rattle.bw_shape.specs.Nodes.Fits.{Fits}
 use Rattle.bw_sum.specs.Graph.{Graph}
 use Rattle.bw_shape.specs.Shape.{Reached, Top, Gives, tagged, wordy}
 use Rattle.bw_shape.specs.Columns.{AreKnown, top_column}
-use Rattle.bw_nodes.specs.Templates.{template_at}
+use Rattle.bw_shape.specs.Nodes.Templates.{template_at}
 use Rattle.bw_schema.specs.Words.{is_blank}
 use Rattle.bw_shape.specs.Tests.{gives, tag_column}
-use Rattle.bw_nodes.proofs.Bools.{and_parts, and_both, not_true}
+use Rattle.bw_shape.proofs.Nodes.Bools.{and_parts, and_both, not_true}
 use Rattle.bw_shape.proofs.Links.{led_sound, named}
 use Rattle.bw_shape.proofs.ExactFields.{derived_all}
 use Rattle.bw_shape.proofs.ExactTops.{gives_by, tops_sound, tops_test}

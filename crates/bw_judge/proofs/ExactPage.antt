@@ -14,12 +14,12 @@ use Rattle.bw_schema.specs.Rules.{rule_of}
 use Rattle.bw_faults.specs.declared.fault.Fault.{Fault}
 use Rattle.bw_faults.specs.Lists.{Lists}
 use Rattle.bw_sum.specs.Graph.{Graph}
-use Rattle.bw_nodes.specs.Nodes.{Node}
+use Rattle.bw_shape.specs.Nodes.Nodes.{Node}
 use Rattle.bw_shape.specs.Shape.{Reached}
 use Rattle.bw_shape.specs.Columns.{AreKnown}
-use Rattle.bw_nodes.specs.Templates.{template_at}
+use Rattle.bw_shape.specs.Nodes.Templates.{template_at}
 use Rattle.bw_shape.specs.declared.tables.Tables.{Tables}
-use Rattle.bw_nodes.proofs.Bools.{not_true}
+use Rattle.bw_shape.proofs.Nodes.Bools.{not_true}
 use Rattle.bw_judge.specs.declared.content.Spot.{Spot}
 use Rattle.bw_faults.specs.Lists.{When}
 use Rattle.bw_judge.specs.Scene.{Scene}

@@ -5,7 +5,7 @@ use Rattle.std.proofs.lemmas.Bool.{false≢true, or_cases}
 use Rattle.bw_lang.specs.declared.items.Attr.{Attr}
 use Rattle.bw_lang.specs.Document.Forest.{Forest}
 use Rattle.bw_lang.specs.Table.Names.{name_number}
-use Rattle.bw_rows.specs.Rows.{at}
+use Rattle.bw_shape.specs.Rows.Rows.{at}
 use Rattle.bw_strings.specs.declared.strings.StrSet.{StrSet}
 use Rattle.bw_schema.specs.declared.rules.Rule.{Rule}
 use Rattle.bw_schema.specs.declared.schema.Schema.{Schema}
@@ -14,13 +14,13 @@ use Rattle.bw_schema.specs.Needs.{Needs, nothing, all_of, some_of, attr, one_val
 use Rattle.bw_schema.specs.Validity.{joined}
 use Rattle.bw_faults.specs.declared.fault.Fault.{Fault}
 use Rattle.bw_sum.specs.Graph.{Graph}
-use Rattle.bw_nodes.specs.Nodes.{Node, node_at}
+use Rattle.bw_shape.specs.Nodes.Nodes.{Node, node_at}
 use Rattle.bw_shape.specs.Shape.{Reached, Misses, Crossing}
 use Rattle.bw_shape.specs.Columns.{AreKnown}
-use Rattle.bw_nodes.specs.Templates.{template_at}
+use Rattle.bw_shape.specs.Nodes.Templates.{template_at}
 use Rattle.bw_shape.specs.Tests.{gives, tag_column}
 use Rattle.bw_shape.specs.declared.tables.Tables.{Tables}
-use Rattle.bw_nodes.proofs.Bools.{and_parts, and_both, not_true}
+use Rattle.bw_shape.proofs.Nodes.Bools.{and_parts, and_both, not_true}
 use Rattle.bw_shape.proofs.ExactTops.{miss_by, miss_sound, miss_test, cross_by, cross_sound, cross_test}
 use Rattle.bw_judge.specs.declared.content.Spot.{Spot}
 use Rattle.bw_judge.specs.Content.{fault_at, OfContent}

@@ -10,7 +10,7 @@ use Rattle.bw_schema.specs.Needs.{Needs}
 use Rattle.bw_schema.specs.NeedsView.{needs, before_need}
 use Rattle.bw_schema.specs.Validity.{joined}
 use Rattle.bw_judge.specs.Scene.{Scene}
-use Rattle.bw_rows.specs.Rows.{at}
+use Rattle.bw_shape.specs.Rows.Rows.{at}
 use Rattle.bw_lang.specs.Table.Names.{name_number}
 use Rattle.bw_shape.specs.Tests.{crosses}
 use Rattle.bw_shape.specs.Formulas.{pair_number}

@@ -16,7 +16,7 @@ use Rattle.bw_sum.specs.Graph.{Graph}
 use Rattle.bw_sum.specs.Unfolding.{FillsValue, kept, left_open, said_in, FillsAttrs, no_more, more, Fills, end, words, inside, left, said, led}
 use Rattle.bw_shape.specs.Shape as shape
 use Rattle.bw_shape.specs.Shape.{Gives, tagged, Misses, Crossing}
-use Rattle.bw_nodes.proofs.Bools.{and_parts, and_both, not_true}
+use Rattle.bw_shape.proofs.Nodes.Bools.{and_parts, and_both, not_true}
 use Rattle.bw_shape.proofs.Outcomes.{sure}
 use Rattle.bw_judge.specs.Faults as fault
 use Rattle.bw_judge.specs.Faults.{MayBe, IsSureValue, SureAttr, SureOne, Both, Ends}

@@ -17,7 +17,7 @@ use Rattle.bw_sum.specs.Graph.{Graph}
 use Rattle.bw_sum.specs.Unfolding.{FillsValue, kept, left_open, said_in, FillsAttrs, no_more, more, Fills, end, words, inside, left, said, led}
 use Rattle.bw_shape.specs.Shape as shape
 use Rattle.bw_shape.specs.Shape.{Reached, root_is, along, Gives, tagged, wordy}
-use Rattle.bw_nodes.proofs.Bools.{and_parts, and_both}
+use Rattle.bw_shape.proofs.Nodes.Bools.{and_parts, and_both}
 use Rattle.bw_shape.proofs.Outcomes.{sure}
 use Rattle.bw_judge.specs.Scene.{has_attr}
 use Rattle.bw_judge.specs.Faults as fault

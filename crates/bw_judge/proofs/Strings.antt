@@ -14,7 +14,7 @@ use Rattle.bw_schema.specs.declared.rules.ValueList.{ValueList}
 use Rattle.bw_schema.specs.Words.{is_among}
 use Rattle.bw_schema.specs.Rules.{permits}
 use Rattle.bw_sum.specs.Graph.{Graph}
-use Rattle.bw_nodes.proofs.Bools.{and_parts, and_both, or_parts, not_true, not_false, fails_at, passes_at, all_at, any_at, same_itself}
+use Rattle.bw_shape.proofs.Nodes.Bools.{and_parts, and_both, or_parts, not_true, not_false, fails_at, passes_at, all_at, any_at, same_itself}
 use Rattle.bw_strings.specs.Asking.{text_of, has_string}
 use Rattle.bw_judge.specs.Scene.{Scene, is_within, is_told, is_loose, is_kept, is_permitted, has_attr, may_be_absent}
 use Rattle.bw_judge.specs.Pages.{IsScene}

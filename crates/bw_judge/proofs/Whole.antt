@@ -12,8 +12,8 @@ use Rattle.bw_lang.specs.Document.Documents.{elements, close}
 use Rattle.bw_lang.specs.Document.Forest.{Forest, none}
 use Rattle.bw_lang.specs.Document.Wrappers.{show_wrapper, exit_wrapper}
 use Rattle.bw_lang.proofs.Weights.{parts_weigh}
-use Rattle.bw_nodes.specs.Templates.{template_at}
-use Rattle.bw_nodes.proofs.Wrapped.{at_behind}
+use Rattle.bw_shape.specs.Nodes.Templates.{template_at}
+use Rattle.bw_shape.proofs.Nodes.Wrapped.{at_behind}
 use Rattle.bw_schema.specs.declared.schema.Schema.{Schema}
 use Rattle.bw_schema.specs.Validity.{Valid}
 use Rattle.bw_strings.specs.Literals.{literals_of}

@@ -8,7 +8,7 @@ use Rattle.bw_schema.specs.declared.rules.Rule.{Rule}
 use Rattle.bw_schema.specs.Rules.{allows, rule_of}
 use Rattle.bw_faults.specs.declared.fault.Fault.{Fault}
 use Rattle.bw_shape.specs.Tests.{gives}
-use Rattle.bw_rows.specs.Rows.{at}
+use Rattle.bw_shape.specs.Rows.Rows.{at}
 use Rattle.std.specs.Prelude.{length}
 use Rattle.bw_judge.specs.declared.content.Spot.{Spot}
 use Rattle.bw_faults.specs.Lists.{When, OfSome}

@@ -1,15 +1,15 @@
 -- The faults 4 and 5 of an element are those of what its unfoldings may have in it.
 use Rattle.std.specs.Prelude.{◌≡◌, ◌↔◌, ℕ, ◌+◌, Bool, false, List, length, codes}
 use Rattle.bw_lang.specs.Document.Forest.{Forest}
-use Rattle.bw_rows.specs.Rows.{at}
-use Rattle.bw_rows.specs.Least.{IsDerived, IsClosedAt}
+use Rattle.bw_shape.specs.Rows.Rows.{at}
+use Rattle.bw_shape.specs.Rows.Least.{IsDerived, IsClosedAt}
 use Rattle.bw_faults.specs.declared.fault.Fault.{Fault}
-use Rattle.bw_nodes.specs.Nodes.{Node, node_at}
-use Rattle.bw_nodes.specs.Fits.{Fits}
+use Rattle.bw_shape.specs.Nodes.Nodes.{Node, node_at}
+use Rattle.bw_shape.specs.Nodes.Fits.{Fits}
 use Rattle.bw_sum.specs.Graph.{Graph}
 use Rattle.bw_shape.specs.Shape.{Reached, Gives, tagged, wordy}
 use Rattle.bw_shape.specs.Columns.{AreKnown}
-use Rattle.bw_nodes.specs.Templates.{template_at}
+use Rattle.bw_shape.specs.Nodes.Templates.{template_at}
 use Rattle.bw_shape.specs.Follows.{top_follows}
 use Rattle.bw_shape.specs.Tests.{gives}
 use Rattle.bw_judge.specs.declared.content.Spot.{Spot}

@@ -13,9 +13,9 @@ use Rattle.bw_strings.specs.Asking.{has_string}
 use Rattle.bw_schema.specs.declared.schema.Schema.{Schema}
 use Rattle.bw_faults.specs.declared.fault.Fault.{Fault}
 use Rattle.bw_faults.specs.Lists.{OfSome}
-use Rattle.bw_nodes.specs.Fits.{AreStrings}
-use Rattle.bw_nodes.specs.Nodes.{Node, node_at, among}
-use Rattle.bw_nodes.specs.Templates.{template_at}
+use Rattle.bw_shape.specs.Nodes.Fits.{AreStrings}
+use Rattle.bw_shape.specs.Nodes.Nodes.{Node, node_at, among}
+use Rattle.bw_shape.specs.Nodes.Templates.{template_at}
 use Rattle.bw_shape.specs.declared.outline.Outline.{Outline}
 use Rattle.bw_shape.specs.declared.tables.Tables.{Tables}
 use Rattle.bw_judge.specs.Scene.{Scene}

@@ -10,7 +10,7 @@ use Rattle.bw_strings.specs.declared.strings.StrSet.{StrSet}
 use Rattle.bw_strings.specs.declared.strings.StrSet.TheVariants.{Any, Of}
 use Rattle.bw_schema.specs.declared.rules.ValueList.{ValueList}
 use Rattle.bw_schema.specs.Words.{is_among}
-use Rattle.bw_nodes.specs.Nodes.{Node, among}
+use Rattle.bw_shape.specs.Nodes.Nodes.{Node, among}
 
 -- the tags and the literals by their numbers, the tables of the shape, the node of the template, and the strings that may
 -- stand at its gaps

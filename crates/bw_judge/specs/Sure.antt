@@ -4,7 +4,7 @@ use Rattle.std.specs.List.{list_any}
 use Rattle.bw_lang.specs.declared.items.Attr.{Attr}
 use Rattle.bw_lang.specs.Document.Forest.{Forest}
 use Rattle.bw_lang.specs.Table.Names.{same, name_number}
-use Rattle.bw_rows.specs.Rows.{at}
+use Rattle.bw_shape.specs.Rows.Rows.{at}
 use Rattle.bw_shape.specs.Formulas.{pair_number}
 use Rattle.bw_shape.specs.Tests.{misses, crosses, tag_column}
 use Rattle.bw_schema.specs.Needs.{Needs, nothing, all_of, some_of, attr, one_value, content, order}

@@ -1,16 +1,14 @@
 //! The faults 4 and 5 of an element: what may stand in it and isn't allowed.
 ghost use Rattle.std.specs.Prelude.{◌≡◌, ℕ, ◌+◌, ◌-◌, ◌<◌, ◌&&◌, IfOk, OnOk, length};
-ghost use Rattle.bw_rows.specs.Rows.{flag, at};
+ghost use Rattle.bw_shape.specs.Rows.Rows.{flag, at};
 ghost use Rattle.bw_faults.specs.Lists.{Adds, When};
 ghost use Rattle.bw_shape.specs.Tests.{gives};
 ghost use Rattle.bw_judge.specs.Content as content;
 
 use bw_faults::{Fault, Faults};
 use bw_lang::{Items, Memory, TemplateId, Text, Words};
-use bw_nodes::Node;
-use bw_rows::{Row, Table};
 use bw_schema::is_among;
-use bw_shape::{Tags, items_give};
+use bw_shape::{Node, Row, Table, Tags, items_give};
 use std::alloc::Global;
 
 /// Where an element stands.

@@ -4,7 +4,7 @@ ghost use Rattle.bw_faults.specs.Lists.{Adds};
 ghost use Rattle.bw_lang.specs.Document.Documents.{elements};
 ghost use Rattle.bw_lang.specs.Document.Forest.{none};
 ghost use Rattle.bw_lang.specs.Document.View.{before};
-ghost use Rattle.bw_rows.specs.Rows.{at};
+ghost use Rattle.bw_shape.specs.Rows.Rows.{at};
 ghost use Rattle.bw_shape.specs.Tests.{gives};
 ghost use Rattle.bw_judge.specs.Content as content;
 ghost use Rattle.bw_judge.specs.Found as found;

@@ -1,15 +1,13 @@
 //! Whether the items of an element may miss a tag, and whether two may cross in them.
 ghost use Rattle.std.specs.Prelude.{◌≡◌, ℕ, suc, ◌<◌, ◌^◌, ◌==◌, ◌||◌, ◌&&◌, not, false};
-ghost use Rattle.bw_rows.specs.Rows.{at};
+ghost use Rattle.bw_shape.specs.Rows.Rows.{at};
 ghost use Rattle.bw_lang.specs.Document.Forest.{none};
 ghost use Rattle.bw_lang.specs.Table.Names.{name_number};
 ghost use Rattle.bw_lang.specs.Document.View.{before};
 ghost use Rattle.bw_shape.specs.Tests as test;
 
 use bw_lang::{Item, Items};
-use bw_nodes::Node;
-use bw_rows::Table;
-use bw_shape::Tags;
+use bw_shape::{Node, Table, Tags};
 
 fn item_misses(tags: &Tags, node: &Node, known: &Table, column: usize, item: &Item) -> bool
     ensures { result ≡ test.misses tags.now node.now (λ m. at known.now m column) column (before item.now none) }

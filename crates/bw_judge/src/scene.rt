@@ -7,10 +7,8 @@ ghost use Rattle.bw_strings.specs.Asking.{text_of};
 ghost use Rattle.bw_judge.specs.Scene as spec;
 
 use bw_lang::{Attr, AttrValue, Attrs, GapId, Words};
-use bw_nodes::{Node, Saying};
-use bw_rows::Table;
 use bw_schema::{ValueList, ValueLists, is_among};
-use bw_shape::Tags;
+use bw_shape::{Node, Saying, Table, Tags};
 use bw_strings::{Literals, StrSet};
 use std::marker::Model;
 

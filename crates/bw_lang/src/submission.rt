@@ -1,13 +1,16 @@
 //! What a client submits with a form.
 ghost use Rattle.std.specs.Prelude.{◌≡◌, ◌++◌, ◌∷◌, [], OnOk, OnErr, MatchOption, None, Some, slice_get};
-ghost use Rattle.bw_lang.specs.Service.Submissions.{values_of};
+ghost use Rattle.bw_lang.specs.Service.Submissions.{IsTextForm, values_of};
 
 use crate::text::{Memory, Text};
 use std::alloc::Global;
 use std::marker::Model;
 
+/// The bytes of a value of a form that a show receives.
+pub const MAX_VALUE_BYTES: usize = 16_384;
+
 /// A form as it was submitted: pairs of the name of a control and a value, in the order in which they came (HTML 4.01,
-/// section 17.13.3). A name may come several times. Contracts see the list of the pairs.
+/// section 17.13.3). A name may come several times. Contracts see the list of the pairs, each value of which is UTF-8.
 #[derive(Debug, Drop)]
 pub struct Submission {
     pairs: Vec<(Text, Text)>,
@@ -18,7 +21,11 @@ impl Model for Submission {
 
     ghost Value = { List (List ℕ × List ℕ) };
 
+    ghost use Rattle.bw_lang.specs.Service.Submissions.{IsTextForm};
+
     ghost view = { λ s. s.pairs.items };
+
+    ghost invariant = { λ s. IsTextForm s.pairs.items };
 }
 
 impl Submission {
@@ -36,13 +43,15 @@ impl Submission {
         ensures ok { OnOk result (self.new ≡ self.old ++ (name, value) ∷ []) }
         ensures err { OnErr result (self.new ≡ self.old) }
     {
+        let _ = value.as_str();
         self.pairs.push((name, value))?;
         Ok(())
     }
 
     /// The pairs, in order.
     pub fn as_slice(&self) -> &[(Text, Text)]
-        ensures { result.now ≡ self.now }
+        ensures pairs { result.now ≡ self.now }
+        ensures utf8 { IsTextForm self.now }
     {
         self.pairs.as_slice()
     }

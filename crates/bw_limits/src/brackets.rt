@@ -1,15 +1,11 @@
 //! The limits that are decided on the tokens of a service alone.
 ghost use Rattle.std.specs.Prelude.{◌≡◌, ◌-◌, ◌<◌, ◌^◌, find, nat_lt};
 ghost use Rattle.bw_lang.specs.Text.Brackets as spec;
+ghost use Rattle.bw_lang.specs.declared.limits.TheConstants.{MAX_STRETCH};
 
 use crate::passing::{over, passed};
+use bw_lang::limits::{MAX_NESTING, MAX_STRETCH};
 use bw_lang::{Lexeme, Limit};
-
-/// The greatest depth of open brackets.
-const MAX_NESTING: u64 = 64;
-
-/// The most tokens in a row without `;`, `{` or `}`.
-const MAX_STRETCH: u64 = 500;
 
 fn is_opening(sign: &[u8]) -> bool
     ensures { result ≡ spec.is_opening sign.now }
@@ -70,7 +66,7 @@ fn ends_stretch(lexeme: &Lexeme) -> bool
 /// The length of the first stretch that is longer than the longest that is read.
 #[tactic(auto, using(crate::proofs::BracketSteps::bracket_steps))]
 fn long_stretch(lexemes: &[Lexeme]) -> Option<u64>
-    ensures { result ≡ find (nat_lt 500) (spec.stretches 0 lexemes.now) }
+    ensures { result ≡ find (nat_lt MAX_STRETCH) (spec.stretches 0 lexemes.now) }
 {
     let mut length = 0;
     for lexeme in lexemes {

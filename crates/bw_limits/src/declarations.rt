@@ -7,40 +7,18 @@ ghost use Rattle.bw_lang.specs.Service.Limits as spec;
 ghost use Rattle.bw_lang.specs.Document.Measures.{constant_weight};
 ghost use Rattle.bw_lang.specs.Service.Sorted as sorted;
 ghost use Rattle.bw_limits.specs.Steps.Parts.{declared_limit, size_limit};
+ghost use Rattle.bw_lang.specs.declared.limits.TheConstants.{MAX_LOCALS, MAX_TEMPLATE_WEIGHT};
 
 use crate::fields::different_fields;
 use crate::lengths::Search;
 use crate::locals;
 use crate::passing::{over, passed};
+use bw_lang::limits::{
+    MAX_FIELDS, MAX_GAPS, MAX_LOCALS, MAX_NAME_BYTES, MAX_SESSIONS, MAX_SHARED, MAX_STRING_BYTES,
+    MAX_TEMPLATE_WEIGHT, MAX_TEMPLATES,
+};
 use bw_lang::{Declaration, GapNames, Leaf, Limit, Memory, Name};
 use std::alloc::Global;
-
-/// The most templates.
-const MAX_TEMPLATES: u64 = 256;
-
-/// The most sessions.
-const MAX_SESSIONS: u64 = 64;
-
-/// The most shared variables.
-const MAX_SHARED: u64 = 64;
-
-/// The most different names of gaps.
-const MAX_GAPS: u64 = 128;
-
-/// The most different names of controls and receives.
-const MAX_FIELDS: u64 = 128;
-
-/// The most locals of a session.
-const MAX_LOCALS: u64 = 64;
-
-/// The most bytes of a name.
-const MAX_NAME: u64 = 64;
-
-/// The most bytes that a string stands for.
-const MAX_STRING: u64 = 16_384;
-
-/// The greatest weight of a template.
-const MAX_TEMPLATE_WEIGHT: u64 = 262_144;
 
 fn is_template(declaration: &Declaration) -> bool
     ensures { result ≡ is_some (sorted.as_template declaration.now) }
@@ -90,7 +68,7 @@ fn shared(declarations: &[Declaration]) -> u64
 /// The number of locals of a session, where it has too many.
 fn locals_over(declaration: &Declaration) -> Option<u64>
     requires { IfSome (sorted.as_session declaration.now) (λ s. length (local_names s.body) < 2 ^ 64) }
-    ensures { result ≡ find (nat_lt 64) (map (λ s. length (local_names s.body)) (option_to_list (sorted.as_session declaration.now))) }
+    ensures { result ≡ find (nat_lt MAX_LOCALS) (map (λ s. length (local_names s.body)) (option_to_list (sorted.as_session declaration.now))) }
 {
     match declaration {
         Declaration::Session(session) => over(MAX_LOCALS, locals::in_block(&session.body)),
@@ -101,7 +79,7 @@ fn locals_over(declaration: &Declaration) -> Option<u64>
 /// The number of locals of the first session that has too many.
 fn too_many_locals(declarations: &[Declaration]) -> Option<u64>
     requires { All (λ s. length (local_names s.body) < 2 ^ 64) (sorted.sessions_of declarations.now) }
-    ensures { result ≡ find (nat_lt 64) (map (λ s. length (local_names s.body)) (sorted.sessions_of declarations.now)) }
+    ensures { result ≡ find (nat_lt MAX_LOCALS) (map (λ s. length (local_names s.body)) (sorted.sessions_of declarations.now)) }
 {
     for declaration in declarations {
         if let Some(count) = locals_over(declaration) {
@@ -114,7 +92,7 @@ fn too_many_locals(declarations: &[Declaration]) -> Option<u64>
 /// The weight of a template, where it is too heavy.
 fn weight_over(declaration: &Declaration) -> Option<u64>
     requires { IfSome (sorted.as_template declaration.now) (λ t. constant_weight t.items < 2 ^ 64) }
-    ensures { result ≡ find (nat_lt 262144) (map (λ t. constant_weight t.items) (option_to_list (sorted.as_template declaration.now))) }
+    ensures { result ≡ find (nat_lt MAX_TEMPLATE_WEIGHT) (map (λ t. constant_weight t.items) (option_to_list (sorted.as_template declaration.now))) }
 {
     match declaration {
         Declaration::Template(template) => over(MAX_TEMPLATE_WEIGHT, template.items.weight()),
@@ -125,7 +103,7 @@ fn weight_over(declaration: &Declaration) -> Option<u64>
 /// The weight of the first template that is too heavy.
 fn too_heavy(declarations: &[Declaration]) -> Option<u64>
     requires { All (λ t. constant_weight t.items < 2 ^ 64) (sorted.templates_of declarations.now) }
-    ensures { result ≡ find (nat_lt 262144) (map (λ t. constant_weight t.items) (sorted.templates_of declarations.now)) }
+    ensures { result ≡ find (nat_lt MAX_TEMPLATE_WEIGHT) (map (λ t. constant_weight t.items) (sorted.templates_of declarations.now)) }
 {
     for declaration in declarations {
         if let Some(weight) = weight_over(declaration) {
@@ -157,11 +135,11 @@ fn too_large(name: &Name, gaps: &GapNames, declarations: &[Declaration]) -> Opti
 {
     let names = Search {
         leaf: Leaf::Name,
-        most: MAX_NAME,
+        most: MAX_NAME_BYTES,
     };
     let strings = Search {
         leaf: Leaf::Text,
-        most: MAX_STRING,
+        most: MAX_STRING_BYTES as u64,
     };
     let locals = too_many_locals(declarations);
     let name_bytes = names.service(name, gaps, declarations);

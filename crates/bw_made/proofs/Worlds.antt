@@ -2,7 +2,7 @@
 use Rattle.std.proofs.Common.{ℕ, List, [], ◌∷◌, refl}
 use Rattle.std.specs.List.{All}
 use Rattle.bw_http.specs.declared.request.Request.{Request}
-use Rattle.bw_http.specs.Forms.{IsTextForm}
+use Rattle.bw_lang.specs.Service.Submissions.{IsTextForm}
 use Rattle.bw_lang.specs.declared.service.Service.{Service}
 use Rattle.bw_meaning.specs.States.{Form, Input, Outcome, Went, Shown, Exited, Failed}
 use Rattle.bw_meaning.specs.Values.{Values}

@@ -1,7 +1,7 @@
 -- Documents that are made of templates and of strings in UTF-8, and values that hold such documents and strings.
 use Rattle.std.specs.Prelude.{◌≤◌, ℕ, List, length, IsUtf8}
 use Rattle.std.specs.List.{AllByRecursion, Contains}
-use Rattle.bw_http.specs.Forms.{IsTextForm}
+use Rattle.bw_lang.specs.Service.Submissions.{IsTextForm}
 use Rattle.bw_lang.specs.declared.measure.Measure.{Measure}
 use Rattle.bw_lang.specs.declared.service.Service.{Service}
 use Rattle.bw_lang.specs.declared.service.Template.{Template}
@@ -12,6 +12,7 @@ use Rattle.bw_lang.specs.Document.Print.{print}
 use Rattle.bw_meaning.specs.Expressions.{Evaluated, Gives, Faults}
 use Rattle.bw_meaning.specs.States.{Input, State, Rests, Outcome, Went, Shown, Exited, Failed}
 use Rattle.bw_meaning.specs.Values.{Document, Value, Values, number, truth_value, text, document, list}
+use Rattle.bw_lang.specs.declared.turn.TheConstants.{MAX_DOCUMENT_BYTES}
 
 -- The document has this measure and is made by plugs of constants, each of which is one of these, and of strings in UTF-8.
 pub data IsMadeOf (Constant : Forest → Type 0) : Forest → Measure → Type 0 where
@@ -62,10 +63,10 @@ pub record IsTextState (Constant : Forest → Type 0) (st : State) : Type 0 wher
   pub shared : AreTexts Constant st.shared
   pub inputs : AreTextInputs Constant st.inputs
 
--- the document of a page, which prints to at most 4194304 bytes
+-- the document of a page, which is within the limit of what it prints to
 pub record IsPageOf (Constant : Forest → Type 0) (d : Document) : Type 0 where
   pub document : IsDocumentOf Constant d
-  pub short : length (print d.tree) ≤ 4194304
+  pub short : length (print d.tree) ≤ MAX_DOCUMENT_BYTES
 
 -- what a session has where it waits at a show
 pub record IsTextShow (Constant : Forest → Type 0) (locals : Values) (rests : Rests) (shown : Document) (shared : Values) : Type 0 where

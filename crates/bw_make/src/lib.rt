@@ -4,15 +4,19 @@
 ghost use Rattle.std.specs.Prelude.{◌≡◌, ◌++◌, ◌≤◌, IfOk, OnOk, codes, flat_map, string_bytes};
 ghost use Rattle.std.specs.List.{range_with_len};
 ghost use Rattle.bw_make.specs.Made.{made, template_line, turn_line};
+ghost use Rattle.bw_make.specs.declared.TheConstants.{MAX_PAGES};
 
 use bw_lang::{Memory, Text};
 use itoa::Buffer;
 use std::alloc::Global;
 
+/// The greatest number of pages of a made service.
+pub const MAX_PAGES: u32 = 250;
+
 /// The text of the made service of so many pages, from 1 to 250. Its one session shows them in order, and ends with a
 /// page that shows what came from the last one.
 pub fn make(alloc: Global, n: u32) -> Result<Text, Memory>
-    requires { 1 ≤ n × n ≤ 250 }
+    requires { 1 ≤ n × n ≤ MAX_PAGES }
     ensures { IfOk result (λ text. text ≡ made n) }
 {
     let mut text = String::from_str(alloc, "service Made {\n")?;

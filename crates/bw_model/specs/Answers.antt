@@ -10,6 +10,7 @@ use Rattle.bw_meaning.specs.States.{Form, Outcome, Went, Shown, Exited, Failed, 
 use Rattle.bw_meaning.specs.Values.{Document, Values}
 use Rattle.bw_model.specs.Received.{receives_of, first_refusal}
 use Rattle.bw_model.specs.Sessions.{Talk, now, current}
+use Rattle.bw_model.specs.declared.limits.TheConstants.{MAX_NUMBER}
 
 -- a document with the number of its turn, a last document, or a reply without a page
 pub data Answer : Type 0 where
@@ -59,7 +60,7 @@ with_input talk form shared = record talk { inputs = talk.inputs ++ record { for
 abbrev pub takes : Service → ℕ → Talk → Form → Values → Option Reply → Answered
 takes service first talk form shared (Some reply) = refuses reply
 takes service first talk form shared None =
-    if current first talk == 4294967295 then refuses replies.NoTurns
+    if current first talk == MAX_NUMBER then refuses replies.NoTurns
     else let next = with_input talk form shared in turned (suc (current first talk)) next (now service next)
 
 -- the session waits here: its page is sent again, or it takes a form

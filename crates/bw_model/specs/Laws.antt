@@ -9,6 +9,8 @@ use Rattle.bw_model.specs.Answers.{Answer, Said, answered}
 use Rattle.bw_model.specs.Sessions.{Live, World, empty}
 use Rattle.bw_model.specs.Steps.{is_of, reply_to, step}
 use Rattle.bw_model.specs.Talks.{Asked, said_to, conversation, own_answers}
+use Rattle.bw_lang.specs.declared.turn.TheConstants.{BUDGET}
+use Rattle.bw_model.specs.declared.limits.TheConstants.{MAX_LIVE}
 
 -- ---- what is refused, is spent or fails
 
@@ -26,7 +28,7 @@ OthersChangeNothing =
 
 -- a request takes 100,000 units at most
 abbrev pub StepsAreShort : Type 0
-StepsAreShort = (service : Service) (w : World) (request : Request) (key : ℕ) → (step service w request key).cost ≤ 100000
+StepsAreShort = (service : Service) (w : World) (request : Request) (key : ℕ) → (step service w request key).cost ≤ BUDGET
 
 -- ---- live sessions
 
@@ -38,7 +40,7 @@ AreApart next (l ∷ ls) = (l.number < next) × AllByRecursion (λ (m : Live). m
 -- so it is in a world, in which at most 1,000 are live
 pub record IsWorld (w : World) : Type 0 where
   pub apart : AreApart w.next w.live
-  pub few : length w.live ≤ 1000
+  pub few : length w.live ≤ MAX_LIVE
 
 -- it is so in the empty world, and each step keeps it
 abbrev pub EmptyIsWorld : Type 0

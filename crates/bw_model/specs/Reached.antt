@@ -2,7 +2,7 @@
 use Rattle.std.specs.Prelude.{ℕ, List}
 use Rattle.bw_http.specs.declared.replies.Reply.{Reply}
 use Rattle.bw_http.specs.declared.request.Request.{Request}
-use Rattle.bw_http.specs.Forms.{IsTextForm}
+use Rattle.bw_lang.specs.Service.Submissions.{IsTextForm}
 use Rattle.bw_lang.specs.declared.service.Service.{Service}
 use Rattle.bw_model.specs.Runs.{At, Turns}
 use Rattle.bw_model.specs.Sessions.{World}

@@ -14,6 +14,7 @@ use Rattle.bw_meaning.specs.GoOn.{body_of}
 use Rattle.bw_meaning.specs.States.{Form}
 use Rattle.bw_meaning.specs.Values.{Value, Values, list}
 use Rattle.bw_types.specs.Fields.{field_names}
+use Rattle.bw_lang.specs.declared.submission.TheConstants.{MAX_VALUE_BYTES}
 
 -- what the show of number k receives, among statements of which the first has number n
 abbrev pub receives_at : Code → ℕ → ℕ → List Receive
@@ -39,7 +40,7 @@ number_of_field service field = name_number (with_names [] (field_names service)
 
 -- some value has more than 16,384 bytes
 abbrev pub long_refusal : ℕ → List (List ℕ) → Option Reply
-long_refusal field values = if list_any (λ v. nat_lt 16384 (length v)) values then Some (replies.FieldTooLong field) else None
+long_refusal field values = if list_any (λ v. nat_lt MAX_VALUE_BYTES (length v)) values then Some (replies.FieldTooLong field) else None
 
 -- a string takes one value
 abbrev pub string_refusal : ℕ → List (List ℕ) → Option Reply

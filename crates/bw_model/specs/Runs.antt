@@ -13,6 +13,7 @@ use Rattle.bw_out.specs.Told.{Coming, later_words}
 use Rattle.bw_types.specs.Fields.{field_names}
 use Rattle.bw_model.specs.Sessions.{World}
 use Rattle.bw_model.specs.Steps.{step}
+use Rattle.bw_lang.specs.declared.turn.TheConstants.{BUDGET}
 
 -- where a stream stands: the world, the bytes to come, and the keys to come
 pub record At : Type 0 where
@@ -26,7 +27,7 @@ pub data Turn (service : Service) (at : At) (reply : Reply) (cost : ℕ) (to : A
   request : (r : Request) → Cut at.bytes (Ok r) to.bytes → step service at.world r (at.keys 0) ≡ record { reply = reply; world = to.world; cost = cost }
       → to.keys ≡ later_words at.keys → Turn service at reply cost to
   no_memory : Cut at.bytes (Err outcomes.Memory) to.bytes → reply ≡ replies.Memory → to.world ≡ at.world → (to.keys ≡ at.keys) ⊎ (to.keys ≡ later_words at.keys)
-      → cost ≤ 100000 → Turn service at reply cost to
+      → cost ≤ BUDGET → Turn service at reply cost to
 
 -- messages are handled one after another, by these replies
 abbrev pub Turns : Service → At → List Reply → ℕ → At → Type 0

@@ -17,6 +17,7 @@ use Rattle.bw_types.specs.Scopes.{session_of}
 use Rattle.bw_page.specs.Pages.{show_page, exit_page}
 use Rattle.bw_model.specs.Answers.{Answer, Shows, Ends, Says, Fate, Stays, IsUsed, GoesOn, Leaves, Answered, turned, answered}
 use Rattle.bw_model.specs.Sessions.{Started, Talk, Live, World, now}
+use Rattle.bw_model.specs.declared.limits.TheConstants.{MAX_LIVE, MAX_NUMBER}
 
 -- what a request comes to: the reply, the world afterwards, and the units that it took
 pub record Step : Type 0 where
@@ -73,7 +74,7 @@ beginner w session = record { session = session; origin = Started w.shared; inpu
 -- one that wasn't used for the longest time gives way.
 abbrev pub founded : World → ℕ → Fate → World
 founded w key (GoesOn talk shared) =
-    record w { shared = shared; next = suc w.next; live = take 1000 (record { number = w.next; key = key; talk = talk } ∷ w.live) }
+    record w { shared = shared; next = suc w.next; live = take MAX_LIVE (record { number = w.next; key = key; talk = talk } ∷ w.live) }
 founded w key (Leaves shared) = record w { shared = shared }
 founded w key fate = w
 
@@ -86,7 +87,7 @@ begins service w key a = record { reply = reply_to service w.next key a.answer; 
 abbrev pub starts : Service → World → ℕ → Option ℕ → Step
 starts service w key None = refuses w replies.NoSuch
 starts service w key (Some session) =
-    if nat_lt 4294967295 w.next then refuses w replies.NoNumbers
+    if nat_lt MAX_NUMBER w.next then refuses w replies.NoNumbers
     else let talk = beginner w session in begins service w key (turned w.first talk (now service talk))
 
 -- a turn of a live session

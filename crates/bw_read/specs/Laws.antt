@@ -11,6 +11,8 @@ use Rattle.bw_page.specs.Pages.{show_page, exit_page}
 use Rattle.bw_read.specs.Made.{IsMade, IsShown, IsTitle, IsTurn}
 use Rattle.bw_read.specs.Pages.{IsRoot, IsPage}
 use Rattle.bw_tmpl.specs.Markup.{IsMarkup, IsClosedMarkup}
+use Rattle.bw_lang.specs.declared.measure.TheConstants.{MAX_NEST}
+use Rattle.bw_read.specs.declared.reading.TheConstants.{MAX_PAGE_BYTES, MAX_PAGE_NEST}
 
 -- ---- what is read
 
@@ -56,19 +58,19 @@ JoinsNoElement = (d : Forest) → elements (joined d) ≡ elements d
 
 -- what a page prints to reads as it, with its texts joined
 abbrev pub ReadsBack : Type 0
-ReadsBack = (f : Forest) → IsClosedMarkup f → IsRoot f → nest f ≤ 512 → length (print f) ≤ 4195328 → IsPage (print f) (joined f)
+ReadsBack = (f : Forest) → IsClosedMarkup f → IsRoot f → nest f ≤ MAX_PAGE_NEST → length (print f) ≤ MAX_PAGE_BYTES → IsPage (print f) (joined f)
 
 -- so it is with the page that shows a document
 abbrev pub ShownReadsBack : Type 0
 ShownReadsBack =
-    (title target : List ℕ) (d : Forest) → IsUtf8 title → IsUtf8 target → IsMarkup d → nest d ≤ 500 →
-    let page = show_page title target d in length (print page) ≤ 4195328 → IsPage (print page) (joined page)
+    (title target : List ℕ) (d : Forest) → IsUtf8 title → IsUtf8 target → IsMarkup d → nest d ≤ MAX_NEST →
+    let page = show_page title target d in length (print page) ≤ MAX_PAGE_BYTES → IsPage (print page) (joined page)
 
 -- and with a session's last page
 abbrev pub LastReadsBack : Type 0
 LastReadsBack =
-    (title : List ℕ) (d : Forest) → IsUtf8 title → IsMarkup d → nest d ≤ 500 →
-    let page = exit_page title d in length (print page) ≤ 4195328 → IsPage (print page) (joined page)
+    (title : List ℕ) (d : Forest) → IsUtf8 title → IsMarkup d → nest d ≤ MAX_NEST →
+    let page = exit_page title d in length (print page) ≤ MAX_PAGE_BYTES → IsPage (print page) (joined page)
 
 -- ---- the pages of a service
 

@@ -8,11 +8,13 @@ use Rattle.bw_lang.specs.Document.Measures.{constant_measure, text_measure, plug
 use Rattle.bw_lang.specs.Document.Print.{print}
 use Rattle.bw_lang.specs.Template.Templates.{IsTemplate}
 use Rattle.bw_page.specs.Bytes.{is_word_byte, is_digit, is_hex_digit}
+use Rattle.bw_lang.specs.declared.limits.TheConstants.{MAX_NAME_BYTES, MAX_TEMPLATE_NEST}
+use Rattle.bw_lang.specs.declared.turn.TheConstants.{MAX_DOCUMENT_BYTES}
 
 -- The document has this measure and is made by plugs: it is the constant of a template that bytes read as, or a document
 -- that is made so with its open gaps of a name filled by another or by a string.
 pub data IsMade : Forest → Measure → Type 0 where
-  constant : (names : List (List ℕ)) (bytes : List ℕ) (t : Forest) → IsTemplate names 64 bytes t → IsMade t (constant_measure t)
+  constant : (names : List (List ℕ)) (bytes : List ℕ) (t : Forest) → IsTemplate names MAX_TEMPLATE_NEST bytes t → IsMade t (constant_measure t)
   plug : (b a : Forest) (m n : Measure) (g : ℕ) → IsMade b m → IsMade a n → IsMade (doc.plug g a b) (plugged m n (doc.count g b) (doc.around g b))
   fill : (b : Forest) (m : Measure) (g : ℕ) (s : List ℕ) → IsUtf8 s → IsMade b m
       → IsMade (doc.plug_text g s b) (plugged m (text_measure (length s)) (doc.count g b) (doc.around g b))
@@ -22,12 +24,12 @@ pub record IsShown (d : Forest) : Type 0 where
   pub measure : Measure
   pub made : IsMade d measure
   pub within : IsWithin measure
-  pub short : length (print d) ≤ 4194304
+  pub short : length (print d) ≤ MAX_DOCUMENT_BYTES
 
 -- the name of a service
 pub record IsTitle (title : List ℕ) : Type 0 where
   pub word : AllPass is_word_byte title
-  pub short : length title ≤ 64
+  pub short : length title ≤ MAX_NAME_BYTES
 
 -- the number, the key and the turn of a session, as the target of its form has them
 pub record IsTurn (number key turn : List ℕ) : Type 0 where

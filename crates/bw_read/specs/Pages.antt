@@ -5,6 +5,7 @@ use Rattle.bw_lang.specs.Text.Bytes.{is_blank}
 use Rattle.bw_lang.specs.Document.Forest.{Forest, none, element}
 use Rattle.bw_lang.specs.Template.Pieces.{passes}
 use Rattle.bw_lang.specs.Template.Templates.{IsClosedTemplate}
+use Rattle.bw_read.specs.declared.reading.TheConstants.{MAX_PAGE_BYTES, MAX_PAGE_NEST}
 
 -- the document is one element html
 abbrev pub IsRoot : Forest → Type 0
@@ -26,10 +27,10 @@ pub record IsPage (bytes : List ℕ) (f : Forest) : Type 0 where
   pub doctype : List ℕ
   pub doctype_or_none : IsDoctype doctype
   pub inside : List ℕ
-  pub reads : IsClosedTemplate 512 inside f
+  pub reads : IsClosedTemplate MAX_PAGE_NEST inside f
   pub root : IsRoot f
   pub back : List ℕ
   pub back_blank : AreBlanks back
   pub parts : bytes ≡ front ++ (doctype ++ (inside ++ back))
   pub utf8 : IsUtf8 bytes
-  pub short : length bytes ≤ 4195328
+  pub short : length bytes ≤ MAX_PAGE_BYTES

@@ -7,4 +7,4 @@ pub mod laws;
 mod reading;
 
 pub use fault::PageFault;
-pub use reading::{PAGE_BYTES, PAGE_NESTING, read_page};
+pub use reading::{MAX_PAGE_BYTES, MAX_PAGE_NEST, read_page};

@@ -15,10 +15,10 @@ use std::alloc::Global;
 use std::str;
 
 /// The greatest number of bytes of a page.
-pub const PAGE_BYTES: usize = 4_195_328;
+pub const MAX_PAGE_BYTES: usize = 4_195_328;
 
 /// The greatest number of elements that may stand inside one another in a page.
-pub const PAGE_NESTING: u32 = 512;
+pub const MAX_PAGE_NEST: u32 = 512;
 
 /// Whether the bytes are UTF-8.
 fn is_utf8(bytes: &[u8]) -> bool
@@ -41,18 +41,18 @@ fn is_root(items: &Items) -> bool
 }
 
 /// Reads the text of a page: one element `html`, written as templates are but without gaps and with at most
-/// `PAGE_NESTING` elements inside one another. Blanks may stand in front of it and behind it, and in front of it, behind
-/// the blanks there, `<!DOCTYPE html>` and more blanks. The text is UTF-8 and has at most `PAGE_BYTES` bytes.
+/// `MAX_PAGE_NEST` elements inside one another. Blanks may stand in front of it and behind it, and in front of it, behind
+/// the blanks there, `<!DOCTYPE html>` and more blanks. The text is UTF-8 and has at most `MAX_PAGE_BYTES` bytes.
 ///
 /// `NotAPage` comes exactly where the bytes are no such text; `Memory` may come at any time.
 pub fn read_page(alloc: Global, bytes: &[u8]) -> Result<Tree, PageFault>
     ensures page { MatchResult result (λ t. IsPage bytes.now t.items) (IsNoPage bytes.now) }
     ensures small { IfOk result (λ t. elements t.items < 2 ^ 32) }
 {
-    if bytes.len() > PAGE_BYTES || !is_utf8(bytes) {
+    if bytes.len() > MAX_PAGE_BYTES || !is_utf8(bytes) {
         return Err(PageFault::NotAPage);
     }
-    let items = read_closed(alloc, element_of(bytes), PAGE_NESTING)?;
+    let items = read_closed(alloc, element_of(bytes), MAX_PAGE_NEST)?;
     if is_root(&items) {
         Ok(Tree { items })
     } else {

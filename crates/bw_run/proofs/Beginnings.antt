@@ -19,7 +19,7 @@ use Rattle.bw_meaning.specs.Values.{literal_value}
 use Rattle.bw_eval.specs.declared.value.Value.{Value}
 use Rattle.bw_eval.specs.Sound.{IsSound, AreSound}
 use Rattle.bw_eval.specs.View.{document, value, values, named}
-use Rattle.bw_follow.specs.Kinds.{kind_of, kinds_of}
+use Rattle.bw_run.specs.Follow.Kinds.{kind_of, kinds_of}
 
 take_at : {A : Type 0} (xs : List A) (i : ℕ) (x : A) → x ≡ get_or xs i x → i < length xs → take (i + 1) xs ≡ take i xs ++ x ∷ []
 take_at [] i x e h = absurd (omega arith)

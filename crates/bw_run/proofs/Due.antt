@@ -12,9 +12,9 @@ use Rattle.bw_meaning.specs.States.{Form, Input, State, budget}
 use Rattle.bw_meaning.specs.Statements.{received}
 use Rattle.bw_eval.specs.declared.value.Value.{Value}
 use Rattle.bw_eval.specs.View.{values}
-use Rattle.bw_follow.specs.Kinds.{kinds_of, kinds_in, AreShared}
-use Rattle.bw_follow.specs.Runs.{plain, first_of}
-use Rattle.bw_follow.proofs.Kept.{first_arrives, behind_arrives}
+use Rattle.bw_run.specs.Follow.Kinds.{kinds_of, kinds_in, AreShared}
+use Rattle.bw_run.specs.Follow.Runs.{plain, first_of}
+use Rattle.bw_run.proofs.Follow.Kept.{first_arrives, behind_arrives}
 use Rattle.bw_run.specs.declared.standing.Standing.{Standing}
 use Rattle.bw_run.specs.declared.turn.Frame.{Frame}
 use Rattle.bw_run.specs.Code.{state}

@@ -20,13 +20,13 @@ use Rattle.bw_meaning.specs.Values as meaning
 use Rattle.bw_meaning.specs.Values.{names_of}
 use Rattle.bw_eval.specs.View.{document, values}
 use Rattle.bw_eval.proofs.Templates.{get_within}
-use Rattle.bw_follow.specs.Kinds as kinds
-use Rattle.bw_follow.specs.Kinds.{kinds_of, kinds_in, HasKinds}
-use Rattle.bw_follow.specs.Laws.{IsFit, IsOf}
-use Rattle.bw_follow.specs.Runs.{is_show}
-use Rattle.bw_follow.specs.Scoped.{names_in}
-use Rattle.bw_follow.proofs.Fit.{shown_is_fit, shown_again_is_fit}
-use Rattle.bw_follow.proofs.Kept.{typed_is_ready}
+use Rattle.bw_run.specs.Follow.Kinds as kinds
+use Rattle.bw_run.specs.Follow.Kinds.{kinds_of, kinds_in, HasKinds}
+use Rattle.bw_run.specs.Follow.Laws.{IsFit, IsOf}
+use Rattle.bw_run.specs.Follow.Runs.{is_show}
+use Rattle.bw_run.specs.Follow.Scoped.{names_in}
+use Rattle.bw_run.proofs.Follow.Fit.{shown_is_fit, shown_again_is_fit}
+use Rattle.bw_run.proofs.Follow.Kept.{typed_is_ready}
 use Rattle.bw_run.specs.declared.turn.Turn.{Turn}
 use Rattle.bw_run.specs.declared.turn.Turn.TheVariants as turns
 use Rattle.bw_run.specs.Fit.{IsFitTurn, IsSoundTurn}

@@ -27,12 +27,12 @@ use Rattle.bw_meaning.specs.Values.{number, truth_value, text, document, list}
 use Rattle.bw_eval.specs.Bases.{IsDocument, GivesDocument, GivesDocuments, HasBases, HaveBases}
 use Rattle.bw_eval.specs.Evaluations.{HasMemory}
 use Rattle.bw_eval.specs.View.{values}
-use Rattle.bw_follow.specs.Kinds.{kind_of, kinds_of, kinds_in, AreShared, GivesKind}
-use Rattle.bw_follow.specs.Runs.{cut, first_of, second_of, Next, does}
-use Rattle.bw_follow.proofs.FitKinds.{Fits}
-use Rattle.bw_follow.proofs.Past.{goes_past}
-use Rattle.bw_follow.proofs.RunKinds.{Told, Arrives, comes_on}
-use Rattle.bw_follow.proofs.ValueKinds.{values_have_kinds}
+use Rattle.bw_run.specs.Follow.Kinds.{kind_of, kinds_of, kinds_in, AreShared, GivesKind}
+use Rattle.bw_run.specs.Follow.Runs.{cut, first_of, second_of, Next, does}
+use Rattle.bw_run.proofs.Follow.FitKinds.{Fits}
+use Rattle.bw_run.proofs.Follow.Past.{goes_past}
+use Rattle.bw_run.proofs.Follow.RunKinds.{Told, Arrives, comes_on}
+use Rattle.bw_run.proofs.Follow.ValueKinds.{values_have_kinds}
 use Rattle.bw_run.specs.declared.standing.Standing.{Standing}
 use Rattle.bw_run.specs.declared.step.Stepped.{Stepped}
 use Rattle.bw_run.specs.declared.step.Stepped.TheVariants.{First, Second}

@@ -12,3 +12,4 @@ pub mod Started
 pub mod Stores
 pub mod Tidy
 pub mod Walkable
+pub mod Follow

@@ -13,8 +13,8 @@ use Rattle.bw_run.specs.declared.standing.Standing.{Standing}
 use Rattle.bw_run.specs.declared.step.Stepped.{Stepped}
 use Rattle.bw_run.specs.declared.step.Stepped.TheVariants.{First, Second}
 use Rattle.bw_run.specs.Code.{pays, state}
-use Rattle.bw_follow.specs.Laws.{Settles}
-use Rattle.bw_follow.specs.Runs.{run}
+use Rattle.bw_run.specs.Follow.Laws.{Settles}
+use Rattle.bw_run.specs.Follow.Runs.{run}
 use Rattle.bw_eval.specs.Evaluations.{HasMemory}
 use Rattle.bw_run.specs.declared.walk.Advance.{Advance}
 use Rattle.bw_run.specs.declared.walk.Stop.{Stop}

@@ -14,7 +14,7 @@ use Rattle.bw_meaning.proofs.Good.{Good, exec_good}
 use Rattle.bw_meaning.proofs.BehindLaw.{turn_goes_on}
 use Rattle.bw_eval.specs.declared.value.Value.{Value}
 use Rattle.bw_eval.specs.View.{values}
-use Rattle.bw_follow.specs.Laws.{IsOf}
+use Rattle.bw_run.specs.Follow.Laws.{IsOf}
 use Rattle.bw_run.specs.declared.turn.Frame.{Frame}
 use Rattle.bw_run.specs.declared.turn.Turn.{Turn}
 use Rattle.bw_run.specs.Turns.{IsTurn, StandsFor, answered_frame}

@@ -10,7 +10,7 @@ use Rattle.bw_lang.specs.Service.Numbers.{statements}
 use Rattle.bw_flow.specs.declared.point.Local.{Local}
 use Rattle.bw_flow.specs.Layout.{count, enter, steps, session_steps, points, plan_of}
 use Rattle.bw_flow.specs.Steps.{Step}
-use Rattle.bw_follow.specs.Laws.{IsOf}
+use Rattle.bw_run.specs.Follow.Laws.{IsOf}
 use Rattle.bw_flow.proofs.Spots.{Within, within_parts}
 
 within_at : (lo hi : ℕ) (xs : List Step) (p : ℕ) (x : Step) → Within lo hi xs → slice_get xs p ≡ Some x → (lo ≤ x.number) × (x.number < hi)

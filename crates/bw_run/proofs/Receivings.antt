@@ -5,7 +5,7 @@ use Rattle.bw_lang.specs.Service.Submissions.{values_of}
 use Rattle.bw_meaning.specs.Forms.{received_value}
 use Rattle.bw_meaning.specs.States.{Form, State}
 use Rattle.bw_meaning.specs.Statements.{store, variable, received}
-use Rattle.bw_follow.specs.Runs.{plain}
+use Rattle.bw_run.specs.Follow.Runs.{plain}
 
 pub drop_at : {A : Type 0} (xs : List A) (i : ℕ) (x : A) → x ≡ get_or xs i x → i < length xs → drop i xs ≡ x ∷ drop (i + 1) xs
 drop_at [] i x e h = absurd (omega arith)

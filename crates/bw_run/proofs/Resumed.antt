@@ -14,21 +14,21 @@ use Rattle.bw_meaning.specs.States.{Form, Input, budget}
 use Rattle.bw_meaning.specs.Statements.{received, taken}
 use Rattle.bw_eval.specs.declared.value.Value.{Value}
 use Rattle.bw_eval.specs.View.{values}
-use Rattle.bw_follow.proofs.Kept.{typed_is_ready}
+use Rattle.bw_run.proofs.Follow.Kept.{typed_is_ready}
 use Rattle.bw_meaning.proofs.Costs.{going_on_costs}
 use Rattle.bw_run.specs.declared.standing.Standing.{Standing}
 use Rattle.bw_run.specs.declared.turn.Turn.{Turn}
 use Rattle.bw_run.specs.declared.walk.Stop.{Stop}
 use Rattle.bw_run.specs.Code.{state}
-use Rattle.bw_follow.specs.Laws.{Settles, IsOf}
+use Rattle.bw_run.specs.Follow.Laws.{Settles, IsOf}
 use Rattle.bw_meaning.specs.Values.{names_of}
-use Rattle.bw_follow.specs.Runs.{plain, first_of, fields_of, run}
-use Rattle.bw_follow.specs.Scoped.{names_in}
+use Rattle.bw_run.specs.Follow.Runs.{plain, first_of, fields_of, run}
+use Rattle.bw_run.specs.Follow.Scoped.{names_in}
 use Rattle.bw_run.specs.declared.turn.Frame.{Frame}
 use Rattle.bw_run.specs.Turns.{turned, IsTurn, answered_frame}
 use Rattle.bw_run.specs.Walks.{number_of, number_at, stopped}
 use Rattle.bw_run.proofs.Started.{one_outcome, is_turn}
-use Rattle.bw_follow.proofs.Whole.{going_on_agrees}
+use Rattle.bw_run.proofs.Follow.Whole.{going_on_agrees}
 
 pub fields_are : (x y : Step) (page : Term) (fields rs : List Received) → x ≡ y → y.act ≡ acts.shows page fields → fields_of x.act ≡ rs → fields ≡ rs
 fields_are x y page fields rs e a h = sym (ap fields_of a) ∙ sym (ap (λ (u : Step). fields_of u.act) e) ∙ h

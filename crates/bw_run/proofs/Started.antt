@@ -13,14 +13,14 @@ use Rattle.bw_run.specs.declared.turn.Turn.{Turn}
 use Rattle.bw_run.specs.declared.walk.Stop.{Stop}
 use Rattle.bw_run.specs.declared.walk.Stop.TheVariants as stops
 use Rattle.bw_run.specs.Code.{state}
-use Rattle.bw_follow.specs.Laws.{Settles}
-use Rattle.bw_follow.specs.Runs.{run}
+use Rattle.bw_run.specs.Follow.Laws.{Settles}
+use Rattle.bw_run.specs.Follow.Runs.{run}
 use Rattle.bw_run.specs.Turns.{turned, IsTurn}
 use Rattle.bw_run.specs.Walks.{stopped}
 use Rattle.bw_eval.specs.declared.value.Value.{Value}
 use Rattle.bw_eval.specs.View.{values}
-use Rattle.bw_follow.proofs.Kept.{typed_is_ready}
-use Rattle.bw_follow.proofs.Whole.{turns_agree}
+use Rattle.bw_run.proofs.Follow.Kept.{typed_is_ready}
+use Rattle.bw_run.proofs.Follow.Whole.{turns_agree}
 
 pub one_outcome : (R : ℕ → Outcome) (o p : Outcome) → Settles R o → Settles R p → o ≡ p
 one_outcome R o p a b = let n : a.0 + b.0 ≡ b.0 + a.0 = omega arith in sym (a.1 b.0) ∙ ap R n ∙ b.1 a.0

@@ -20,7 +20,7 @@ use Rattle.bw_flow.specs.Steps as acts
 use Rattle.bw_flow.proofs.Joins.{all_joins_rise}
 use Rattle.bw_flow.proofs.Nexts.{all_have_nexts}
 use Rattle.bw_flow.proofs.OfTyped.{nexts_are_inside}
-use Rattle.bw_follow.specs.Runs.{first_of, second_of}
+use Rattle.bw_run.specs.Follow.Runs.{first_of, second_of}
 use Rattle.bw_typed.proofs.ShortServices.{sessions_have_short}
 use Rattle.bw_run.specs.Code.{ActIsShort}
 use Rattle.bw_run.specs.Walks.{rank_of, rank}

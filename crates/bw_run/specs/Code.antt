@@ -8,7 +8,7 @@ use Rattle.bw_lang.specs.Service.Term.{Term}
 use Rattle.bw_typed.specs.ShortStrings.{HasShort}
 use Rattle.bw_flow.specs.Steps.{Act, Step}
 use Rattle.bw_flow.specs.Steps as acts
-use Rattle.bw_follow.specs.Runs.{first_of, second_of, is_show, Next, does}
+use Rattle.bw_run.specs.Follow.Runs.{first_of, second_of, is_show, Next, does}
 use Rattle.bw_meaning.specs.States.{State, Outcome, Shown, Exited, Failed}
 use Rattle.bw_meaning.specs.Values as meaning
 use Rattle.bw_doc.specs.Made.{Made}

@@ -13,7 +13,7 @@ use Rattle.bw_doc.specs.Operations.{IsOf}
 use Rattle.bw_eval.specs.declared.value.Value.{Value}
 use Rattle.bw_eval.specs.Sound.{IsShort, AreSound}
 use Rattle.bw_eval.specs.View.{values}
-use Rattle.bw_follow.specs.Kinds.{kinds_of, kinds_in}
+use Rattle.bw_run.specs.Follow.Kinds.{kinds_of, kinds_in}
 use Rattle.bw_run.specs.declared.turn.Frame.{Frame}
 use Rattle.bw_run.specs.declared.turn.Turn.{Turn}
 use Rattle.bw_run.specs.declared.turn.Turn.TheVariants.{Shown, Exited}

@@ -3,3 +3,4 @@ pub mod Fit
 pub mod Missing
 pub mod Turns
 pub mod Walks
+pub mod Follow

@@ -8,10 +8,11 @@ use Rattle.bw_lang.specs.Service.Submissions.{values_of}
 use Rattle.bw_flow.specs.declared.point.Received.{Received}
 use Rattle.bw_run.specs.declared.fields.FieldFault.{FieldFault}
 use Rattle.bw_run.specs.declared.fields.FieldFault.TheVariants.{Lacking, Repeated, TooLong}
+use Rattle.bw_lang.specs.declared.submission.TheConstants.{MAX_VALUE_BYTES}
 
 -- some value has more than 16,384 bytes
 abbrev pub is_long : List (List ℕ) → Bool
-is_long values = list_any (λ v. nat_lt 16384 (length v)) values
+is_long values = list_any (λ v. nat_lt MAX_VALUE_BYTES (length v)) values
 
 -- a value over the limit
 abbrev pub too_long : ℕ → List (List ℕ) → Option FieldFault

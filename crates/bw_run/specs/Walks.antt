@@ -12,12 +12,12 @@ use Rattle.bw_run.specs.declared.walk.Advance.TheVariants as advances
 use Rattle.bw_run.specs.declared.walk.Stop.{Stop}
 use Rattle.bw_run.specs.declared.walk.Stop.TheVariants as stops
 use Rattle.bw_eval.specs.View.{document, values}
-use Rattle.bw_follow.specs.Kinds as kinds
-use Rattle.bw_follow.specs.Kinds.{kinds_of, kinds_in}
+use Rattle.bw_run.specs.Follow.Kinds as kinds
+use Rattle.bw_run.specs.Follow.Kinds.{kinds_of, kinds_in}
 use Rattle.bw_run.specs.Code.{state}
 use Rattle.bw_lang.specs.declared.service.Template.{Template}
 use Rattle.bw_doc.specs.Operations.{IsOf}
-use Rattle.bw_follow.specs.Runs.{is_show, run}
+use Rattle.bw_run.specs.Follow.Runs.{is_show, run}
 
 -- the number of the statement at a place
 abbrev pub number_of : Option Step → ℕ

@@ -7,20 +7,22 @@ ghost use Rattle.bw_doc.specs.Made.{measure};
 ghost use Rattle.bw_eval.specs.Evaluations.{HasMemory};
 ghost use Rattle.bw_eval.specs.View.{document, values};
 ghost use Rattle.bw_run.specs.Code.{tested};
-ghost use Rattle.bw_follow.specs.Runs.{rests_weight};
+ghost use Rattle.bw_run.specs.Follow.Runs.{rests_weight};
+ghost use Rattle.bw_lang.specs.declared.turn.TheConstants.{MAX_DOCUMENT_BYTES, MAX_SESSION_WEIGHT, MAX_SHARED_WEIGHT};
 
 use crate::rests::Rests;
 use crate::standing::Standing;
 use bw_doc::Doc;
 use bw_eval::Values;
 use bw_lang::TurnFault;
+use bw_lang::turn::{MAX_DOCUMENT_BYTES, MAX_SESSION_WEIGHT, MAX_SHARED_WEIGHT};
 
 /// The closed document prints to at most 4,194,304 bytes.
 fn page_test(doc: &Doc) -> Result<(), TurnFault>
-    ensures { HasMemory result → tested result ≡ spec.over 4194304 PageTooLong (spec.page_length (document doc.now)) }
+    ensures { HasMemory result → tested result ≡ spec.over MAX_DOCUMENT_BYTES PageTooLong (spec.page_length (document doc.now)) }
 {
     let length = doc.length()?;
-    if length > 4_194_304 {
+    if length > MAX_DOCUMENT_BYTES {
         return Err(TurnFault::PageTooLong(length));
     }
     Ok(())
@@ -28,13 +30,13 @@ fn page_test(doc: &Doc) -> Result<(), TurnFault>
 
 /// The shared variables together weigh at most 8,388,608.
 fn shared_test(shared: &Values) -> Result<(), TurnFault>
-    ensures { HasMemory result → tested result ≡ spec.over 8388608 SharedHeavy (weights (values shared.now)) }
+    ensures { HasMemory result → tested result ≡ spec.over MAX_SHARED_WEIGHT SharedHeavy (weights (values shared.now)) }
 {
     let weight = match shared.weight() {
         Some(weight) => weight,
         None => return Err(TurnFault::Memory),
     };
-    if weight > 8_388_608 {
+    if weight > MAX_SHARED_WEIGHT {
         return Err(TurnFault::SharedHeavy(weight));
     }
     Ok(())
@@ -52,13 +54,13 @@ fn carried(doc: &Doc, locals: &Values, rests: &Rests) -> Option<u64>
 /// The locals, the rests and the document together weigh at most 1,048,576.
 fn session_test(doc: &Doc, locals: &Values, rests: &Rests) -> Result<(), TurnFault>
     ensures { HasMemory result →
-        tested result ≡ spec.over 1048576 SessionHeavy (weights (values locals.now) + rests_weight rests.now + (measure doc.now).weight) }
+        tested result ≡ spec.over MAX_SESSION_WEIGHT SessionHeavy (weights (values locals.now) + rests_weight rests.now + (measure doc.now).weight) }
 {
     let weight = match carried(doc, locals, rests) {
         Some(weight) => weight,
         None => return Err(TurnFault::Memory),
     };
-    if weight > 1_048_576 {
+    if weight > MAX_SESSION_WEIGHT {
         return Err(TurnFault::SessionHeavy(weight));
     }
     Ok(())

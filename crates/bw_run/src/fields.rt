@@ -6,6 +6,7 @@ ghost use Rattle.bw_run.specs.Turns.{receives_of};
 
 use crate::turn::Frame;
 use bw_flow::{Flow, Received, What};
+use bw_lang::submission::MAX_VALUE_BYTES;
 use bw_lang::{FieldId, Kind, Submission};
 
 /// Why a form isn't taken: a field that the show receives hasn't the values that are due.
@@ -86,7 +87,7 @@ fn is_long(field: &str, form: &Submission) -> bool
     ensures { result ≡ spec.is_long (values_of field.now form.now) }
 {
     for (name, value) in form.as_slice() {
-        if field == name.as_str() && value.len() > 16_384 {
+        if field == name.as_str() && value.len() > MAX_VALUE_BYTES {
             return true;
         }
     }

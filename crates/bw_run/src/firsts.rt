@@ -5,7 +5,7 @@ ghost use Rattle.bw_eval.specs.Sound.{IsSound};
 ghost use Rattle.bw_eval.specs.View.{document, value, values};
 ghost use Rattle.bw_lang.specs.declared.stmt.Kind.{Kind};
 ghost use Rattle.bw_meaning.specs.Values as meaning;
-ghost use Rattle.bw_follow.specs.Kinds.{kind_of};
+ghost use Rattle.bw_run.specs.Follow.Kinds.{kind_of};
 ghost use Rattle.bw_run.specs.Fit.{AreShared};
 ghost use Rattle.bw_typed.specs.Named.{NamesTemplate, IsLiteral};
 ghost use Rattle.bw_typed.specs.ShortStrings.{IsShortLiteral};

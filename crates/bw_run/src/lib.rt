@@ -7,6 +7,7 @@
 mod ending;
 mod fields;
 mod firsts;
+pub mod laws;
 mod receiving;
 pub mod rests;
 pub mod standing;

@@ -4,7 +4,7 @@ ghost use Rattle.std.specs.List.{All};
 ghost use Rattle.bw_eval.specs.Sound.{IsSound as IsKept};
 ghost use Rattle.bw_eval.specs.View.{value};
 ghost use Rattle.bw_flow.specs.declared.point.Received.{Received};
-ghost use Rattle.bw_follow.specs.Runs.{plain};
+ghost use Rattle.bw_run.specs.Follow.Runs.{plain};
 ghost use Rattle.bw_lang.specs.declared.service.Template.{Template};
 ghost use Rattle.bw_lang.specs.Service.Submissions.{values_of};
 ghost use Rattle.bw_meaning.specs.Forms as forms;

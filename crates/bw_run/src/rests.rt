@@ -1,6 +1,6 @@
 //! What is still to come of foreachs.
 ghost use Rattle.std.specs.Prelude.{◌≡◌, ◌++◌, ◌∷◌, ◌-◌, ◌≤◌, ◌^◌, [], None, IfOk, IfSome, OnOk, OnErr, MatchOption, length, take, slice_get};
-ghost use Rattle.bw_follow.specs.Runs.{rests_weight};
+ghost use Rattle.bw_run.specs.Follow.Runs.{rests_weight};
 ghost use Rattle.bw_meaning.specs.Values.{list_weight};
 
 use bw_eval::words_weight;

@@ -5,7 +5,7 @@ ghost use Rattle.bw_eval.specs.Bases.{IsDocument, GivesDocuments};
 ghost use Rattle.bw_eval.specs.Evaluations.{HasMemory};
 ghost use Rattle.bw_eval.specs.Sound.{IsSound as IsKept};
 ghost use Rattle.bw_eval.specs.View.{value, values};
-ghost use Rattle.bw_follow.specs.Runs.{cut};
+ghost use Rattle.bw_run.specs.Follow.Runs.{cut};
 ghost use Rattle.bw_lang.specs.declared.service.Template.{Template};
 ghost use Rattle.bw_lang.specs.Service.TermView.{term};
 ghost use Rattle.bw_meaning.specs.States.{State, Outcome};

@@ -5,8 +5,8 @@ ghost use Rattle.bw_eval.specs.View.{values};
 ghost use Rattle.bw_flow.specs.Layout.{plan_of};
 ghost use Rattle.bw_flow.specs.Steps.{Step};
 ghost use Rattle.bw_flow.specs.View.{act};
-ghost use Rattle.bw_follow.specs.Laws.{IsOf};
-ghost use Rattle.bw_follow.specs.Runs.{is_show, fields_of};
+ghost use Rattle.bw_run.specs.Follow.Laws.{IsOf};
+ghost use Rattle.bw_run.specs.Follow.Runs.{is_show, fields_of};
 ghost use Rattle.bw_lang.specs.declared.service.Template.{Template};
 ghost use Rattle.bw_meaning.specs.GoOn as meaning;
 ghost use Rattle.bw_run.specs.Fit.{IsFrame, AreShared, IsFitTurn, IsSoundTurn};
@@ -16,6 +16,7 @@ ghost use Rattle.bw_run.specs.Code.{IsSound};
 ghost use Rattle.bw_run.specs.Missing.{first_missing};
 ghost use Rattle.bw_run.specs.Turns.{turned, IsTurn, StandsFor, receives_of, answered_frame};
 ghost use Rattle.bw_run.specs.Walks.{number_at, stopped, IsSoundStop};
+ghost use Rattle.bw_lang.specs.declared.turn.TheConstants.{BUDGET};
 
 use crate::receiving::receive_all;
 use crate::rests::Rests;
@@ -24,6 +25,7 @@ use crate::walk::{Stop, first_of, walk};
 use bw_doc::Doc;
 use bw_eval::Values;
 use bw_flow::{Flow, PointId, Receiveds, What};
+use bw_lang::turn::BUDGET;
 use bw_lang::{SessionId, Submission, TurnFault};
 use bw_out::Steps;
 use bw_types::Typed;
@@ -102,7 +104,7 @@ pub fn start<L: Ledger>(
     requires session { session < length typed.now.service.sessions }
     requires shared { AreShared typed.now.service shared.now }
     ensures turn { HasMemory result → IsTurn flow.now.steps result steps.old steps.new (meaning.turn typed.now.service session (values shared.now) []) }
-    ensures cost { steps.new ≤ steps.old + 100000 }
+    ensures cost { steps.new ≤ steps.old + BUDGET }
     ensures least { steps.old ≤ steps.new }
     ensures fit { IfOk result (IsFitTurn typed.now.service flow.now.steps) }
 {
@@ -111,7 +113,7 @@ pub fn start<L: Ledger>(
         locals: Values::new(alloc),
         shared: shared.copy()?,
         rests: Rests::new(alloc),
-        units: 100_000,
+        units: BUDGET as u32,
     };
     match walk(alloc, typed, flow, first, &mut standing, steps) {
         Err(fault) => Err(fault),
@@ -153,7 +155,7 @@ pub fn resume<L: Ledger>(
         StandsFor typed.now.service flow.now.steps frame.now session first inputs →
         IsTurn flow.now.steps result steps.old steps.new
         (meaning.turn typed.now.service session first (inputs ++ record { form = form.now; shared = values shared.now } ∷ [])) }
-    ensures cost { steps.new ≤ steps.old + 100000 }
+    ensures cost { steps.new ≤ steps.old + BUDGET }
     ensures least { steps.old ≤ steps.new }
     ensures fit { IfOk result (IsFitTurn typed.now.service flow.now.steps) }
 {
@@ -167,7 +169,7 @@ pub fn resume<L: Ledger>(
         locals: frame.locals.copy()?,
         shared: shared.copy()?,
         rests: frame.rests.copy()?,
-        units: 100_000,
+        units: BUDGET as u32,
     };
     receive_all(alloc, receives.as_slice(), form, &mut standing)?;
     let next = first_of(point.next.as_slice());

@@ -2,8 +2,8 @@
 ghost use Rattle.std.specs.Prelude.{◌≡◌, ◌+◌, ◌*◌, ◌<◌, ◌≤◌, ℕ, suc, IfOk, OnOk, List, length};
 ghost use Rattle.bw_eval.specs.Evaluations.{HasMemory};
 ghost use Rattle.bw_run.specs.Code.{state, IsSound};
-ghost use Rattle.bw_follow.specs.Laws.{Settles};
-ghost use Rattle.bw_follow.specs.Runs as spec;
+ghost use Rattle.bw_run.specs.Follow.Laws.{Settles};
+ghost use Rattle.bw_run.specs.Follow.Runs as spec;
 ghost use Rattle.bw_flow.specs.Layout.{plan_of};
 ghost use Rattle.bw_run.specs.Walks.{advanced, stopped, IsInside, IsLess, HasKindsAt, AdvancesTo, AdvancesWell, IsSoundStop};
 

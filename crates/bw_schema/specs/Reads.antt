@@ -12,10 +12,11 @@ use Rattle.bw_schema.specs.declared.fault.SchemaFault.{SchemaFault}
 use Rattle.bw_schema.specs.declared.fault.SchemaFault.TheVariants as fault
 use Rattle.bw_schema.specs.declared.lines.Line.{Line}
 use Rattle.bw_schema.specs.declared.rules.Rule.{Rule}
+use Rattle.bw_schema.specs.declared.reading.TheConstants.{MAX_SCHEMA_BYTES}
 
 -- a text of at most 1,048,576 bytes
 abbrev pub IsShort : List ℕ → Type 0
-IsShort bytes = length bytes ≤ 1048576
+IsShort bytes = length bytes ≤ MAX_SCHEMA_BYTES
 
 -- UTF-8 whose first line is `schema` and a number
 pub record HasVersion (bytes : List ℕ) (version : ℕ) : Type 0 where
@@ -86,5 +87,5 @@ IsSchemaRefused bytes fault.Malformed = IsMalformed bytes
 IsSchemaRefused bytes (fault.Version version) = HasOtherVersion bytes version
 IsSchemaRefused bytes (fault.Repeated name) = Repeats bytes name
 IsSchemaRefused bytes (fault.Unknown name) = Misses bytes name
-IsSchemaRefused bytes fault.TooLong = 1048576 < length bytes
+IsSchemaRefused bytes fault.TooLong = MAX_SCHEMA_BYTES < length bytes
 IsSchemaRefused bytes fault.Memory = Unit {0}

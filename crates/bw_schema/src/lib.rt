@@ -21,6 +21,6 @@ pub use default_schema::{BUILT_IN, built_in};
 pub use fault::SchemaFault;
 pub use formulas::FORMULA_NESTING;
 pub use needs::{Formula, Formulas};
-pub use reading::{MAX_BYTES, read_schema};
+pub use reading::{MAX_SCHEMA_BYTES, read_schema};
 pub use rules::{Rule, Rules, ValueList, ValueLists, is_among};
 pub use schema::Schema;

@@ -15,7 +15,7 @@ use std::alloc::Global;
 use std::str;
 
 /// The greatest number of bytes of a schema's text.
-pub const MAX_BYTES: usize = 1_048_576;
+pub const MAX_SCHEMA_BYTES: usize = 1_048_576;
 
 /// The rules of the lines, if they declare nothing twice and all that they use.
 fn judged(alloc: Global, root: &Name, lines: &[Line]) -> Result<Vec<Rule>, SchemaFault>
@@ -59,7 +59,7 @@ fn read_said(alloc: Global, said: &[Words]) -> Result<(Name, Vec<Rule>), SchemaF
 fn read(alloc: Global, bytes: &[u8]) -> Result<(Name, Vec<Rule>), SchemaFault>
     ensures { spec.Answers (λ x. (x.0, x.1.items)) result (spec.read bytes.now) }
 {
-    if bytes.len() > MAX_BYTES {
+    if bytes.len() > MAX_SCHEMA_BYTES {
         return Err(SchemaFault::TooLong);
     }
     match str::from_utf8(bytes) {
@@ -71,7 +71,7 @@ fn read(alloc: Global, bytes: &[u8]) -> Result<(Name, Vec<Rule>), SchemaFault>
 /// Reads the text of a schema, of version 1 or 2 (docs/SCHEMA.md).
 ///
 /// It answers the schema exactly where the text reads as one, and a text reads as one schema at most. It refuses, in this
-/// order: `TooLong` where there are more than `MAX_BYTES` bytes; `Malformed` where the bytes aren't UTF-8 or the first
+/// order: `TooLong` where there are more than `MAX_SCHEMA_BYTES` bytes; `Malformed` where the bytes aren't UTF-8 or the first
 /// line isn't `schema` and a number of one to nine digits; `Version` where that number is neither 1 nor 2; `Malformed`
 /// where another line isn't as it has to be; `Repeated` with what is declared twice, the first in the order of lines; and
 /// `Unknown` with what is used and not declared, the first in the order of lines, and in a line from left to right. Only

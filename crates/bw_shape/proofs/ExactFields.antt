@@ -4,19 +4,19 @@ use Rattle.std.proofs.lemmas.Bool.{or_cases, cases_Bool, or_left, or_right}
 use Rattle.std.proofs.lemmas.Bool.Decides.{nat_tests}
 use Rattle.bw_lang.specs.Document.Forest.{Forest, none, text, gap, element}
 use Rattle.bw_lang.specs.Document.Documents.{one_if}
-use Rattle.bw_rows.specs.Rows.{at}
-use Rattle.bw_rows.specs.Least.{Derived, by, IsDerived, IsClosedAt}
-use Rattle.bw_nodes.specs.Nodes.{Node, node_at, among, led, linked}
-use Rattle.bw_nodes.specs.Fits.{Fits}
+use Rattle.bw_shape.specs.Rows.Rows.{at}
+use Rattle.bw_shape.specs.Rows.Least.{Derived, by, IsDerived, IsClosedAt}
+use Rattle.bw_shape.specs.Nodes.Nodes.{Node, node_at, among, led, linked}
+use Rattle.bw_shape.specs.Nodes.Fits.{Fits}
 use Rattle.bw_sum.specs.Graph.{Graph}
 use Rattle.bw_shape.specs.Tests as test
-use Rattle.bw_nodes.specs.Nodes.{is_free}
+use Rattle.bw_shape.specs.Nodes.Nodes.{is_free}
 use Rattle.bw_shape.specs.Tests.{is_field, tag_column}
-use Rattle.bw_nodes.specs.Templates.{template_at}
+use Rattle.bw_shape.specs.Nodes.Templates.{template_at}
 use Rattle.bw_shape.specs.Follows.{have_follows, lack_follows, twice_follows}
 use Rattle.bw_shape.specs.Shape as shape
 use Rattle.bw_shape.specs.Shape.{Reached, along, Top, tagged, wordy, Gives, Has, Lacks, Places, Doubles, Misses, Crossing}
-use Rattle.bw_nodes.proofs.Bools.{and_parts, and_both, not_true}
+use Rattle.bw_shape.proofs.Nodes.Bools.{and_parts, and_both, not_true}
 use Rattle.bw_shape.proofs.Links.{led_sound, led_whole, linked_sound, linked_whole}
 
 -- what holds of each fact that follows from facts of which it holds, holds of all

@@ -6,21 +6,21 @@ use Rattle.std.proofs.lemmas.Slice.Eq.{bytes_eq-Decides}
 use borrow.Author.Tests.{eqb-true, eq-eqb}
 use Rattle.bw_lang.specs.Document.Forest.{Forest, none, text, gap, element}
 use Rattle.bw_lang.specs.Table.Names.{name_number, same}
-use Rattle.bw_rows.specs.Rows.{at}
-use Rattle.bw_rows.specs.Least.{IsDerived, IsClosedAt}
-use Rattle.bw_nodes.specs.Nodes.{Node, node_at, among, led}
-use Rattle.bw_nodes.specs.Fits.{Fits}
+use Rattle.bw_shape.specs.Rows.Rows.{at}
+use Rattle.bw_shape.specs.Rows.Least.{IsDerived, IsClosedAt}
+use Rattle.bw_shape.specs.Nodes.Nodes.{Node, node_at, among, led}
+use Rattle.bw_shape.specs.Nodes.Fits.{Fits}
 use Rattle.bw_sum.specs.Graph.{Graph}
 use Rattle.bw_shape.specs.Tests as test
 use Rattle.bw_schema.specs.Words.{is_blank}
-use Rattle.bw_nodes.specs.Nodes.{is_free}
+use Rattle.bw_shape.specs.Nodes.Nodes.{is_free}
 use Rattle.bw_shape.specs.Tests.{tag_column}
-use Rattle.bw_nodes.specs.Templates.{template_at}
+use Rattle.bw_shape.specs.Nodes.Templates.{template_at}
 use Rattle.bw_shape.specs.Follows.{top_follows, miss_follows, cross_follows}
 use Rattle.bw_shape.specs.Shape as shape
 use Rattle.bw_shape.specs.Shape.{Reached, along, Top, tagged, wordy, Gives, Misses, Crossing}
 use Rattle.bw_shape.specs.Columns.{top_column, AreKnown}
-use Rattle.bw_nodes.proofs.Bools.{and_parts, and_both, not_true}
+use Rattle.bw_shape.proofs.Nodes.Bools.{and_parts, and_both, not_true}
 use Rattle.bw_shape.proofs.Links.{led_sound, led_whole, same_number}
 use Rattle.bw_shape.proofs.ExactFields.{derived_all}
 

@@ -11,3 +11,5 @@ pub mod PairsNamed
 pub mod Shapes
 pub mod Placing
 pub mod Spreading
+pub mod Rows
+pub mod Nodes

@@ -6,9 +6,9 @@ use Rattle.std.proofs.lemmas.List.Sums.{passes_at_first}
 use Rattle.std.proofs.lemmas.Slice.Eq.{bytes_eq-Decides}
 use borrow.Author.Tests.{eqb-true, eq-eqb}
 use Rattle.bw_lang.specs.Table.Names.{same, name_number}
-use Rattle.bw_nodes.specs.Nodes.{Node, node_at, led, linked}
-use Rattle.bw_nodes.proofs.Bools.{and_parts, and_both}
-use Rattle.bw_nodes.specs.Fits.{Fits}
+use Rattle.bw_shape.specs.Nodes.Nodes.{Node, node_at, led, linked}
+use Rattle.bw_shape.proofs.Nodes.Bools.{and_parts, and_both}
+use Rattle.bw_shape.specs.Nodes.Fits.{Fits}
 use Rattle.bw_sum.specs.Graph.{Graph}
 
 -- a link that passes a test leads to a template that passes another

@@ -4,16 +4,16 @@ use Rattle.std.specs.List.{All, Contains}
 use Rattle.std.proofs.lemmas.List.{get_or_default}
 use Rattle.std.proofs.lemmas.List.Elements.{All-contains}
 use Rattle.bw_lang.specs.Document.Forest.{Forest}
-use Rattle.bw_rows.specs.Rows.{at}
-use Rattle.bw_rows.specs.Least.{IsLeast, IsClosedAt}
-use Rattle.bw_nodes.specs.Nodes.{Node}
-use Rattle.bw_nodes.specs.Fits.{Fits}
+use Rattle.bw_shape.specs.Rows.Rows.{at}
+use Rattle.bw_shape.specs.Rows.Least.{IsLeast, IsClosedAt}
+use Rattle.bw_shape.specs.Nodes.Nodes.{Node}
+use Rattle.bw_shape.specs.Nodes.Fits.{Fits}
 use Rattle.bw_sum.specs.Graph.{Graph}
 use Rattle.bw_shape.specs.Reach as reach
 use Rattle.bw_shape.specs.Reach.{Walked, Reaches}
 use Rattle.bw_shape.specs.Shape as shape
 use Rattle.bw_shape.specs.Shape.{Reached, Top, tagged}
-use Rattle.bw_nodes.specs.Templates.{template_at}
+use Rattle.bw_shape.specs.Nodes.Templates.{template_at}
 use Rattle.bw_shape.specs.Follows.{have_follows, lack_follows, twice_follows, top_follows, miss_follows, cross_follows}
 use Rattle.bw_shape.specs.Columns.{AreKnown}
 use Rattle.bw_shape.specs.Exact.{HoldFacts, AreTables}

@@ -15,7 +15,7 @@ use Rattle.bw_schema.specs.NeedsView.{needs, before_need}
 use Rattle.bw_schema.proofs.NeedsLaws.{needs_more}
 use Rattle.bw_shape.specs.Tests.{tag_column}
 use Rattle.bw_sum.proofs.ReadGaps.{longer}
-use Rattle.bw_nodes.proofs.Bools.{and_both}
+use Rattle.bw_shape.proofs.Nodes.Bools.{and_both}
 use Rattle.bw_shape.specs.Formulas.{same_pair, pair_number, AreNamed, AreColumns, Names}
 use Rattle.bw_shape.proofs.Stays.{named_stay, named_append}
 

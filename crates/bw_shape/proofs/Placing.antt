@@ -4,11 +4,11 @@ use Rattle.std.specs.List.{All, Contains}
 use Rattle.std.proofs.lemmas.Bool.{false≢true}
 use Rattle.std.proofs.lemmas.List.{get_or-set_same, length-set, get_or_default, length-replicate}
 use Rattle.std.proofs.lemmas.List.Elements.{All-push, Contains-append_left, Contains-push}
-use Rattle.bw_rows.specs.Rows.{flag}
+use Rattle.bw_shape.specs.Rows.Rows.{flag}
 use Rattle.bw_shape.specs.Reach.{Takes, Placed}
 use Rattle.bw_shape.proofs.Reaching.{set_keeps, set_news, all_clear}
-use Rattle.bw_rows.proofs.Steps.{equal_or}
-use Rattle.bw_rows.proofs.Waking.{last}
+use Rattle.bw_shape.proofs.Rows.Steps.{equal_or}
+use Rattle.bw_shape.proofs.Rows.Waking.{last}
 
 -- no template yet
 pub placed_none : (rows : ℕ) → Placed rows (replicate rows false) []

@@ -7,12 +7,12 @@ use Rattle.std.proofs.lemmas.List.{get_or-set_same, get_or-set_other, length-set
 use Rattle.std.proofs.lemmas.List.{length-replicate}
 use Rattle.std.proofs.lemmas.List.Elements.{All-push, Contains-append_left, Contains-push}
 use borrow.Author.Tests.{eqb-true, eq-eqb}
-use Rattle.bw_rows.specs.Rows.{flag, ones}
-use Rattle.bw_nodes.specs.Nodes.{Node, node_at, no_node}
+use Rattle.bw_shape.specs.Rows.Rows.{flag, ones}
+use Rattle.bw_shape.specs.Nodes.Nodes.{Node, node_at, no_node}
 use Rattle.bw_shape.specs.Reach.{links_to, Walked, root_is, along, Takes, Visit, Reaching, Reaches}
-use Rattle.bw_nodes.proofs.Bools.{and_parts, and_both}
-use Rattle.bw_rows.proofs.Steps.{equal_or, in_row}
-use Rattle.bw_rows.proofs.Waking.{last}
+use Rattle.bw_shape.proofs.Nodes.Bools.{and_parts, and_both}
+use Rattle.bw_shape.proofs.Rows.Steps.{equal_or, in_row}
+use Rattle.bw_shape.proofs.Rows.Waking.{last}
 
 ones_set : (xs : List Bool) (n : ℕ) → n < length xs → flag xs n ≡ false → ones (set xs n true) ≡ suc (ones xs)
 ones_set [] n l h = absurd (omega (arith, l))

@@ -11,7 +11,7 @@ use borrow.Author.Tests.{eqb-true, eq-eqb}
 use Rattle.bw_lang.specs.declared.service.Service.{Service}
 use Rattle.bw_lang.specs.Document.Forest.{Forest, none}
 use Rattle.bw_lang.specs.Table.Names.{name_number, with_names}
-use Rattle.bw_rows.specs.Rows.{at}
+use Rattle.bw_shape.specs.Rows.Rows.{at}
 use Rattle.bw_schema.specs.declared.rules.Rule.{Rule}
 use Rattle.bw_schema.specs.declared.schema.Schema.{Schema}
 use Rattle.bw_schema.specs.Needs.{Needs, nothing, all_of, some_of, attr, one_value, content, order}
@@ -20,11 +20,11 @@ use Rattle.bw_sum.specs.Graph.{Graph, graph}
 use Rattle.bw_sum.specs.Templates.{all_items, template_items}
 use Rattle.bw_sum.specs.declared.summary.Summary.{Summary}
 use Rattle.bw_types.specs.Fields.{field_names}
-use Rattle.bw_nodes.specs.declared.building.Graphed.{Graphed}
-use Rattle.bw_nodes.specs.Fits.{Fits, AreStrings}
-use Rattle.bw_nodes.specs.Templates.{template_at}
-use Rattle.bw_nodes.proofs.Wrapped.{rows_are}
-use Rattle.bw_nodes.proofs.Bools.{and_parts, and_both, passes_at, any_at}
+use Rattle.bw_shape.specs.declared.building.Graphed.{Graphed}
+use Rattle.bw_shape.specs.Nodes.Fits.{Fits, AreStrings}
+use Rattle.bw_shape.specs.Nodes.Templates.{template_at}
+use Rattle.bw_shape.proofs.Nodes.Wrapped.{rows_are}
+use Rattle.bw_shape.proofs.Nodes.Bools.{and_parts, and_both, passes_at, any_at}
 use Rattle.bw_shape.specs.declared.naming.Named.{Named}
 use Rattle.bw_shape.specs.declared.outline.Outline.{Outline}
 use Rattle.bw_shape.specs.Exact.{HoldFacts, AreTables}

@@ -1,9 +1,9 @@
 -- What spreads along links, from what each template has itself.
 use Rattle.std.proofs.Common.{◌≡◌, ℕ, Bool, true, List, get_or, inl, inr}
 use Rattle.std.proofs.lemmas.Bool.{or_cases, or_left, or_right}
-use Rattle.bw_rows.specs.Rows.{at}
-use Rattle.bw_rows.specs.Least.{Derived, by, IsLeast}
-use Rattle.bw_nodes.specs.Nodes.{Node, node_at, linked}
+use Rattle.bw_shape.specs.Rows.Rows.{at}
+use Rattle.bw_shape.specs.Rows.Least.{Derived, by, IsLeast}
+use Rattle.bw_shape.specs.Nodes.Nodes.{Node, node_at, linked}
 use Rattle.bw_shape.specs.Follows.{spread_follows}
 use Rattle.bw_shape.proofs.ExactFields.{derived_all}
 

@@ -3,8 +3,8 @@ use Rattle.std.proofs.Common.{◌≡◌, ℕ, ◌+◌, ◌<◌, ◌≤◌, ◌==
 use Rattle.std.proofs.Math.Bool.{or_assoc, and_assoc, or-false}
 use Rattle.std.specs.List.{All}
 use Rattle.std.proofs.lemmas.List.{get_or_past}
-use Rattle.bw_rows.proofs.Rows.{split}
-use Rattle.bw_rows.proofs.Changes.{sets_then}
+use Rattle.bw_shape.proofs.Rows.Rows.{split}
+use Rattle.bw_shape.proofs.Rows.Changes.{sets_then}
 use Rattle.bw_lang.specs.Document.Forest.{Forest, none, text, gap, element}
 use Rattle.bw_lang.specs.Document.Documents.{append}
 use Rattle.bw_lang.specs.Table.Names.{name_number}
@@ -12,11 +12,11 @@ use Rattle.bw_lang.specs.declared.items.Item.{Item}
 use Rattle.bw_lang.specs.declared.items.Item.TheVariants.{Text, Element, Gap}
 use Rattle.bw_lang.specs.Document.View.{before}
 use Rattle.bw_lang.proofs.Forests.{forest_steps}
-use Rattle.bw_rows.specs.Rows.{flag, at}
-use Rattle.bw_rows.specs.Changes.{Sets}
-use Rattle.bw_nodes.specs.Nodes.{Node, among, led}
+use Rattle.bw_shape.specs.Rows.Rows.{flag, at}
+use Rattle.bw_shape.specs.Rows.Changes.{Sets}
+use Rattle.bw_shape.specs.Nodes.Nodes.{Node, among, led}
 use Rattle.bw_schema.specs.Words.{is_blank}
-use Rattle.bw_nodes.specs.Nodes.{is_free}
+use Rattle.bw_shape.specs.Nodes.Nodes.{is_free}
 use Rattle.bw_shape.specs.Tests.{gives, tag_column, stands, lacks, places, misses, crosses, opens, is_field}
 
 pub gives-append : (tags : List (List ℕ)) (node : Node) (known : ℕ → Bool) (c : ℕ) (a b : Forest)

@@ -3,13 +3,13 @@ use Rattle.std.specs.Prelude.{◌≡◌, ◌↔◌, ℕ, ◌+◌, ◌<◌, ◌�
 use Rattle.std.specs.List.{Contains}
 use Rattle.bw_lang.specs.Document.Forest.{Forest}
 use Rattle.bw_lang.specs.Table.Names.{name_number}
-use Rattle.bw_rows.specs.Rows.{at}
-use Rattle.bw_rows.specs.Least.{IsDerived, IsClosedAt}
-use Rattle.bw_nodes.specs.Nodes.{Node}
-use Rattle.bw_nodes.specs.Fits.{Fits}
+use Rattle.bw_shape.specs.Rows.Rows.{at}
+use Rattle.bw_shape.specs.Rows.Least.{IsDerived, IsClosedAt}
+use Rattle.bw_shape.specs.Nodes.Nodes.{Node}
+use Rattle.bw_shape.specs.Nodes.Fits.{Fits}
 use Rattle.bw_sum.specs.Graph.{Graph}
 use Rattle.bw_shape.specs.Shape.{Reached, Top, Gives, Has, Lacks, Doubles, Misses, Crossing}
-use Rattle.bw_nodes.specs.Templates.{template_at}
+use Rattle.bw_shape.specs.Nodes.Templates.{template_at}
 use Rattle.bw_shape.specs.Follows.{top_follows, miss_follows, cross_follows}
 use Rattle.bw_shape.specs.Tests.{tag_column}
 use Rattle.bw_shape.specs.Columns.{top_column, AreKnown}

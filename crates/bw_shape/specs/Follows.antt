@@ -1,8 +1,8 @@
 -- Which facts of a template follow from those that are known of all.
 use Rattle.std.specs.Prelude.{ℕ, Bool, ◌||◌, nat_lt, List, slice_index_or}
 use Rattle.bw_lang.specs.Document.Forest.{Forest}
-use Rattle.bw_nodes.specs.Nodes.{Node, node_at, linked}
-use Rattle.bw_nodes.specs.Templates.{template_at}
+use Rattle.bw_shape.specs.Nodes.Nodes.{Node, node_at, linked}
+use Rattle.bw_shape.specs.Nodes.Templates.{template_at}
 use Rattle.bw_shape.specs.Tests.{gives, stands, lacks, places, misses, crosses}
 
 -- what each template has itself, or by one that a link leads to

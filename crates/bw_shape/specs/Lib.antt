@@ -7,3 +7,5 @@ pub mod Reading
 pub mod Reach
 pub mod Shape
 pub mod Tests
+pub mod Rows
+pub mod Nodes

@@ -4,7 +4,7 @@ use Rattle.std.specs.List.{list_any, All, Contains}
 use Rattle.bw_lang.specs.declared.service.Service.{Service}
 use Rattle.bw_lang.specs.Document.Forest.{Forest}
 use Rattle.bw_lang.specs.Table.Names.{name_number, with_names, Extends}
-use Rattle.bw_rows.specs.Rows.{at}
+use Rattle.bw_shape.specs.Rows.Rows.{at}
 use Rattle.bw_schema.specs.declared.rules.Rule.{Rule}
 use Rattle.bw_schema.specs.declared.schema.Schema.{Schema}
 use Rattle.bw_strings.specs.Asking.{AreLiterals}
@@ -13,8 +13,8 @@ use Rattle.bw_sum.specs.Graph.{Graph, graph}
 use Rattle.bw_sum.specs.Templates.{all_items, template_items}
 use Rattle.bw_sum.specs.declared.summary.Summary.{Summary}
 use Rattle.bw_types.specs.Fields.{field_names}
-use Rattle.bw_nodes.specs.declared.building.Graphed.{Graphed}
-use Rattle.bw_nodes.specs.Fits.{Fits, AreStrings}
+use Rattle.bw_shape.specs.declared.building.Graphed.{Graphed}
+use Rattle.bw_shape.specs.Nodes.Fits.{Fits, AreStrings}
 use Rattle.bw_shape.specs.Columns.{top_column}
 use Rattle.bw_shape.specs.Exact.{HoldFacts, AreTables}
 use Rattle.bw_shape.specs.Formulas.{schema_tags, schema_orders, pair_number, AreNamed}

@@ -1,8 +1,8 @@
 -- Which templates are reached from a root, and how they are found.
 use Rattle.std.specs.Prelude.{◌≡◌, ◌⊎◌, ℕ, ◌+◌, ◌<◌, ◌≤◌, ◌==◌, ◌&&◌, ◌++◌, Bool, true, false, List, [], ◌∷◌, length, set, slice_index_or}
 use Rattle.std.specs.List.{list_any, All, Contains}
-use Rattle.bw_rows.specs.Rows.{flag, ones}
-use Rattle.bw_nodes.specs.Nodes.{Node, node_at}
+use Rattle.bw_shape.specs.Rows.Rows.{flag, ones}
+use Rattle.bw_shape.specs.Nodes.Nodes.{Node, node_at}
 
 -- a link of the node at that gap leads to that template
 abbrev pub links_to : Node → ℕ → ℕ → Bool

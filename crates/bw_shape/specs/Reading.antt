@@ -4,9 +4,9 @@ use Rattle.std.specs.List.{list_any, All}
 use Rattle.std.proofs.lemmas.List.Elements.{All-tail}
 use Rattle.bw_lang.specs.Document.Forest.{Forest, none, text, gap, element}
 use Rattle.bw_lang.specs.Table.Names.{name_number}
-use Rattle.bw_rows.specs.Rounds.{ReadsLinks}
-use Rattle.bw_nodes.specs.Nodes.{Node, node_at, is_free, among, led, linked}
-use Rattle.bw_nodes.specs.Templates.{template_at}
+use Rattle.bw_shape.specs.Rows.Rounds.{ReadsLinks}
+use Rattle.bw_shape.specs.Nodes.Nodes.{Node, node_at, is_free, among, led, linked}
+use Rattle.bw_shape.specs.Nodes.Templates.{template_at}
 use Rattle.bw_schema.specs.Words.{is_blank}
 use Rattle.bw_shape.specs.Tests.{is_field, tag_column, gives, lacks, misses, crosses}
 use Rattle.bw_shape.specs.Follows.{spread_follows, lack_follows, top_follows, miss_follows, cross_follows}

@@ -7,7 +7,7 @@ use Rattle.bw_lang.specs.Document.Documents.{one_if}
 use Rattle.bw_lang.specs.Table.Names.{name_number}
 use Rattle.bw_lang.specs.Template.Controls.{field_of}
 use Rattle.bw_schema.specs.Words.{is_blank}
-use Rattle.bw_nodes.specs.Nodes.{Node, among, is_free, led}
+use Rattle.bw_shape.specs.Nodes.Nodes.{Node, among, is_free, led}
 
 -- the element is a control of the field of that number
 abbrev pub is_field : List (List ℕ) → ℕ → List ℕ → List Attr → Bool

@@ -1,13 +1,12 @@
 //! An order of the templates in which the facts of a page graph settle soon.
 ghost use Rattle.std.specs.Prelude.{◌≡◌, ℕ, ◌<◌, true, IfOk, OnOk, length};
 ghost use Rattle.std.specs.List.{All, Contains};
-ghost use Rattle.bw_rows.specs.Rows.{flag};
+ghost use Rattle.bw_shape.specs.Rows.Rows.{flag};
 ghost use Rattle.bw_shape.specs.Reach.{Placed};
 
 use crate::reach::take_in;
+use crate::{Node, Row};
 use bw_lang::Memory;
-use bw_nodes::Node;
-use bw_rows::Row;
 use std::alloc::Global;
 
 /// Leads a path on to a template, unless it was seen.

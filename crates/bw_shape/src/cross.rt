@@ -1,18 +1,17 @@
 //! Which tags may stand before which others at the top of a template.
 ghost use Rattle.std.specs.Prelude.{◌≡◌, ℕ, ◌+◌, ◌<◌, ◌==◌, ◌||◌, ◌&&◌, false, IfOk, OnOk, length, slice_index_or};
 ghost use Rattle.std.specs.List.{All};
-ghost use Rattle.bw_rows.specs.Rows.{flag, at};
+ghost use Rattle.bw_shape.specs.Rows.Rows.{flag, at};
 ghost use Rattle.bw_lang.specs.Document.Forest.{none};
 ghost use Rattle.bw_lang.specs.Document.View.{before};
 ghost use Rattle.bw_shape.specs.Tests as test;
-ghost use Rattle.bw_rows.specs.Changes.{Sets};
+ghost use Rattle.bw_shape.specs.Rows.Changes.{Sets};
 
 use crate::gaps::links_at;
 use crate::tags::Tags;
 use crate::tops::item_gives;
+use crate::{Node, Row, Rule, Table, TemplateItems};
 use bw_lang::{GapId, Item, Items, Memory, TemplateId};
-use bw_nodes::{Node, TemplateItems};
-use bw_rows::{Row, Rule, Table};
 use std::alloc::Global;
 
 /// Sets the pairs of which the first was seen and the second is given.

@@ -1,14 +1,13 @@
 //! The tables of the facts of fields.
 ghost use Rattle.std.specs.Prelude.{◌≡◌, ℕ, ◌<◌, length, IfOk};
 ghost use Rattle.std.specs.List.{All};
-ghost use Rattle.bw_rows.specs.Least.{IsLeast};
-ghost use Rattle.bw_rows.specs.Rows.{at};
+ghost use Rattle.bw_shape.specs.Rows.Least.{IsLeast};
+ghost use Rattle.bw_shape.specs.Rows.Rows.{at};
 ghost use Rattle.bw_shape.specs.Follows.{have_follows, lack_follows, twice_follows};
 
 use crate::fields::{Doubled, MayLack, Spread, Stands};
+use crate::{Node, Table, TemplateItems, least};
 use bw_lang::{FieldNames, Memory};
-use bw_nodes::{Node, TemplateItems};
-use bw_rows::{Table, least};
 use std::alloc::Global;
 
 /// The facts of fields.

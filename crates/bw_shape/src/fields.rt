@@ -1,17 +1,16 @@
 //! Which fields a template may lack, have, and have twice.
 ghost use Rattle.std.specs.Prelude.{◌≡◌, ℕ, ◌<◌, ◌==◌, ◌||◌, ◌&&◌, false, IfOk, OnOk, MatchOption, length};
-ghost use Rattle.bw_rows.specs.Rows.{flag, at};
+ghost use Rattle.bw_shape.specs.Rows.Rows.{flag, at};
 ghost use Rattle.bw_lang.specs.Document.Forest.{none};
 ghost use Rattle.bw_lang.specs.Document.View.{before};
-ghost use Rattle.bw_nodes.specs.Nodes as nodes;
-ghost use Rattle.bw_rows.specs.Changes.{Sets, Clears, Rises};
+ghost use Rattle.bw_shape.specs.Nodes.Nodes as nodes;
+ghost use Rattle.bw_shape.specs.Rows.Changes.{Sets, Clears, Rises};
 ghost use Rattle.bw_shape.specs.Tests as test;
 ghost use Rattle.bw_lang.specs.Document.Documents.{one_if};
 
 use crate::gaps::{gap_lacks, links_at};
+use crate::{Node, Row, Rule, Table, Tally, TemplateItems};
 use bw_lang::{Element, FieldNames, GapId, Item, Items, Memory, TemplateId};
-use bw_nodes::{Node, TemplateItems};
-use bw_rows::{Row, Rule, Table, Tally};
 use std::alloc::Global;
 
 /// The number of the field that the element is a control of.

@@ -1,13 +1,12 @@
 //! What a gap has, however it is filled, and where the gaps of a template lead to.
 ghost use Rattle.std.specs.Prelude.{◌≡◌, ◌<◌, ◌||◌, OnOk, length};
-ghost use Rattle.bw_rows.specs.Rows.{at};
-ghost use Rattle.bw_nodes.specs.Nodes as nodes;
-ghost use Rattle.bw_rows.specs.Changes.{Clears};
+ghost use Rattle.bw_shape.specs.Rows.Rows.{at};
+ghost use Rattle.bw_shape.specs.Nodes.Nodes as nodes;
+ghost use Rattle.bw_shape.specs.Rows.Changes.{Clears};
 ghost use Rattle.bw_shape.specs.Reading.{links_of};
 
+use crate::{Node, Row, Table};
 use bw_lang::{GapId, Memory, TemplateId};
-use bw_nodes::Node;
-use bw_rows::{Row, Table};
 use std::alloc::Global;
 
 /// Clears the columns, as fields or tags, that the gap has in any case, as it may be filled.

@@ -2,17 +2,17 @@
 ghost use Rattle.std.specs.Prelude.{◌≡◌, ℕ, ◌<◌, length, IfOk};
 ghost use Rattle.std.specs.List.{All};
 ghost use Rattle.bw_strings.specs.Literals.{literals_of};
-ghost use Rattle.bw_nodes.specs.Nodes.{node_at};
+ghost use Rattle.bw_shape.specs.Nodes.Nodes.{node_at};
 ghost use Rattle.bw_sum.specs.Templates.{all_items};
 ghost use Rattle.bw_shape.specs.Formulas.{AreColumns};
 ghost use Rattle.bw_shape.specs.Outlines as spec;
 
 use crate::naming::{Named, name_rules};
 use crate::tables::{Tables, tables_of};
+use crate::{Graphed, TemplateItems, nodes_of};
 use bw_lang::laws::readable_is_small;
 use bw_lang::wrappers::{exit_wrapper, show_wrapper};
 use bw_lang::{FieldId, FieldNames, Memory, TemplateId};
-use bw_nodes::{Graphed, TemplateItems, nodes_of};
 use bw_schema::Schema;
 use bw_strings::Literals;
 use bw_sum::Summary;

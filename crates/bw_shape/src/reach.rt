@@ -1,12 +1,11 @@
 //! Which templates are reached from a root.
 ghost use Rattle.std.specs.Prelude.{◌≡◌, ℕ, ◌<◌, [], true, false, IfOk, OnOk, length, replicate};
 ghost use Rattle.std.specs.List.{All};
-ghost use Rattle.bw_nodes.specs.Nodes.{node_at};
+ghost use Rattle.bw_shape.specs.Nodes.Nodes.{node_at};
 ghost use Rattle.bw_shape.specs.Reach.{Takes, Visit, Reaches};
 
+use crate::{Node, Row};
 use bw_lang::{GapId, Memory, TemplateId};
-use bw_nodes::Node;
-use bw_rows::Row;
 use std::alloc::Global;
 
 /// Takes a template in, unless it was seen.

@@ -4,9 +4,9 @@ ghost use Rattle.std.specs.List.{All};
 ghost use Rattle.bw_lang.specs.Document.Forest.{none};
 ghost use Rattle.bw_lang.specs.Table.Names.{Extends};
 ghost use Rattle.bw_lang.specs.Document.View.{before};
-ghost use Rattle.bw_nodes.specs.Fits.{Fits};
-ghost use Rattle.bw_nodes.specs.Nodes.{node_at};
-ghost use Rattle.bw_nodes.specs.Templates.{template_at};
+ghost use Rattle.bw_shape.specs.Nodes.Fits.{Fits};
+ghost use Rattle.bw_shape.specs.Nodes.Nodes.{node_at};
+ghost use Rattle.bw_shape.specs.Nodes.Templates.{template_at};
 ghost use Rattle.bw_sum.specs.Graph.{Graph};
 ghost use Rattle.bw_shape.specs.Columns.{AreKnown};
 ghost use Rattle.bw_shape.specs.Exact.{HoldFacts, AreTables};
@@ -17,9 +17,8 @@ use crate::field_tables::{FieldTables, fields_of};
 use crate::reach::reached;
 use crate::tag_tables::{TagTables, tags_of};
 use crate::tags::Tags;
+use crate::{Node, Table, TemplateItems};
 use bw_lang::{FieldNames, Item, Items, Memory};
-use bw_nodes::{Node, TemplateItems};
-use bw_rows::Table;
 use std::alloc::Global;
 
 /// The facts of a page graph, as rows of flags by the numbers of templates. Templates that aren't reached have empty rows.

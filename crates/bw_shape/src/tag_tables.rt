@@ -1,16 +1,15 @@
 //! The tables of the facts of tags at the top.
 ghost use Rattle.std.specs.Prelude.{◌≡◌, ℕ, ◌+◌, ◌<◌, length, IfOk};
 ghost use Rattle.std.specs.List.{All};
-ghost use Rattle.bw_rows.specs.Least.{IsLeast};
-ghost use Rattle.bw_rows.specs.Rows.{at};
+ghost use Rattle.bw_shape.specs.Rows.Least.{IsLeast};
+ghost use Rattle.bw_shape.specs.Rows.Rows.{at};
 ghost use Rattle.bw_shape.specs.Follows.{top_follows, miss_follows, cross_follows};
 
 use crate::cross::Crosses;
 use crate::tags::Tags;
 use crate::tops::{MayMiss, Tops};
+use crate::{Node, Table, TemplateItems, least};
 use bw_lang::Memory;
-use bw_nodes::{Node, TemplateItems};
-use bw_rows::{Table, least};
 use std::alloc::Global;
 
 /// The facts of tags at the top.

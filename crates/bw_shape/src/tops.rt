@@ -1,18 +1,17 @@
 //! What may stand at the top of a template.
 ghost use Rattle.std.specs.Prelude.{◌≡◌, ℕ, ◌+◌, ◌<◌, ◌==◌, ◌||◌, ◌&&◌, false, IfOk, OnOk, length, slice_index_or};
 ghost use Rattle.std.specs.List.{All};
-ghost use Rattle.bw_rows.specs.Rows.{flag, at};
+ghost use Rattle.bw_shape.specs.Rows.Rows.{flag, at};
 ghost use Rattle.bw_lang.specs.Document.Forest.{none};
 ghost use Rattle.bw_lang.specs.Document.View.{before};
 ghost use Rattle.bw_schema.specs.Words as words;
-ghost use Rattle.bw_rows.specs.Changes.{Sets, Clears};
+ghost use Rattle.bw_shape.specs.Rows.Changes.{Sets, Clears};
 ghost use Rattle.bw_shape.specs.Tests as test;
 
 use crate::gaps::{gap_lacks, links_at};
 use crate::tags::Tags;
+use crate::{Node, Row, Rule, Table, TemplateItems};
 use bw_lang::{GapId, Item, Items, Memory, TemplateId, is_blank};
-use bw_nodes::{Node, TemplateItems};
-use bw_rows::{Row, Rule, Table};
 use std::alloc::Global;
 
 /// Whether a text counts as none: it has spaces, tabs, CR and LF alone.

@@ -26,9 +26,9 @@ use Rattle.bw_analyse.specs.declared.facts.Facts.{Facts}
 use Rattle.bw_analyse.specs.Facts.{shown_fact}
 use Rattle.bw_analyse.specs.Least.{flow_of}
 use Rattle.bw_analyse.proofs.PageLaws.{has_page}
-use Rattle.bw_analyse_cover.specs.Seen.{graph_of, known_of}
-use Rattle.bw_analyse_cover.proofs.Accepted.{facts_are_accepted}
-use Rattle.bw_analyse_cover.proofs.Places.{ShowsAt, show_found, exit_found}
+use Rattle.bw_sound.specs.Found.Seen.{graph_of, known_of}
+use Rattle.bw_sound.proofs.Found.Accepted.{facts_are_accepted}
+use Rattle.bw_sound.proofs.Found.Places.{ShowsAt, show_found, exit_found}
 use Rattle.bw_check.specs.Accepts.{IsAccepted}
 use Rattle.bw_check.specs.Faults.{received_at}
 use Rattle.bw_sound.proofs.Pages.{show_valid, show_fields, exit_valid}

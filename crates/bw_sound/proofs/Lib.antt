@@ -6,3 +6,4 @@ pub mod Covered
 pub mod Read
 pub mod Steps
 pub mod Runs
+pub mod Found

@@ -41,11 +41,11 @@ use Rattle.bw_analyse.specs.Least.{flow_of}
 use Rattle.bw_analyse.specs.Pages.{shown_page, exited_page, name_of, page_by, page_graph, page_at as page_in}
 use Rattle.bw_analyse.specs.StepLaws.{HasFew, expression_up}
 use Rattle.bw_analyse.specs.TypedSystem.{few_of}
-use Rattle.bw_within.proofs.Named.{received_have_numbers}
-use Rattle.bw_analyse_cover.specs.Seen.{graph_of}
-use Rattle.bw_analyse_cover.proofs.Cells.{typed_flow, typed_service, known_gaps, row_fits, last_fits}
-use Rattle.bw_analyse_cover.proofs.Places.{ShowsAt, ExitsAt}
-use Rattle.bw_analyse_cover.proofs.Told.{f_fits, page_is}
+use Rattle.bw_check.proofs.Within.Named.{received_have_numbers}
+use Rattle.bw_sound.specs.Found.Seen.{graph_of}
+use Rattle.bw_sound.proofs.Found.Cells.{typed_flow, typed_service, known_gaps, row_fits, last_fits}
+use Rattle.bw_sound.proofs.Found.Places.{ShowsAt, ExitsAt}
+use Rattle.bw_sound.proofs.Found.Told.{f_fits, page_is}
 use Rattle.bw_check.specs.Accepts.{IsAccepted}
 use Rattle.bw_check.specs.Faults.{received_at}
 use Rattle.bw_sound.proofs.Summed.{show_there, exit_there, has_title, title, target, shown_is, exited_is}

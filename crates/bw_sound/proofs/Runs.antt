@@ -4,7 +4,7 @@ use Rattle.std.specs.Prelude.{List, Option}
 use Rattle.std.specs.List.{slice_index_or, slice_get}
 use Rattle.bw_http.specs.declared.replies.Reply.{Reply}
 use Rattle.bw_http.specs.declared.request.Request.{Request}
-use Rattle.bw_http.specs.Forms.{IsTextForm}
+use Rattle.bw_lang.specs.Service.Submissions.{IsTextForm}
 use Rattle.bw_http.proofs.Lossy.{cuts_are_text}
 use Rattle.bw_lang.specs.declared.service.Service.{Service}
 use Rattle.bw_model.specs.Reached.{none, one_more}
@@ -19,8 +19,8 @@ use Rattle.bw_cover.specs.Worlds.{CoversWorld}
 use Rattle.bw_cover.proofs.FlowWorlds.{flow_empty_is_covered, flow_steps_keep_covering}
 use Rattle.bw_analyse.specs.declared.abstracts.Abstract.{Abstract}
 use Rattle.bw_analyse.specs.Facts.{joined_option}
-use Rattle.bw_analyse_cover.specs.Seen.{facts_of}
-use Rattle.bw_within.proofs.OneSolution.{facts_are_one}
+use Rattle.bw_sound.specs.Found.Seen.{facts_of}
+use Rattle.bw_check.proofs.Within.OneSolution.{facts_are_one}
 use Rattle.bw_check.specs.Accepts.{Accepts}
 use Rattle.bw_sum.specs.declared.summary.Summary.{Summary}
 use Rattle.bw_sound.specs.Good.{IsGood, PagesAreGood, RunsAreGood}

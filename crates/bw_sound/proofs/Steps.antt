@@ -5,7 +5,7 @@ use Rattle.std.specs.List.{Contains}
 use Rattle.bw_http.specs.declared.replies.Reply.{Reply}
 use Rattle.bw_http.specs.declared.replies.Reply.TheVariants as replies
 use Rattle.bw_http.specs.declared.request.Path.TheVariants as paths
-use Rattle.bw_http.specs.Forms.{IsTextForm}
+use Rattle.bw_lang.specs.Service.Submissions.{IsTextForm}
 use Rattle.bw_http.specs.Paths.{spelling}
 use Rattle.bw_judge.proofs.Sound.{first_in, later_in}
 use Rattle.bw_lang.specs.declared.service.Service.{Service}

@@ -5,7 +5,7 @@ use Rattle.std.specs.Prelude.{nat_lt}
 use Rattle.bw_lang.specs.declared.service.Service.{Service}
 use Rattle.bw_lang.specs.Document.Forest.{Forest}
 use Rattle.bw_lang.specs.Document.Wrappers.{show_wrapper, exit_wrapper}
-use Rattle.bw_nodes.proofs.Wrapped.{at_behind}
+use Rattle.bw_shape.proofs.Nodes.Wrapped.{at_behind}
 use Rattle.bw_strings.specs.Asking.{has_string}
 use Rattle.bw_strings.specs.declared.strings.StrSet.TheVariants.{Any}
 use Rattle.bw_strings.specs.Literals.{literals_of}
@@ -24,8 +24,8 @@ use Rattle.bw_shape.proofs.Shapes.{template_is}
 use Rattle.bw_cover.specs.Abstracts as cover
 use Rattle.bw_analyse.specs.Pages.{shown_page, exited_page, name_of}
 use Rattle.bw_analyse.specs.StepLaws.{HasFew}
-use Rattle.bw_within.proofs.Named.{name_named}
-use Rattle.bw_analyse_cover.proofs.Seen.{same_graph, one_seen}
+use Rattle.bw_check.proofs.Within.Named.{name_named}
+use Rattle.bw_sound.proofs.Found.Seen.{same_graph, one_seen}
 use Rattle.bw_sound.proofs.Unfolded.{titled, show_graph, exit_graph}
 
 -- ---- the wrappers stand behind the templates

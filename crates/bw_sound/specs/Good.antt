@@ -8,7 +8,7 @@ use Rattle.bw_http.specs.declared.replies.Reply.{Reply}
 use Rattle.bw_http.specs.declared.replies.Reply.TheVariants as replies
 use Rattle.bw_http.specs.declared.request.Path.TheVariants as paths
 use Rattle.bw_http.specs.declared.request.Request.{Request}
-use Rattle.bw_http.specs.Forms.{IsTextForm}
+use Rattle.bw_lang.specs.Service.Submissions.{IsTextForm}
 use Rattle.bw_http.specs.Paths.{spelling}
 use Rattle.bw_lang.specs.Document.Forest.{Forest}
 use Rattle.bw_lang.specs.Document.Print.{print, joined}

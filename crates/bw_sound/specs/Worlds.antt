@@ -1,7 +1,7 @@
 -- The worlds from which on every page is good.
 use Rattle.std.specs.Prelude.{◌≡◌, ℕ}
 use Rattle.bw_http.specs.declared.request.Request.{Request}
-use Rattle.bw_http.specs.Forms.{IsTextForm}
+use Rattle.bw_lang.specs.Service.Submissions.{IsTextForm}
 use Rattle.bw_lang.specs.declared.service.Service.{Service}
 use Rattle.bw_model.specs.Reached.{Reached}
 use Rattle.bw_model.specs.Sessions.{World, empty}
@@ -13,7 +13,7 @@ use Rattle.bw_made.specs.Worlds.{IsTextWorld}
 use Rattle.bw_cover.specs.Worlds.{CoversWorld}
 use Rattle.bw_analyse.specs.declared.facts.Facts.{Facts}
 use Rattle.bw_analyse.specs.Facts.{AreFacts}
-use Rattle.bw_analyse_cover.specs.Seen.{known_of}
+use Rattle.bw_sound.specs.Found.Seen.{known_of}
 use Rattle.bw_check.specs.Accepts.{Accepts}
 
 -- The service is well typed. What the world holds is covered by the facts of the service, and its documents are made of the

@@ -15,10 +15,11 @@ use Rattle.bw_tmpl.specs.Refusals.{IsTemplateRefused}
 use Rattle.bw_tmpl.specs.declared.fault.TmplFault.TheVariants as templates
 use Rattle.bw_syntax.specs.declared.fault.SyntaxFault.{SyntaxFault}
 use Rattle.bw_syntax.specs.declared.fault.SyntaxFault.TheVariants as faults
+use Rattle.bw_lang.specs.declared.limits.TheConstants.{MAX_FILE_BYTES, MAX_TEMPLATE_NEST}
 
 -- the declaration is a template that is refused so; or there was no memory
 abbrev pub IsUnread : Draft → SyntaxFault → Type 0
-IsUnread (drafts.Template name inside) (faults.Template n fault) = (n ≡ name) × IsTemplateRefused 64 inside fault × (fault ≢ templates.Memory)
+IsUnread (drafts.Template name inside) (faults.Template n fault) = (n ≡ name) × IsTemplateRefused MAX_TEMPLATE_NEST inside fault × (fault ≢ templates.Memory)
 IsUnread draft faults.Memory = ⊤
 IsUnread draft fault = ⊥
 
@@ -66,8 +67,8 @@ pub record IsGreat (bytes : List ℕ) (limit : Limit) (n : ℕ) : Type 0 where
 -- The bytes read as no service, for this reason. Each reason rules out those in front of it, and want of memory may come
 -- anywhere.
 abbrev pub IsServiceRefused : List ℕ → SyntaxFault → Type 0
-IsServiceRefused bytes faults.TooLong = 1048576 < length bytes
-IsServiceRefused bytes (faults.Lex fault) = (length bytes ≤ 1048576) × IsUntokened bytes fault
+IsServiceRefused bytes faults.TooLong = MAX_FILE_BYTES < length bytes
+IsServiceRefused bytes (faults.Lex fault) = (length bytes ≤ MAX_FILE_BYTES) × IsUntokened bytes fault
 IsServiceRefused bytes (faults.TooMany limit n) = IsDeep bytes limit n ⊎ IsGreat bytes limit n
 IsServiceRefused bytes (faults.Syntax at) = IsNoService bytes at
 IsServiceRefused bytes (faults.Template name fault) = IsUnreadDraft bytes (faults.Template name fault)

@@ -11,14 +11,12 @@ ghost use Rattle.bw_syntax.specs.Steps.Stages.{IsUntold, IsUnparsed, IsParsed, I
 use crate::fault::SyntaxFault;
 use crate::lexemes::lexemes_of;
 use crate::templates::read_all;
+use bw_lang::limits::MAX_FILE_BYTES;
 use bw_lang::{Lexeme, Service, Token, Tokens};
 use bw_lex::{LexFault, lex};
 use bw_limits::{too_deep, too_many};
 use bw_parse::{ParseFault, ServiceDraft, parse_service};
 use std::alloc::Global;
-
-/// The greatest number of bytes of a service file.
-const FILE_MOST: usize = 1_048_576;
 
 /// The tokens of a text, and what they say.
 #[derive(Drop)]
@@ -32,7 +30,7 @@ fn tell(alloc: Global, bytes: &[u8]) -> Result<Told, SyntaxFault>
     ensures told { IfOk result (λ t. IsText bytes.now t.lexemes.items) }
     ensures untold { IfErr result (IsUntold bytes.now) }
 {
-    if bytes.len() > FILE_MOST {
+    if bytes.len() > MAX_FILE_BYTES {
         return Err(SyntaxFault::TooLong);
     }
     match lex(alloc, bytes) {

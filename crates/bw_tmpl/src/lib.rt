@@ -17,4 +17,4 @@ mod repeats;
 mod tags;
 
 pub use fault::TmplFault;
-pub use reading::{TEMPLATE_NESTING, read_closed, read_template};
+pub use reading::{read_closed, read_template};

@@ -9,6 +9,7 @@ ghost use Rattle.bw_lang.specs.Template.Pieces.{SpellsPieces};
 ghost use Rattle.bw_lang.specs.Template.Templates.{IsTemplate, IsClosedTemplate};
 ghost use Rattle.bw_tmpl.specs.Refusals.{IsTemplateRefused, IsClosedRefused};
 ghost use Rattle.bw_lang.specs.declared.pieces.Piece.{Piece as Piece_};
+ghost use Rattle.bw_lang.specs.declared.limits.TheConstants.{MAX_TEMPLATE_NEST};
 
 use crate::at_once::at_once;
 use crate::building::items_of;
@@ -17,12 +18,10 @@ use crate::gaps::{add_all, any_gap};
 use crate::nesting::depth_of;
 use crate::repeats::any_repeats;
 use crate::tags::pieces_of;
+use bw_lang::limits::MAX_TEMPLATE_NEST;
 use bw_lang::pieces::Piece;
 use bw_lang::{GapNames, Items, Memory};
 use std::alloc::Global;
-
-/// The greatest number of elements that may stand inside one another in a template of a service.
-pub const TEMPLATE_NESTING: u32 = 64;
 
 /// Refuses pieces that can't be built. The tags are paired and counted here, so that no refused text is built.
 fn check(alloc: Global, pieces: &[Piece], most: u32) -> Result<(), TmplFault>
@@ -44,10 +43,10 @@ fn check(alloc: Global, pieces: &[Piece], most: u32) -> Result<(), TmplFault>
 ///
 /// It refuses, in this order: `Malformed` where the bytes are no list of pieces, `RepeatedAttribute` where a tag
 /// names an attribute twice, `Mismatched` where the tags don't pair, and `Nesting` where more than
-/// `TEMPLATE_NESTING` elements stand inside one another. Then `gaps` is as it was. After `Memory`, which may come
+/// `MAX_TEMPLATE_NEST` elements stand inside one another. Then `gaps` is as it was. After `Memory`, which may come
 /// at any time, it may have new names behind the old ones.
 pub fn read_template(alloc: Global, bytes: &[u8], gaps: &mut GapNames) -> Result<Items, TmplFault>
-    ensures items { MatchResult result (λ f. IsTemplate gaps.new TEMPLATE_NESTING bytes.now f) (λ e. IsTemplateRefused TEMPLATE_NESTING bytes.now e) }
+    ensures items { MatchResult result (λ f. IsTemplate gaps.new MAX_TEMPLATE_NEST bytes.now f) (λ e. IsTemplateRefused MAX_TEMPLATE_NEST bytes.now e) }
     ensures names { OnOk result ((ps : List Piece_) → SpellsPieces ps bytes.now → gaps.new ≡ with_names gaps.old (gap_names ps)) }
     ensures numbered { IfOk result (λ f. (g : ℕ) → length gaps.new ≤ g → count g f ≡ 0) }
     ensures extends { Extends gaps.old gaps.new }
@@ -55,7 +54,7 @@ pub fn read_template(alloc: Global, bytes: &[u8], gaps: &mut GapNames) -> Result
 {
     let list = pieces_of(alloc, bytes)?;
     let pieces = list.as_slice();
-    check(alloc, pieces, TEMPLATE_NESTING)?;
+    check(alloc, pieces, MAX_TEMPLATE_NEST)?;
     add_all(gaps, pieces)?;
     items_of(alloc, pieces, gaps)
 }

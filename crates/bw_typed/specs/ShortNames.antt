@@ -11,9 +11,10 @@ use Rattle.bw_lang.specs.Service.Code.{Code, done, declare, assign, if_then, if_
 use Rattle.bw_lang.specs.Service.Reads.{IsReadable}
 use Rattle.bw_types.specs.Fields.{field_names}
 use Rattle.bw_lang.specs.Service.Term.{Term, int, truth, string, name, paren, not, neg, binary, call, plug, nothing, Fillings, no_more, filling}
+use Rattle.bw_lang.specs.declared.limits.TheConstants.{MAX_NAME_BYTES}
 
 abbrev pub IsShortName : List ℕ → Type 0
-IsShortName w = length w ≤ 64
+IsShortName w = length w ≤ MAX_NAME_BYTES
 
 -- each name in the expression is short
 abbrev mutual

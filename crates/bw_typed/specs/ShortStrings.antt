@@ -7,9 +7,10 @@ use Rattle.bw_lang.specs.Service.Code.{Code}
 use Rattle.bw_lang.specs.Service.Reads.{IsReadable}
 use Rattle.bw_lang.specs.Service.Term.{Term, Fillings}
 use Rattle.bw_typed.specs.Strings.{EachString, EachFilled, CodeStrings, LiteralString}
+use Rattle.bw_lang.specs.declared.limits.TheConstants.{MAX_STRING_BYTES}
 
 abbrev pub IsShort : List ℕ → Type 0
-IsShort s = length s ≤ 16384
+IsShort s = length s ≤ MAX_STRING_BYTES
 
 -- each string of an expression, of the values of a plug, and of statements is short
 abbrev pub HasShort : Term → Type 0

@@ -5,7 +5,7 @@ use Rattle.bw_analyse.specs.declared.facts.Facts.{Facts}
 use Rattle.bw_check.specs.Accepts.{Accepts, IsAccepted}
 use Rattle.bw_http.specs.declared.replies.Reply.{Reply}
 use Rattle.bw_http.specs.declared.request.Request.{Request}
-use Rattle.bw_http.specs.Forms.{IsTextForm}
+use Rattle.bw_lang.specs.Service.Submissions.{IsTextForm}
 use Rattle.bw_model.specs.Sessions.{World, empty}
 use Rattle.bw_model.specs.Steps.{step}
 use Rattle.bw_schema.specs.declared.schema.Schema.{Schema}

@@ -11,3 +11,4 @@ pub mod Posted
 pub mod Refusals
 pub mod Refused
 pub mod Standing
+pub mod Streams

@@ -7,9 +7,9 @@ use Rattle.bw_doc.specs.Made.{Made}
 use Rattle.bw_eval.specs.declared.value.Value.{Value}
 use Rattle.bw_eval.specs.View.{document, values}
 use Rattle.bw_flow.specs.Layout.{plan_of}
-use Rattle.bw_follow.specs.Laws.{IsOf}
-use Rattle.bw_follow.proofs.Fit.{shown_is_fit, shown_again_is_fit}
-use Rattle.bw_follow.proofs.Kept.{typed_is_ready}
+use Rattle.bw_run.specs.Follow.Laws.{IsOf}
+use Rattle.bw_run.proofs.Follow.Fit.{shown_is_fit, shown_again_is_fit}
+use Rattle.bw_run.proofs.Follow.Kept.{typed_is_ready}
 use Rattle.bw_meaning.specs.GoOn.{turn, go_on}
 use Rattle.bw_meaning.specs.States.{Form, Input}
 use Rattle.bw_meaning.specs.Values.{Values}

@@ -19,8 +19,8 @@ use Rattle.bw_flow.specs.declared.point.Local.{Local}
 use Rattle.bw_flow.specs.Layout.{receives, number_of_field}
 use Rattle.bw_flow.specs.Scopes.{kind_in, kind_or_string, target_kind}
 use Rattle.bw_flow.proofs.Names.{kind_in_is}
-use Rattle.bw_follow.specs.Kinds.{kind_of, kinds_of, kinds_in}
-use Rattle.bw_follow.proofs.ValueKinds.{beside_kinds}
+use Rattle.bw_run.specs.Follow.Kinds.{kind_of, kinds_of, kinds_in}
+use Rattle.bw_run.proofs.Follow.ValueKinds.{beside_kinds}
 use Rattle.bw_meaning.specs.States.{Form}
 use Rattle.bw_meaning.specs.Values.{Value, Values, number, truth_value, text, document, list}
 use Rattle.bw_model.specs.Received.{long_refusal, string_refusal, refusal, first_refusal}

@@ -17,6 +17,7 @@ use Rattle.bw_run.specs.declared.fields.FieldFault.{FieldFault}
 use Rattle.bw_run.specs.declared.fields.FieldFault.TheVariants as fields
 use Rattle.bw_world.specs.declared.suspended.Suspended.{Suspended}
 use Rattle.bw_world.specs.Seen.{Seen}
+use Rattle.bw_model.specs.declared.limits.TheConstants.{MAX_LIVE}
 
 -- the page of a session's document, with the target of its turn, and a session's last page
 abbrev pub shown_page : Service → ℕ → ℕ → ℕ → Made → List ℕ
@@ -34,7 +35,7 @@ went_on s frame page = record { number = s.number; key = s.key; session = s.sess
 
 -- a new session in front, of at most 1,000
 abbrev pub with_new : Seen → Suspended → List (List ℕ × Value) → Seen
-with_new w s shared = record w { shared = shared; next = suc w.next; live = take 1000 ((w.next, s) ∷ w.live) }
+with_new w s shared = record w { shared = shared; next = suc w.next; live = take MAX_LIVE ((w.next, s) ∷ w.live) }
 
 -- a session that stands there already, in front
 abbrev pub with_first : Seen → Suspended → List (List ℕ × Value) → Seen

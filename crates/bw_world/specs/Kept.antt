@@ -4,13 +4,14 @@ use Rattle.std.specs.List.{All}
 use Rattle.bw_lang.specs.declared.service.Service.{Service}
 use Rattle.bw_types.specs.declared.typed.Typed.{Typed}
 use Rattle.bw_doc.specs.Operations.{IsOf}
-use Rattle.bw_follow.specs.Laws as follow
+use Rattle.bw_run.specs.Follow.Laws as follow
 use Rattle.bw_run.specs.declared.turn.Turn.{Turn}
 use Rattle.bw_run.specs.declared.turn.Turn.TheVariants as turns
 use Rattle.bw_run.specs.Fit.{IsFrame, AreShared}
 use Rattle.bw_run.specs.Walks.{number_at}
 use Rattle.bw_world.specs.declared.suspended.Suspended.{Suspended}
 use Rattle.bw_world.specs.Seen.{Seen, flow_of}
+use Rattle.bw_model.specs.declared.limits.TheConstants.{MAX_LIVE}
 
 -- a session waits at a show of its own, with a frame that is fit and a document of the service
 pub record IsSuspended (service : Service) (s : Suspended) : Type 0 where
@@ -35,4 +36,4 @@ pub record IsKept (w : Seen) : Type 0 where
   pub shared : AreShared w.service w.shared
   pub sessions : All (λ x. IsSuspended w.service x.1) w.live
   pub apart : AreApart w.next w.live
-  pub few : length w.live ≤ 1000
+  pub few : length w.live ≤ MAX_LIVE

@@ -4,3 +4,4 @@ pub mod Kept
 pub mod Plain
 pub mod Seen
 pub mod Stands
+pub mod Streams

@@ -13,11 +13,12 @@ use Rattle.bw_run.specs.Missing.{first_missing}
 use Rattle.bw_run.specs.Turns.{receives_of}
 use Rattle.bw_world.specs.declared.suspended.Suspended.{Suspended}
 use Rattle.bw_world.specs.Seen.{Seen, flow_of, found}
+use Rattle.bw_model.specs.declared.limits.TheConstants.{MAX_NUMBER}
 
 -- a form that is refused, or one for a session that has had all its turns
 abbrev pub takes_no_turn : Option FieldFault → ℕ → Bool
 takes_no_turn (Some fault) turn = true
-takes_no_turn None turn = turn == 4294967295
+takes_no_turn None turn = turn == MAX_NUMBER
 
 -- no session of that number and key, another turn than the current one, or a form that makes no turn
 abbrev pub is_plain_visit : List Step → Method → Form → ℕ → Option Suspended → Bool
@@ -28,7 +29,7 @@ is_plain_visit flow method form turn (Some s) = not (turn == s.turn) || takes_no
 -- no session of that name, or no number left
 abbrev pub is_plain_start : ℕ → Option ℕ → Bool
 is_plain_start next None = true
-is_plain_start next (Some session) = nat_lt 4294967295 next
+is_plain_start next (Some session) = nat_lt MAX_NUMBER next
 
 -- by its path: a path or a method that isn't served, or one of these
 abbrev pub is_plain_on : Seen → Method → Form → Path → Bool

@@ -14,6 +14,7 @@ use Rattle.bw_run.specs.Walks.{number_at}
 use Rattle.bw_types.specs.Fields.{field_names}
 use Rattle.bw_world.specs.declared.suspended.Suspended.{Suspended}
 use Rattle.bw_world.specs.Seen.{Seen, flow_of}
+use Rattle.bw_lang.specs.declared.turn.TheConstants.{BUDGET}
 
 -- the session waits where the frame says, with its locals and rests, and its document is the page's
 abbrev pub IsWaiting : Service → Suspended → Outcome → Type 0
@@ -47,7 +48,7 @@ pub record StandsFor (w : Seen) (m : World) : Type 0 where
 
 -- the counter rose by at most 100,000
 abbrev pub Rises : ℕ → ℕ → Type 0
-Rises before after = (before ≤ after) × (after ≤ before + 100000)
+Rises before after = (before ≤ after) × (after ≤ before + BUDGET)
 
 -- there was no memory: the world is as before, and the counter rose by at most 100,000
 pub record Wants (old new : Seen) (answer : Reply) (before after : ℕ) : Type 0 where

@@ -2,12 +2,18 @@
 #![tactic(auto)]
 
 mod changes;
+pub mod ends;
+pub mod laws;
+mod outcomes;
 mod pages;
 mod state;
 mod steps;
+mod stream;
 pub mod suspended;
 mod turns;
 pub mod world;
 
+pub use ends::StreamEnd;
+pub use stream::answer;
 pub use suspended::Suspended;
 pub use world::World;

@@ -4,10 +4,12 @@ ghost use Rattle.bw_model.specs.Sessions.{empty};
 ghost use Rattle.bw_world.specs.Kept.{IsKept, IsSuspended};
 ghost use Rattle.bw_world.specs.Seen.{found};
 ghost use Rattle.bw_world.specs.Stands.{StandsFor};
+ghost use Rattle.bw_model.specs.declared.limits.TheConstants.{MAX_LIVE};
 
 use crate::suspended::Suspended;
 use bw_check::Checked;
 use bw_lang::Memory;
+use bw_model::limits::MAX_LIVE;
 use bw_run::{SharedValues, first_values};
 use lru::LruCache;
 use std::alloc::Global;
@@ -32,6 +34,7 @@ impl Model for State {
     ghost use Rattle.std.specs.Prelude.{◌≡◌};
     ghost use Rattle.bw_world.specs.Seen.{Seen};
     ghost use Rattle.bw_world.specs.Kept.{IsKept};
+    ghost use Rattle.bw_model.specs.declared.limits.TheConstants.{MAX_LIVE};
 
     ghost Value = { Seen };
 
@@ -49,7 +52,7 @@ impl Model for State {
       live = w.live.entries;
     } };
 
-    ghost invariant = { λ w. (w.live.cap ≡ 1000) × IsKept (record {
+    ghost invariant = { λ w. (w.live.cap ≡ MAX_LIVE) × IsKept (record {
       service = w.checked.typed.service;
       shared = w.shared;
       next = w.next;
@@ -71,7 +74,7 @@ impl State {
         ensures service { IfOk result (λ w. w.service ≡ checked.typed.service) }
         ensures stands { IfOk result (λ w. StandsFor w (record (empty checked.typed.service) { next = next; first = first })) }
     {
-        let Some(most) = NonZeroUsize::new(1000) else {
+        let Some(most) = NonZeroUsize::new(MAX_LIVE) else {
             unreachable!()
         };
         let Ok(shared) = first_values(alloc, checked.typed()) else {
@@ -105,7 +108,7 @@ impl State {
     /// How many sessions are live.
     pub(crate) fn live(&self) -> usize
         ensures live { result ≡ length self.now.live }
-        ensures few { result ≤ 1000 }
+        ensures few { result ≤ MAX_LIVE }
     {
         self.live.len()
     }

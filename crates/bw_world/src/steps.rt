@@ -17,6 +17,7 @@ use crate::pages::index;
 use crate::state::State;
 use bw_http::{Allow, Method, Path, Reply, Request};
 use bw_lang::{Name, SessionId, Submission, TurnFault};
+use bw_model::limits::MAX_NUMBER;
 use bw_out::Steps as Counter;
 use bw_run::{FieldFault, Turn};
 use std::alloc::Global;
@@ -119,7 +120,7 @@ impl State {
             return refusal(fault);
         }
         let turn = one.turn;
-        if turn == 4_294_967_295 {
+        if turn == MAX_NUMBER {
             return Reply::NoTurns;
         }
         match self.next_turn(alloc, one, form, steps) {

@@ -2,7 +2,7 @@
 ghost use Rattle.std.specs.Prelude.{◌≡◌, ◌<◌, [], IfOk, None, Some, length, nat_lt};
 ghost use Rattle.bw_eval.specs.Evaluations.{HasMemory};
 ghost use Rattle.bw_eval.specs.View.{values};
-ghost use Rattle.bw_follow.specs.Laws as follow;
+ghost use Rattle.bw_run.specs.Follow.Laws as follow;
 ghost use Rattle.bw_meaning.specs.GoOn as meaning;
 ghost use Rattle.bw_run.specs.Fit.{IsFitTurn};
 ghost use Rattle.bw_run.specs.Missing.{first_missing};
@@ -12,10 +12,12 @@ ghost use Rattle.bw_world.specs.declared.suspended.Suspended.{Suspended};
 ghost use Rattle.bw_world.specs.Kept.{IsKept, IsOwn, IsSuspended};
 ghost use Rattle.bw_world.specs.Seen.{flow_of, found};
 ghost use Rattle.bw_world.specs.Stands.{Rises};
+ghost use Rattle.bw_model.specs.declared.limits.TheConstants.{MAX_NUMBER};
 
 use crate::state::State;
 use crate::suspended::Suspended;
 use bw_lang::{Name, SessionId, Submission, TurnFault};
+use bw_model::limits::MAX_NUMBER;
 use bw_out::Steps as Counter;
 use bw_run::{FieldFault, Turn, missing, resume, start};
 use std::alloc::Global;
@@ -44,9 +46,9 @@ impl State {
 
     /// Whether all numbers of sessions were given.
     pub(crate) fn is_spent(&self) -> bool
-        ensures { result ≡ nat_lt 4294967295 self.now.next }
+        ensures { result ≡ nat_lt MAX_NUMBER self.now.next }
     {
-        self.next > 4_294_967_295
+        self.next > u64::from(MAX_NUMBER)
     }
 
     /// Why a session doesn't take this form.

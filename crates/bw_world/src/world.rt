@@ -1,6 +1,5 @@
 //! Worlds.
 ghost use Rattle.std.specs.Prelude.{◌≡◌, ◌≢◌, ◌≤◌, ◌^◌, true, length, IfOk, IfSome, option_copied};
-ghost use Rattle.bw_http.specs.Forms.{IsTextForm};
 ghost use Rattle.bw_http.specs.Replies.{IsReply};
 ghost use Rattle.bw_model.specs.Sessions.{empty};
 ghost use Rattle.bw_model.specs.Steps as model;
@@ -10,6 +9,7 @@ ghost use Rattle.bw_world.specs.Kept.{IsKept, IsSuspended};
 ghost use Rattle.bw_world.specs.Plain.{is_plain};
 ghost use Rattle.bw_world.specs.Seen.{found};
 ghost use Rattle.bw_world.specs.Stands.{StandsFor, Handles, Rises, fields_of};
+ghost use Rattle.bw_model.specs.declared.limits.TheConstants.{MAX_LIVE};
 
 use crate::state::State;
 use crate::suspended::Suspended;
@@ -88,7 +88,7 @@ impl World {
     /// How many sessions are live: at most 1,000. It takes no memory.
     pub fn live(&self) -> usize
         ensures live { result ≡ length self.now.live }
-        ensures few { result ≤ 1000 }
+        ensures few { result ≤ MAX_LIVE }
     {
         self.state.live()
     }
@@ -116,8 +116,7 @@ impl World {
     ///
     /// Every page that is answered is valid by each schema that accepts the service, the page of a show has each field that
     /// the show receives, and the bytes read as this one page: so it is for each sound world of the meaning that this one
-    /// stands for, and there is one. The form's values are UTF-8, as the texts of every `Submission` are and as
-    /// `read_request` promises.
+    /// stands for, and there is one.
     pub fn handle<L: Ledger>(
         &mut self,
         alloc: Global,
@@ -125,7 +124,6 @@ impl World {
         key: u64,
         steps: &mut Counter<L>,
     ) -> Reply
-        requires { IsTextForm request.now.form }
         ensures step { Handles self.old self.new result steps.old steps.new (λ m. model.step self.old.service m request.now key) }
         ensures service { self.new.service ≡ self.old.service }
         ensures memory { result ≡ Reply.Memory → self.new ≡ self.old }
@@ -135,7 +133,9 @@ impl World {
         ensures good { IsGoodReply self.old request.now key result }
         ensures pages { HasGoodReply self.old request.now key result }
     {
+        // Both for the proof alone: this world is sound, and the form's values are UTF-8.
         let _ = self.state.checked();
+        let _ = request.form.as_slice();
         self.state.step(alloc, request, key, steps)
     }
 }

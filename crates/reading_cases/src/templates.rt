@@ -14,8 +14,9 @@
 //! as `(TAG NAME='VALUE' NAME=<NUMBER> ITEMS)`. The faults are `malformed`, `repeated attribute`, `mismatched` and
 //! `nesting`.
 
+use bw_lang::limits::MAX_TEMPLATE_NEST;
 use bw_lang::{Attr, AttrValue, Attrs, GapId, GapNames, Item, Items, Text, Tree};
-use bw_tmpl::{TEMPLATE_NESTING, TmplFault, read_closed, read_template};
+use bw_tmpl::{TmplFault, read_closed, read_template};
 use case_files::{Case, Fault, Line, Texts, Verdict, escaped};
 use std::alloc::{AllocError, Global};
 
@@ -63,7 +64,7 @@ impl<'a> TemplateCase<'a> {
     fn of(case: &Case<'a>) -> Result<TemplateCase<'a>, Fault> {
         let mut template_case = TemplateCase {
             text: "",
-            most: TEMPLATE_NESTING,
+            most: MAX_TEMPLATE_NEST,
             items: Outcome::Items(""),
             gaps: "",
             closed: None,

@@ -5,6 +5,7 @@ use Rattle.bw_lang.specs.declared.items.AttrValue.TheVariants.{Fixed, Hole}
 use Rattle.bw_lang.specs.declared.measure.Measure.{Measure}
 use Rattle.bw_lang.specs.declared.measure.MeasureFault.{MeasureFault}
 use Rattle.bw_lang.specs.declared.measure.MeasureFault.TheVariants.{Heavy, Deep, Nested}
+use Rattle.bw_lang.specs.declared.measure.TheConstants.{MAX_WEIGHT, MAX_DEPTH, MAX_NEST}
 use Rattle.bw_lang.specs.Document.Forest.{Forest, none, text, gap, element}
 use Rattle.bw_lang.specs.Document.Documents as doc
 
@@ -49,16 +50,16 @@ plugged b a k at = record {
 
 -- the limits of a document
 pub record IsWithin (m : Measure) : Type 0 where
-  pub weight : m.weight ≤ 1048576
-  pub depth : m.depth ≤ 4000
-  pub nest : m.nest ≤ 500
+  pub weight : m.weight ≤ MAX_WEIGHT
+  pub depth : m.depth ≤ MAX_DEPTH
+  pub nest : m.nest ≤ MAX_NEST
 
 -- the measure, or the first of weight, depth and nest that is over its limit
 abbrev pub tested : Measure → Result Measure MeasureFault
 tested m =
-    if nat_lt 1048576 m.weight then Err (Heavy m.weight) else
-    if nat_lt 4000 m.depth then Err (Deep m.depth) else
-    if nat_lt 500 m.nest then Err (Nested m.nest) else Ok m
+    if nat_lt MAX_WEIGHT m.weight then Err (Heavy m.weight) else
+    if nat_lt MAX_DEPTH m.depth then Err (Deep m.depth) else
+    if nat_lt MAX_NEST m.nest then Err (Nested m.nest) else Ok m
 
 -- the forest is a document of this measure: a constant, or a document with its open gaps of a name filled by a
 -- document or by a string

@@ -10,6 +10,17 @@ use Rattle.bw_lang.specs.declared.limits.Leaf.{Leaf}
 use Rattle.bw_lang.specs.declared.limits.Leaf.TheVariants as leaves
 use Rattle.bw_lang.specs.declared.limits.Limit.{Limit}
 use Rattle.bw_lang.specs.declared.limits.Limit.TheVariants as limits
+use Rattle.bw_lang.specs.declared.limits.TheConstants.{
+  MAX_TEMPLATES,
+  MAX_SESSIONS,
+  MAX_SHARED,
+  MAX_GAPS,
+  MAX_FIELDS,
+  MAX_LOCALS,
+  MAX_NAME_BYTES,
+  MAX_STRING_BYTES,
+  MAX_TEMPLATE_WEIGHT,
+}
 use Rattle.bw_lang.specs.declared.service.Literal.{Literal}
 use Rattle.bw_lang.specs.declared.service.Literal.TheVariants as literals
 use Rattle.bw_lang.specs.declared.stmt.Receive.{Receive}
@@ -119,12 +130,12 @@ different names = length (with_names [] names)
 -- the first limit that the declarations pass, with the first number that does
 abbrev pub too_many : List ℕ → List (List ℕ) → List Declaration → Option (Limit × ℕ)
 too_many service gaps ds =
-    option_or (passed limits.Templates 256 (length (templates_of ds) ∷ []))
-    (option_or (passed limits.Sessions 64 (length (sessions_of ds) ∷ []))
-    (option_or (passed limits.Shared 64 (length (shared_of ds) ∷ []))
-    (option_or (passed limits.Gaps 128 (length gaps ∷ []))
-    (option_or (passed limits.Fields 128 (different (flat_map declared_fields ds) ∷ []))
-    (option_or (passed limits.Locals 64 (map (λ s. length (local_names s.body)) (sessions_of ds)))
-    (option_or (passed limits.NameBytes 64 (all_lengths leaves.Name service gaps ds))
-    (option_or (passed limits.StringBytes 16384 (all_lengths leaves.Text service gaps ds))
-    (passed limits.Weight 262144 (map (λ t. constant_weight t.items) (templates_of ds))))))))))
+    option_or (passed limits.Templates MAX_TEMPLATES (length (templates_of ds) ∷ []))
+    (option_or (passed limits.Sessions MAX_SESSIONS (length (sessions_of ds) ∷ []))
+    (option_or (passed limits.Shared MAX_SHARED (length (shared_of ds) ∷ []))
+    (option_or (passed limits.Gaps MAX_GAPS (length gaps ∷ []))
+    (option_or (passed limits.Fields MAX_FIELDS (different (flat_map declared_fields ds) ∷ []))
+    (option_or (passed limits.Locals MAX_LOCALS (map (λ s. length (local_names s.body)) (sessions_of ds)))
+    (option_or (passed limits.NameBytes MAX_NAME_BYTES (all_lengths leaves.Name service gaps ds))
+    (option_or (passed limits.StringBytes MAX_STRING_BYTES (all_lengths leaves.Text service gaps ds))
+    (passed limits.Weight MAX_TEMPLATE_WEIGHT (map (λ t. constant_weight t.items) (templates_of ds))))))))))

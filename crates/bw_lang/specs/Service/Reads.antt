@@ -18,14 +18,15 @@ use Rattle.bw_lang.specs.Template.PieceGaps.{gap_names}
 use Rattle.bw_lang.specs.Service.Sorted.{sort_of, templates_of, shared_of, sessions_of}
 use Rattle.bw_lang.specs.Template.Templates.{IsTemplate}
 use Rattle.bw_lang.specs.Text.Words.{IsName}
+use Rattle.bw_lang.specs.declared.limits.TheConstants.{MAX_FILE_BYTES, MAX_TEMPLATE_NEST}
 
 -- what the tokens of the bytes say
 abbrev pub lexemes : List ℕ → List Token → List Lexeme
 lexemes bytes tokens = map (lexeme bytes) tokens
 
--- the bytes are a text of at most 1,048,576 bytes whose tokens say this
+-- the bytes are a text within the limit of files whose tokens say this
 pub record IsText (bytes : List ℕ) (ls : List Lexeme) : Type 0 where
-  pub short : length bytes ≤ 1048576
+  pub short : length bytes ≤ MAX_FILE_BYTES
   pub tokens : List Token
   pub cut : AreTokens bytes tokens
   pub says : ls ≡ lexemes bytes tokens
@@ -42,7 +43,7 @@ pub record IsDraft (bytes : List ℕ) (name : List ℕ) (drafts : List Draft) : 
 -- A template's inside reads as these items, at most 64 elements inside one another. Its gaps have their numbers by the
 -- table `after`: the names of `before`, and then those that it has besides, in the order in which they stand.
 pub record IsInside (before : List (List ℕ)) (inside : List ℕ) (items : Forest) (after : List (List ℕ)) : Type 0 where
-  pub read : IsTemplate after 64 inside items
+  pub read : IsTemplate after MAX_TEMPLATE_NEST inside items
   pub names : after ≡ with_names before (gap_names read.pieces)
 
 -- The declaration is the drafted one, with its template read. In front of it gaps had the names of `before`, and behind

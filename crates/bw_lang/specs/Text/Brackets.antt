@@ -3,6 +3,7 @@ use Rattle.std.specs.Prelude.{ℕ, suc, ◌-◌, Bool, false, ◌||◌, nat_lt, 
 use Rattle.std.specs.Option.{option_or}
 use Rattle.bw_lang.specs.declared.limits.Limit.{Limit}
 use Rattle.bw_lang.specs.declared.limits.Limit.TheVariants as limits
+use Rattle.bw_lang.specs.declared.limits.TheConstants.{MAX_NESTING, MAX_STRETCH}
 use Rattle.bw_lang.specs.declared.token.Lexeme.{Lexeme}
 use Rattle.bw_lang.specs.declared.token.Lexeme.TheVariants as lex
 use Rattle.bw_lang.specs.Text.Keywords.{is}
@@ -40,4 +41,4 @@ passed limit most numbers = option_map (λ n. (limit, n)) (find (nat_lt most) nu
 
 -- the first of the two limits that the lexemes pass, with the number that does
 abbrev pub too_deep : List Lexeme → Option (Limit × ℕ)
-too_deep ls = option_or (passed limits.Nesting 64 (deepest 0 ls ∷ [])) (passed limits.Stretch 500 (stretches 0 ls))
+too_deep ls = option_or (passed limits.Nesting MAX_NESTING (deepest 0 ls ∷ [])) (passed limits.Stretch MAX_STRETCH (stretches 0 ls))

@@ -20,6 +20,7 @@ use Rattle.bw_schema.specs.declared.lines.Line.TheVariants.{Element, May, Must, 
 use Rattle.bw_schema.specs.declared.needs.Formula.{Formula}
 use Rattle.bw_schema.specs.declared.needs.Formula.TheVariants as formula
 use Rattle.bw_schema.specs.declared.rules.Rule.{Rule}
+use Rattle.bw_schema.specs.declared.reading.TheConstants.{MAX_SCHEMA_BYTES}
 
 -- there is nothing to read, and the fault says so; want of memory says nothing
 abbrev pub MalformedIfNone : {A : Type 0} → SchemaFault → Option A → Type 0
@@ -220,7 +221,7 @@ read_said (ws ∷ more) = read_version (version_of ws) more
 -- the schema of a text, or why there is none
 unfoldable pub read : List ℕ → Result (List ℕ × List Rule) SchemaFault
 read bytes =
-    if nat_lt 1048576 (length bytes) then Err fault.TooLong else
+    if nat_lt MAX_SCHEMA_BYTES (length bytes) then Err fault.TooLong else
     if is_utf8 bytes then read_said (said bytes) else Err fault.Malformed
 
 -- the answer is that, or want of memory

@@ -16,11 +16,12 @@ use Rattle.bw_lex.specs.Refusals.{IsTextRefused as IsUntokened}
 use Rattle.bw_syntax.specs.declared.fault.SyntaxFault.{SyntaxFault}
 use Rattle.bw_syntax.specs.declared.fault.SyntaxFault.TheVariants as faults
 use Rattle.bw_syntax.specs.Refusals.{SpellNothing, IsFirstUnread}
+use Rattle.bw_lang.specs.declared.limits.TheConstants.{MAX_FILE_BYTES}
 
 -- the bytes have no tokens
 abbrev pub IsUntold : List ℕ → SyntaxFault → Type 0
-IsUntold bytes faults.TooLong = 1048576 < length bytes
-IsUntold bytes (faults.Lex fault) = (length bytes ≤ 1048576) × IsUntokened bytes fault
+IsUntold bytes faults.TooLong = MAX_FILE_BYTES < length bytes
+IsUntold bytes (faults.Lex fault) = (length bytes ≤ MAX_FILE_BYTES) × IsUntokened bytes fault
 IsUntold bytes faults.Memory = ⊤
 IsUntold bytes fault = ⊥
 
@@ -56,7 +57,7 @@ IsRefusedDraft name ds fault = ⊥
 
 -- what is written in a text that isn't too long has so few bytes in each template, and declares so few locals
 abbrev pub IsBounded : Draft → Type 0
-IsBounded (drafts.Template name inside) = length inside ≤ 1048576
+IsBounded (drafts.Template name inside) = length inside ≤ MAX_FILE_BYTES
 IsBounded (drafts.Shared kind name init) = ⊤
 IsBounded (drafts.Session s) = length (local_names s.body) < 2 ^ 64
 

@@ -1,6 +1,6 @@
 use Rattle.std.proofs.Common.{◌+◌, ◌∙◌, arith, sym, subst}
 use Rattle.bigwig.specs.Making.{IsSent}
-use Rattle.bigwig.proofs.Sending.{first_is_text, next_is_text, way_begins, way_goes_on, way_ends}
+use Rattle.bigwig.proofs.Sending.{way_begins, way_goes_on, way_ends}
 use Rattle.bigwig.proofs.making.send.Goals as goal
 
 pub loop-turn-init : goal.loop-turn-init
@@ -24,9 +24,3 @@ loop-turn-preserved g c = record {
 pub returns : goal.returns
 returns g c =
     way_ends c.args.world.now.service c.loop-turn.world c.loop-turn.sent c.loop-turn.turn c.args.count c.loop-turn-test.false c.loop-turn.invariant.way
-
-pub send_one-requires : goal.send_one-requires
-send_one-requires g c = first_is_text c.in_ok-first.first c.in_ok-first.ensures
-
-pub send_one-requires-in-loop-turn : goal.send_one-requires-in-loop-turn
-send_one-requires-in-loop-turn g c = next_is_text c.in_ok-next.next (c.loop-turn.turn + 1) (omega arith) c.in_ok-next.ensures

@@ -1,5 +1,5 @@
 use Rattle.std.proofs.Common.{refl, inl}
-use Rattle.bw_answer.specs.Answers.{between}
+use Rattle.bw_world.specs.Streams.Answers.{between}
 use Rattle.bigwig.specs.Asked.{replayed}
 use Rattle.bigwig.proofs.Replies.{nothing_replied, absent_replied, requests_replied}
 use Rattle.bigwig.proofs.replaying.replay_from.Goals as goal

@@ -1,5 +1,5 @@
 use Rattle.std.proofs.Common.{◌≡◌, ◌∙◌, refl, arith, None}
-use Rattle.bw_answer.specs.Answers.{place}
+use Rattle.bw_world.specs.Streams.Answers.{place}
 use Rattle.bigwig.specs.Outcomes.{outside}
 use Rattle.bigwig.proofs.Links.{served_none, served_more, over_most, over_none, over_fault, shows_first, of_link}
 use Rattle.bigwig.proofs.serving.serve_links.Goals as goal

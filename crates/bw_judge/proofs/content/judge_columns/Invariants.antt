@@ -1,4 +1,4 @@
-use Rattle.bw_rows.specs.Rows.{flag}
+use Rattle.bw_shape.specs.Rows.Rows.{flag}
 use Rattle.bw_faults.specs.Lists.{Adds}
 use Rattle.bw_judge.specs.Content.{OfContent}
 use Rattle.bw_judge.proofs.content.judge_columns.Given as goal

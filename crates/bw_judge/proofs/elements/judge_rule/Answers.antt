@@ -2,7 +2,7 @@ use Rattle.std.proofs.Common.{◌⊎◌, ℕ, not, true, List, length, subst}
 use Rattle.bw_faults.specs.declared.fault.Fault.{Fault}
 use Rattle.bw_faults.specs.Lists.{Adds, When, OfSome}
 use Rattle.bw_faults.proofs.Adding.{adds_then}
-use Rattle.bw_rows.specs.Rows.{at}
+use Rattle.bw_shape.specs.Rows.Rows.{at}
 use Rattle.bw_shape.specs.Tests.{gives}
 use Rattle.bw_judge.specs.Content.{fault_at, OfContent}
 use Rattle.bw_judge.specs.Found.{OfMust, OfParts}

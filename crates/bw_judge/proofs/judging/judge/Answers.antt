@@ -3,8 +3,8 @@ use Rattle.std.specs.List.{All}
 use Rattle.bw_faults.specs.Lists.{Lists}
 use Rattle.bw_lang.specs.Document.Documents.{elements}
 use Rattle.bw_lang.specs.Document.Forest.{Forest}
-use Rattle.bw_nodes.specs.Templates.{template_at}
-use Rattle.bw_nodes.proofs.Wrapped.{all_are}
+use Rattle.bw_shape.specs.Nodes.Templates.{template_at}
+use Rattle.bw_shape.proofs.Nodes.Wrapped.{all_are}
 use Rattle.bw_sum.specs.Templates.{all_items}
 use Rattle.bw_strings.specs.Literals.{literals_of}
 use Rattle.bw_typed.proofs.Services.{templates_are_measured}

@@ -1,7 +1,7 @@
 use Rattle.std.proofs.Common.{ℕ, List, [], subst}
 use Rattle.bw_faults.specs.Lists.{Adds, OfSome}
 use Rattle.bw_faults.proofs.Adding.{adds_then, all_added}
-use Rattle.bw_nodes.specs.Templates.{template_at}
+use Rattle.bw_shape.specs.Nodes.Templates.{template_at}
 use Rattle.bw_judge.specs.Found.{OfRoot}
 use Rattle.bw_judge.specs.Pages.{OfOutline, OfAll}
 use Rattle.bw_judge.proofs.judging.judge_all.Goals as goal

@@ -1,6 +1,6 @@
 use Rattle.std.proofs.Common.{◌≡◌, suc, take}
 use Rattle.bw_lang.specs.Document.View.{forest}
-use Rattle.bw_rows.specs.Rows.{at}
+use Rattle.bw_shape.specs.Rows.Rows.{at}
 use Rattle.bw_shape.specs.Tests.{gives, crosses}
 use Rattle.bw_judge.proofs.misses.items_cross.Given as goal
 

@@ -1,7 +1,7 @@
 use Rattle.std.proofs.Common.{◌≡◌, take, map}
 use Rattle.bw_eval.specs.Sound.{AreSound}
 use Rattle.bw_eval.specs.View.{values}
-use Rattle.bw_follow.specs.Kinds.{kinds_of}
+use Rattle.bw_run.specs.Follow.Kinds.{kinds_of}
 use Rattle.bw_run.proofs.Beginnings.{first_of, kind_pair}
 use Rattle.bw_run.proofs.firsts.first_values.Given as goal
 

@@ -2,7 +2,7 @@ use Rattle.std.proofs.Common.{sym, ◌∙◌, refl, map, subst}
 use Rattle.bw_lang.specs.Service.Submissions.{values_of}
 use Rattle.bw_meaning.specs.Statements.{received}
 use Rattle.bw_run.specs.Code.{state, AreShort}
-use Rattle.bw_follow.specs.Runs.{plain}
+use Rattle.bw_run.specs.Follow.Runs.{plain}
 use Rattle.bw_run.proofs.Receivings.{received_next}
 use Rattle.bw_run.proofs.receiving.receive_all.Goals as goal
 

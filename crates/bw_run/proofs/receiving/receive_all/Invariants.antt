@@ -5,7 +5,7 @@ use Rattle.std.specs.List.{All}
 use Rattle.bw_lang.specs.declared.service.Template.{Template}
 use Rattle.bw_lang.specs.Service.Submissions.{values_of}
 use Rattle.bw_run.specs.Code.{state, AreShort, IsSound}
-use Rattle.bw_follow.specs.Runs.{plain}
+use Rattle.bw_run.specs.Follow.Runs.{plain}
 use Rattle.bw_run.proofs.receiving.receive_all.Given as goal
 
 abbrev pub invariant-loop-received : goal.invariant-loop-received

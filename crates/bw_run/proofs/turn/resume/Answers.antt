@@ -8,17 +8,17 @@ use Rattle.bw_flow.specs.Steps.{Plan}
 use Rattle.bw_flow.specs.View.{seen}
 use Rattle.bw_lang.specs.Service.Submissions.{values_of}
 use Rattle.bw_eval.specs.View.{values}
-use Rattle.bw_follow.specs.Runs.{first_of, fields_of}
-use Rattle.bw_follow.specs.Scoped.{names_in}
+use Rattle.bw_run.specs.Follow.Runs.{first_of, fields_of}
+use Rattle.bw_run.specs.Follow.Scoped.{names_in}
 use Rattle.bw_run.specs.Code.{AreShort}
 use Rattle.bw_run.specs.Turns.{received_at, answered_frame}
 use Rattle.bw_meaning.specs.GoOn.{go_on}
 use Rattle.bw_meaning.specs.States.{units_left}
 use Rattle.bw_eval.specs.Sound.{AreSound}
-use Rattle.bw_follow.specs.Kinds as kinds
-use Rattle.bw_follow.specs.Kinds.{kinds_in}
-use Rattle.bw_follow.specs.Laws.{IsFit, IsOf}
-use Rattle.bw_follow.proofs.Kept.{going_on_keeps_kinds}
+use Rattle.bw_run.specs.Follow.Kinds as kinds
+use Rattle.bw_run.specs.Follow.Kinds.{kinds_in}
+use Rattle.bw_run.specs.Follow.Laws.{IsFit, IsOf}
+use Rattle.bw_run.proofs.Follow.Kept.{going_on_keeps_kinds}
 use Rattle.bw_run.specs.Walks.{number_of, number_at}
 use Rattle.bw_run.proofs.Due.{behind_kinds_due}
 use Rattle.bw_run.proofs.Own.{own_session}

@@ -1,7 +1,7 @@
 use Rattle.std.proofs.Common.{◌<◌, length, ap, sym, ◌∙◌, subst}
 use Rattle.std.specs.Prelude.{Ok}
 use Rattle.bw_flow.specs.View.{seen}
-use Rattle.bw_follow.specs.Runs.{first_of, second_of}
+use Rattle.bw_run.specs.Follow.Runs.{first_of, second_of}
 use Rattle.bw_run.proofs.Fits.{can_walk}
 use Rattle.bw_run.proofs.Keeping.{can_do_there, goes_first, goes_second}
 use Rattle.bw_run.proofs.Measures.{less_first, less_second}

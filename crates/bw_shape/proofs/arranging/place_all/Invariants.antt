@@ -1,5 +1,5 @@
 use Rattle.std.proofs.Common.{◌≡◌, ℕ, ◌<◌, true, length, get_or}
-use Rattle.bw_rows.specs.Rows.{flag}
+use Rattle.bw_shape.specs.Rows.Rows.{flag}
 use Rattle.bw_shape.specs.Reach.{Placed}
 use Rattle.bw_shape.proofs.arranging.place_all.Given as goal
 

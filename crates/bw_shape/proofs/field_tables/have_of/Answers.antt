@@ -1,8 +1,8 @@
 use Rattle.std.proofs.Common.{ℕ, Bool, List, length, subst}
 use Rattle.std.specs.Result.{IfOk}
 use Rattle.std.proofs.lemmas.Result.{IfOk-weaker}
-use Rattle.bw_rows.specs.Rows.{at}
-use Rattle.bw_rows.specs.Least.{IsLeast}
+use Rattle.bw_shape.specs.Rows.Rows.{at}
+use Rattle.bw_shape.specs.Rows.Least.{IsLeast}
 use Rattle.bw_shape.specs.Follows.{stands_in, have_follows, spread_follows}
 use Rattle.bw_shape.proofs.Spreading.{spread_least}
 use Rattle.bw_shape.proofs.field_tables.have_of.Goals as goal

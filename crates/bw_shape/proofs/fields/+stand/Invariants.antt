@@ -1,6 +1,6 @@
 use Rattle.std.proofs.Common.{take}
 use Rattle.bw_lang.specs.Document.View.{forest}
-use Rattle.bw_rows.specs.Changes.{Sets}
+use Rattle.bw_shape.specs.Rows.Changes.{Sets}
 use Rattle.bw_shape.specs.Tests.{stands}
 use Rattle.bw_shape.proofs.fields.+stand.Given as goal
 

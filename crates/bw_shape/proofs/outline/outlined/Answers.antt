@@ -1,6 +1,6 @@
 use Rattle.std.proofs.Common.{ℕ, List, length, refl, subst}
-use Rattle.bw_nodes.specs.Fits.{Fits}
-use Rattle.bw_nodes.specs.Nodes.{Node}
+use Rattle.bw_shape.specs.Nodes.Fits.{Fits}
+use Rattle.bw_shape.specs.Nodes.Nodes.{Node}
 use Rattle.bw_sum.specs.Graph.{Graph}
 use Rattle.bw_shape.specs.Exact.{HoldFacts, AreTables}
 use Rattle.bw_shape.proofs.outline.outlined.Goals as goal

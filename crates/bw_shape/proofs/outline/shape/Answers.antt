@@ -1,4 +1,4 @@
-use Rattle.bw_nodes.proofs.Wrapped.{all_are}
+use Rattle.bw_shape.proofs.Nodes.Wrapped.{all_are}
 use Rattle.bw_shape.proofs.outline.shape.Goals as goal
 
 pub shape_within-outline-requires-clause-templates : goal.shape_within-outline-requires-clause-templates

@@ -1,8 +1,8 @@
 use Rattle.std.proofs.Common.{ℕ, [], List, length, get_or, ap, sym, ◌∙◌, subst, arith}
 use Rattle.std.specs.List.{Contains}
 use Rattle.bw_lang.specs.Table.Names.{with_names}
-use Rattle.bw_nodes.specs.Fits.{Fits, AreStrings}
-use Rattle.bw_nodes.proofs.Wrapped.{rows_are}
+use Rattle.bw_shape.specs.Nodes.Fits.{Fits, AreStrings}
+use Rattle.bw_shape.proofs.Nodes.Wrapped.{rows_are}
 use Rattle.bw_schema.specs.declared.rules.Rule.{Rule}
 use Rattle.bw_strings.specs.Asking.{AreLiterals}
 use Rattle.bw_sum.specs.Graph.{graph}

@@ -1,6 +1,6 @@
 use Rattle.std.proofs.Common.{◌<◌, length, get_or, [], sym, subst, arith}
 use Rattle.std.specs.List.{All}
-use Rattle.bw_rows.proofs.Rows.{ones_most}
+use Rattle.bw_shape.proofs.Rows.Rows.{ones_most}
 use Rattle.bw_shape.specs.Reach.{Takes, Visit}
 use Rattle.bw_shape.proofs.Reaching.{reach_start, reach_more, reach_all, next_links}
 use Rattle.bw_shape.proofs.reach.reach.Goals as goal

@@ -1,6 +1,6 @@
 use Rattle.std.proofs.Common.{subst}
 use Rattle.std.specs.List.{All}
-use Rattle.bw_nodes.specs.Templates.{template_at}
+use Rattle.bw_shape.specs.Nodes.Templates.{template_at}
 use Rattle.bw_shape.specs.Columns.{AreKnown}
 use Rattle.bw_shape.proofs.tables.order_of.Goals as goal
 

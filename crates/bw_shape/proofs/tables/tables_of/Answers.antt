@@ -1,7 +1,7 @@
 use Rattle.std.proofs.Common.{ℕ, ◌<◌, List, length, sym, subst, arith}
 use Rattle.std.specs.List.{All, Contains}
 use Rattle.bw_shape.specs.Follows.{miss_follows}
-use Rattle.bw_rows.specs.Least.{IsLeast}
+use Rattle.bw_shape.specs.Rows.Least.{IsLeast}
 use Rattle.bw_sum.proofs.ReadGaps.{longer}
 use Rattle.bw_shape.specs.declared.tables.Tables.{Tables}
 use Rattle.bw_shape.proofs.Outlines.{Made, hold_facts, are_tables}

@@ -1,7 +1,7 @@
 use Rattle.std.proofs.Common.{◌≡◌, ◌⊎◌, inl, inr, ℕ, ◌<◌, ◌+◌, get_or, ap, sym, ◌∙◌, subst, arith}
 use Rattle.std.proofs.lemmas.List.{get_or_default}
 use Rattle.bw_lang.proofs.TableLaws.{extends_trans}
-use Rattle.bw_nodes.specs.Templates.{template_at}
+use Rattle.bw_shape.specs.Nodes.Templates.{template_at}
 use Rattle.bw_shape.specs.Columns.{AreKnown}
 use Rattle.bw_shape.proofs.KnownTags.{known_stay}
 use Rattle.bw_shape.proofs.tables.take_tops.Goals as goal

@@ -1,6 +1,6 @@
 use Rattle.std.proofs.Common.{ℕ, ◌<◌, get_or}
 use Rattle.bw_lang.specs.Table.Names.{Extends}
-use Rattle.bw_nodes.specs.Templates.{template_at}
+use Rattle.bw_shape.specs.Nodes.Templates.{template_at}
 use Rattle.bw_shape.specs.Columns.{AreKnown}
 use Rattle.bw_shape.proofs.tables.take_tops.Given as goal
 

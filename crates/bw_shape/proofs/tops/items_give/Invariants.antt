@@ -1,7 +1,7 @@
 use Rattle.std.proofs.Common.{take}
 use Rattle.bw_lang.specs.Document.View.{forest}
-use Rattle.bw_rows.specs.Rows.{at}
-use Rattle.bw_rows.specs.Changes.{Sets}
+use Rattle.bw_shape.specs.Rows.Rows.{at}
+use Rattle.bw_shape.specs.Rows.Changes.{Sets}
 use Rattle.bw_shape.specs.Tests.{gives}
 use Rattle.bw_shape.proofs.tops.items_give.Given as goal
 

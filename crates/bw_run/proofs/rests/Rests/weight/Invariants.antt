@@ -1,5 +1,5 @@
 use Rattle.std.proofs.Common.{◌≡◌, take}
-use Rattle.bw_follow.specs.Runs.{rests_weight}
+use Rattle.bw_run.specs.Follow.Runs.{rests_weight}
 use Rattle.bw_run.proofs.rests.Rests.weight.Given as goal
 
 abbrev pub invariant-loop-rest : goal.invariant-loop-rest

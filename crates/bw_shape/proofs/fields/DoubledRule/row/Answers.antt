@@ -2,11 +2,11 @@ use Rattle.std.proofs.Common.{◌≡◌, ℕ, ◌<◌, Bool, List, length, get_o
 use Rattle.std.specs.Prelude.{nat_lt}
 use Rattle.std.proofs.lemmas.List.{get_or_default, length-replicate}
 use Rattle.std.proofs.lemmas.Result.{IfOk-weaker}
-use Rattle.bw_rows.specs.Rows.{flag, at}
-use Rattle.bw_nodes.specs.Nodes.{no_node, node_at}
+use Rattle.bw_shape.specs.Rows.Rows.{flag, at}
+use Rattle.bw_shape.specs.Nodes.Nodes.{no_node, node_at}
 use Rattle.bw_shape.specs.Tests.{places}
 use Rattle.bw_shape.specs.Follows.{doubled_in}
-use Rattle.bw_rows.proofs.Changes.{rises_fresh}
+use Rattle.bw_shape.proofs.Rows.Changes.{rises_fresh}
 use Rattle.bw_shape.proofs.fields.DoubledRule.row.Goals as goal
 
 pub returns-clause-each : goal.returns-clause-each

@@ -1,9 +1,9 @@
 use Rattle.std.proofs.Common.{◌<◌, ◌+◌, length, replicate, false, ap, ◌∙◌, arith}
 use Rattle.std.proofs.lemmas.List.{get_or_default}
-use Rattle.bw_rows.specs.Rows.{at}
-use Rattle.bw_nodes.specs.Nodes.{no_node, node_at}
+use Rattle.bw_shape.specs.Rows.Rows.{at}
+use Rattle.bw_shape.specs.Nodes.Nodes.{no_node, node_at}
 use Rattle.bw_shape.specs.Tests.{gives}
-use Rattle.bw_rows.proofs.Changes.{sets_fresh}
+use Rattle.bw_shape.proofs.Rows.Changes.{sets_fresh}
 use Rattle.bw_shape.proofs.tops.TopsRule.row.Goals as goal
 
 pub returns-clause-each : goal.returns-clause-each

@@ -11,7 +11,7 @@ pub invariant_of-self : goal.invariant_of-self
 invariant_of-self g c =
     let old = c.self.inside.state in
     let checked = c.checked.result.now in
-    keeps_sound old c.step.new.self c.args.request.now c.args.key c.step.result c.args.steps.now c.step.new.steps c.step.ensures.stays.service c.requires
+    keeps_sound old c.step.new.self c.args.request.now c.args.key c.step.result c.args.steps.now c.step.new.steps c.step.ensures.stays.service c.as_slice.ensures.utf8
     (handles old c.step.new.self c.step.result c.args.steps.now c.step.new.steps (λ m. model.step old.service m c.args.request.now c.args.key)
     c.step.ensures.step) checked.typed checked.schema checked.facts c.checked.ensures checked.accepted c.self.invariant
 
@@ -27,7 +27,7 @@ pub returns-clause-good : goal.returns-clause-good
 returns-clause-good g c =
     let old = c.self.inside.state in
     subst (λ (w : Seen). IsGoodReply w c.args.request.now c.args.key c.step.result) c.self.view_is
-    (reply_good old c.step.new.self c.args.request.now c.args.key c.step.result c.args.steps.now c.step.new.steps c.step.ensures.stays.service c.requires
+    (reply_good old c.step.new.self c.args.request.now c.args.key c.step.result c.args.steps.now c.step.new.steps c.step.ensures.stays.service c.as_slice.ensures.utf8
     (handles old c.step.new.self c.step.result c.args.steps.now c.step.new.steps (λ m. model.step old.service m c.args.request.now c.args.key)
     c.step.ensures.step))
 
@@ -35,6 +35,6 @@ pub returns-clause-pages : goal.returns-clause-pages
 returns-clause-pages g c =
     let old = c.self.inside.state in
     subst (λ (w : Seen). HasGoodReply w c.args.request.now c.args.key c.step.result) c.self.view_is
-    (has_good old c.step.new.self c.args.request.now c.args.key c.step.result c.args.steps.now c.step.new.steps c.step.ensures.stays.service c.requires
+    (has_good old c.step.new.self c.args.request.now c.args.key c.step.result c.args.steps.now c.step.new.steps c.step.ensures.stays.service c.as_slice.ensures.utf8
     (handles old c.step.new.self c.step.result c.args.steps.now c.step.new.steps (λ m. model.step old.service m c.args.request.now c.args.key)
     c.step.ensures.step) c.self.invariant)

@@ -1,5 +1,0 @@
-use Rattle.bw_analyse_cover.proofs.Accepted.{none_is_listed, facts_solve, facts_are_accepted, facts_cover_worlds}
-use Rattle.bw_analyse_cover.proofs.laws.facts_cover.Goals as goal
-
-pub returns : goal.returns
-returns c = record { gaps = none_is_listed; solved = facts_solve; accepted = facts_are_accepted; worlds = facts_cover_worlds }

@@ -1,5 +1,0 @@
-use Rattle.bw_analyse_cover.proofs.Cells.{least_cells_are_least}
-use Rattle.bw_analyse_cover.proofs.laws.least_cells_are_least.Goals as goal
-
-pub returns : goal.returns
-returns c = least_cells_are_least

@@ -1,5 +1,0 @@
-use Rattle.bw_rows.proofs.Rows.{Joins}
-use Rattle.bw_rows.proofs.row.join_flags.Given as goal
-
-abbrev pub invariant-loop-column : goal.invariant-loop-column
-invariant-loop-column l = Joins l.initial.mine l.its l.mine l.column

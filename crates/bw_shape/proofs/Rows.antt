@@ -1,0 +1,5 @@
+pub mod Changes
+pub mod Rounds
+pub mod Rows
+pub mod Steps
+pub mod Waking

@@ -1,0 +1,6 @@
+use Rattle.std.proofs.Common.{◌≡◌, replicate}
+use Rattle.bw_shape.specs.Nodes.Nodes.{no_node}
+use Rattle.bw_shape.proofs.building.fresh_nodes.Given as goal
+
+abbrev pub invariant-loop : goal.invariant-loop
+invariant-loop l = l.list.items ≡ replicate l.counter no_node

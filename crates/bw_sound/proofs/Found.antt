@@ -1,0 +1,10 @@
+pub mod Accepted
+pub mod Cells
+pub mod KindLaws
+pub mod Literals
+pub mod Places
+pub mod Rounds
+pub mod Seen
+pub mod Shared
+pub mod Steps
+pub mod Told

@@ -1,5 +1,0 @@
-use Rattle.bw_within.proofs.PageGraphs.{pages_are_graphs}
-use Rattle.bw_within.proofs.laws.pages_are_graphs.Goals as goal
-
-pub returns : goal.returns
-returns c = pages_are_graphs c.args.typed.now

@@ -1,5 +1,0 @@
-use Rattle.bw_within.proofs.Named.{received_have_numbers}
-use Rattle.bw_within.proofs.laws.received_have_numbers.Goals as goal
-
-pub returns : goal.returns
-returns c = received_have_numbers c.args.typed.now

@@ -1,0 +1,79 @@
+-- What one call in the midst of a stream did.
+-- It only follows the steps of the code: nothing is promised by it.
+use Rattle.std.specs.Prelude.{◌≡◌, ◌⊎◌, ◌≤◌, ◌+◌, ℕ, List, [], ◌∷◌, length, ⊤}
+use Rattle.std.specs.Io.KnownBytes.{Appends}
+use Rattle.bw_http.specs.Messages.{IsShort}
+use Rattle.bw_http.specs.Replies.{IsReply}
+use Rattle.bw_http.specs.declared.replies.Reply.{Reply}
+use Rattle.bw_http.specs.declared.replies.Reply.TheVariants as replies
+use Rattle.bw_http.specs.declared.request.ReadOutcome.{ReadOutcome}
+use Rattle.bw_http.specs.declared.request.ReadOutcome.TheVariants as outcomes
+use Rattle.bw_lang.specs.Table.Names.{with_names}
+use Rattle.bw_lang.specs.declared.service.Service.{Service}
+use Rattle.bw_model.specs.Runs.{At, Turn, Turns, Stops, want, wants, answer_of}
+use Rattle.bw_out.specs.Writes.{AppendsPart}
+use Rattle.bw_types.specs.Fields.{field_names}
+use Rattle.bw_world.specs.Streams.Answers.{Place, IsAt}
+use Rattle.bw_world.specs.Streams.Courses.{bytes_by}
+use Rattle.bw_world.specs.declared.outcomes.Taken.{Taken}
+use Rattle.bw_world.specs.declared.outcomes.Taken.TheVariants as takens
+use Rattle.bw_world.specs.declared.outcomes.Next.{Next}
+use Rattle.bw_world.specs.declared.outcomes.Next.TheVariants as nexts
+
+-- what comes of an outcome that is no request
+abbrev pub without_request : ReadOutcome → Taken
+without_request outcomes.End = takens.End
+without_request outcomes.BadHead = takens.Refused replies.Bad
+without_request outcomes.Truncated = takens.Refused replies.Bad
+without_request outcomes.HeadTooLong = takens.Refused replies.HeadTooLong
+without_request outcomes.NoHost = takens.Refused replies.Bad
+without_request outcomes.Coding = takens.Refused replies.LengthRequired
+without_request outcomes.BadLength = takens.Refused replies.Bad
+without_request outcomes.LengthRequired = takens.Refused replies.LengthRequired
+without_request outcomes.BodyTooLong = takens.Refused replies.BodyTooLong
+without_request outcomes.Media = takens.Refused replies.Media
+without_request outcomes.ReadFault = takens.ReadFault
+without_request outcomes.Memory = takens.Answered replies.Memory
+
+-- a message was taken, and nothing sent yet
+abbrev pub Taking : Service → At → At → Place → Place → Taken → Type 0
+Taking service at to old new takens.End = Stops at [] to × (new.steps ≡ old.steps)
+Taking service at to old new takens.ReadFault = (to ≡ at) × IsShort new.taken × (new.steps ≡ old.steps)
+Taking service at to old new (takens.Refused reply) = Stops at (reply ∷ []) to × (new.steps ≡ old.steps)
+Taking service at to old new (takens.Answered reply) = (cost : ℕ) × Turn service at reply cost to × (new.steps ≡ old.steps + cost)
+
+abbrev pub Takes : Service → Place → Place → Taken → Type 0
+Takes service old new taken = (at : At) → IsAt old at → (to : At) × IsAt new to × Taking service at to old new taken
+
+-- the reply can be written, and a refusal is no want of memory
+abbrev pub AreFit : Service → Taken → Type 0
+AreFit service (takens.Refused reply) = IsReply (with_names [] (field_names service)) reply × (want reply ≡ 0)
+AreFit service (takens.Answered reply) = IsReply (with_names [] (field_names service)) reply
+AreFit service taken = ⊤
+
+-- one message was handled, or none follows
+abbrev pub Going : Service → At → At → Place → Place → Next → Type 0
+Going service at to old new (nexts.Answered count) =
+    (reply : Reply) × (cost : ℕ) × Turn service at reply cost to × (new.steps ≡ old.steps + cost)
+    × Appends old.held new.held (bytes_by service reply) × (count ≡ want reply)
+Going service at to old new nexts.Ended =
+    (replies : List Reply) × Stops at replies to × (new.steps ≡ old.steps) × Appends old.held new.held (answer_of service replies)
+    × (wants replies ≡ 0)
+Going service at to old new nexts.ReadFault = (to ≡ at) × IsShort new.taken × (new.steps ≡ old.steps) × (new.held ≡ old.held)
+Going service at to old new nexts.WriteFault =
+    (reply : Reply) × (cost : ℕ) × (Turn service at reply cost to ⊎ ((cost ≡ 0) × Stops at (reply ∷ []) to)) × (new.steps ≡ old.steps + cost)
+    × AppendsPart old.held new.held (bytes_by service reply)
+
+-- a message gives one want at most
+abbrev pub IsFew : Next → Type 0
+IsFew (nexts.Answered count) = count ≤ 1
+IsFew next = ⊤
+
+abbrev pub Goes : Service → Place → Place → Next → Type 0
+Goes service old new next = (at : At) → IsAt old at → (to : At) × IsAt new to × Going service at to old new next
+
+-- a stream of which so many messages were handled, and so many of the replies are wants
+abbrev pub Stands : Service → ℕ → ℕ → Place → Place → Type 0
+Stands service n count old new = (at : At) → IsAt old at → (to : At) × IsAt new to
+    × ((replies : List Reply) × (cost : ℕ) × Turns service at replies cost to × (length replies ≡ n) × (new.steps ≡ old.steps + cost)
+    × Appends old.held new.held (answer_of service replies) × (count ≡ wants replies))
