@@ -4,6 +4,7 @@ use Rattle.bw_check.specs.Accepts.{Accepts, IsCheckFault}
 use Rattle.bw_check.specs.declared.fault.CheckFault.{CheckFault}
 use Rattle.bw_check.specs.declared.fault.CheckFault.TheVariants as checks
 use Rattle.bw_check.proofs.OneAnswer.{accepted_has_none}
+use Rattle.bw_format.specs.declared.format.Format.{Format}
 use Rattle.bw_lang.specs.Service.Reads.{Reads}
 use Rattle.bw_lang.specs.Table.Names.{with_names}
 use Rattle.bw_lang.specs.declared.service.Service.{Service}
@@ -60,13 +61,13 @@ not_refused t by (checks.TooMany n) a f some = let few = a.1.limits.points in om
 not_refused t by checks.Memory a f some = some refl
 
 -- the names are those of the service's templates, and the lines of the fault tell why it isn't accepted
-pub refused_why : (tree : Service) (by : Schema) (names : List (List ℕ)) (fault : CheckFault) (s : Stop) → names ≡ page_names tree → SaysWhy names fault s
-    → IsCheckFault tree by fault → IsStop (checked tree by) s
-refused_why tree by names (checks.Refused l) s same h f =
-    text_stops (checked tree by) refusals.Service (check_text (page_names tree) (checks.Refused l)) s
+pub refused_why : (tree : Service) (by : Schema) (formats : List Format) (names : List (List ℕ)) (fault : CheckFault) (s : Stop) → names ≡ page_names tree → SaysWhy names fault s
+    → IsCheckFault tree by fault → IsStop (checked tree by formats) s
+refused_why tree by formats names (checks.Refused l) s same h f =
+    text_stops (checked tree by formats) refusals.Service (check_text (page_names tree) (checks.Refused l)) s
     (subst (λ n. SaysText refusals.Service (check_text n (checks.Refused l)) s) same h) (checks.Refused l, f, (λ e. cc), refl)
-refused_why tree by names (checks.TooLarge n) s same h f =
-    text_stops (checked tree by) refusals.Service (check_text (page_names tree) (checks.TooLarge n)) s h (checks.TooLarge n, f, (λ e. cc), refl)
-refused_why tree by names (checks.TooMany n) s same h f =
-    text_stops (checked tree by) refusals.Service (check_text (page_names tree) (checks.TooMany n)) s h (checks.TooMany n, f, (λ e. cc), refl)
-refused_why tree by names checks.Memory s same h f = subst (IsStop (checked tree by)) (sym h) tt
+refused_why tree by formats names (checks.TooLarge n) s same h f =
+    text_stops (checked tree by formats) refusals.Service (check_text (page_names tree) (checks.TooLarge n)) s h (checks.TooLarge n, f, (λ e. cc), refl)
+refused_why tree by formats names (checks.TooMany n) s same h f =
+    text_stops (checked tree by formats) refusals.Service (check_text (page_names tree) (checks.TooMany n)) s h (checks.TooMany n, f, (λ e. cc), refl)
+refused_why tree by formats names checks.Memory s same h f = subst (IsStop (checked tree by formats)) (sym h) tt

@@ -1,8 +1,13 @@
 -- Questions that follow one another are decided where each of them is.
-use Rattle.std.proofs.Common.{◌≡◌, ℕ, List, [], Option, None, Some, sym, ap, ◌∙◌, subst, inl, inr}
+use Rattle.std.proofs.Common.{◌≡◌, ℕ, List, [], Option, None, Some, Result, Ok, Err, refl, sym, ap, ◌∙◌, subst, inl, inr}
+use Rattle.std.specs.Str.Lines.{lines}
 use Rattle.std.proofs.Math.Path.{to_path_p}
+use Rattle.bw_format.specs.declared.file.FormatFault.{FormatFault}
+use Rattle.bw_format.specs.declared.format.Format.{Format}
+use Rattle.bw_format.proofs.OneAnswer.{one_answer}
 use Rattle.bw_lang.specs.Document.Forest.{Forest}
 use Rattle.bw_lang.specs.declared.service.Service.{Service}
+use Rattle.bw_lights.proofs.OneLights.{lights_once}
 use Rattle.bw_make.specs.Made.{made}
 use Rattle.bw_out.specs.Told.{Disk}
 use Rattle.bw_read.proofs.Decided.{one_page}
@@ -14,16 +19,17 @@ use Rattle.bw_types.specs.Faults.{faults_of, first_member}
 use Rattle.bw_types.specs.declared.fault.TypeFault.{TypeFault}
 use Rattle.bw_valid.specs.Breaches.{breach}
 use Rattle.bw_valid.proofs.BreachLaws.{valid_decided}
-use Rattle.bigwig.specs.Asked.{page, page_file, rules, schema, built_in, judged, ruled}
-use Rattle.bigwig.specs.Asked.{command, file, read, typed, service_file, checked, checked_by, accepted_file, accepted_text}
+use Rattle.bigwig.specs.Asked.{page, page_file, rules, schema, built_in, judged, ruled, formats_in, formats_file, formats, lit, lit_file}
+use Rattle.bigwig.specs.Asked.{command, file, read, typed, service_file, checked, checked_with, checked_by, accepted_file, accepted_text}
+use Rattle.bigwig.specs.Asked.Work.{prints}
 use Rattle.bigwig.specs.Asked.{accepted, replayed, at_port, turned, work, asked, usage_line}
 use Rattle.bigwig.specs.Commands.{command_of}
 use Rattle.bigwig.specs.Lines.{no_file_line}
 use Rattle.bigwig.specs.Questions.{Said, Question, ◌>>=◌, found, line}
 use Rattle.bigwig.specs.declared.command.Command.{Command}
-use Rattle.bigwig.specs.declared.command.Command.TheVariants.{Check, Replay, Serve, Valid, Make}
+use Rattle.bigwig.specs.declared.command.Command.TheVariants.{Check, Replay, Serve, Valid, Make, Light}
 use Rattle.bigwig.specs.declared.status.Status.{Status}
-use Rattle.bigwig.specs.declared.status.Status.TheVariants.{Usage, NoFile, ServiceRefused, SchemaRefused, PageRefused}
+use Rattle.bigwig.specs.declared.status.Status.TheVariants.{Usage, NoFile, ServiceRefused, SchemaRefused, PageRefused, FormatsRefused}
 use Rattle.bigwig.proofs.Checks.{IsTyped, typed_of, typed_given, not_refused}
 
 -- The question is answered in one way: it gives one value, or something is said, with one status.
@@ -137,36 +143,68 @@ judged_decided tree by = record {
   one_status = λ s t p r. one_said PageRefused s t _ _ p.2 r.2;
 }
 
-pub checked_decided : (tree : Service) (by : Schema) → IsTyped tree → IsDecided (checked tree by)
-checked_decided tree by w = record {
+ok_same : (r : Result (List Format) FormatFault) (a b : List Format) → r ≡ Ok a → r ≡ Ok b → a ≡ b
+ok_same r a b e f = cc
+
+ok_or_err : (r : Result (List Format) FormatFault) (a : List Format) (fault : FormatFault) → r ≡ Ok a → r ≡ Err fault → ⊥
+ok_or_err r a fault e f = cc
+
+pub formats_in_decided : (content : List ℕ) → IsDecided (formats_in content)
+formats_in_decided content = record {
+  once = λ a b p r. ok_same (Ok a) a b refl (one_answer content (Ok a) (Ok b) p r);
+  not_both = λ a s p r. ok_or_err (Ok a) a r.0 refl (one_answer content (Ok a) (Err r.0) p r.1);
+  one_status = λ s t p r. one_said FormatsRefused s t _ _ p.3 r.3;
+}
+
+pub formats_file_decided : (disk : Disk) (name : List ℕ) → IsDecided (formats_file disk name)
+formats_file_decided disk name = then (file disk name) formats_in (file_decided disk name) (λ content _. formats_in_decided content)
+
+pub formats_decided : (disk : Disk) (form : Option (List ℕ)) → IsDecided (formats disk form)
+formats_decided disk None = found_decided []
+formats_decided disk (Some name) = formats_file_decided disk name
+
+pub lit_decided : (given : List Format) (content : List ℕ) → IsDecided (lit given content)
+lit_decided given content = record {
+  once = λ a b p r. p.3 ∙ ap prints (lights_once given (lines content) p.0 r.0 p.2 r.2) ∙ sym r.3;
+  not_both = λ w s p r. r.0 p.1;
+  one_status = λ s t p r. one_said FormatsRefused s t _ _ p.1 r.1;
+}
+
+pub checked_decided : (tree : Service) (by : Schema) (given : List Format) → IsTyped tree → IsDecided (checked tree by given)
+checked_decided tree by given w = record {
   once = λ a b p r. p.0 ∙ sym r.0;
   not_both = λ both s p r. not_refused (typed_of tree w) by r.0 p.1 r.1 r.2;
   one_status = λ s t p r. one_said ServiceRefused s t _ _ p.3 r.3;
 }
 
-pub accepted_file_decided : (disk : Disk) (name : List ℕ) (named : Option (List ℕ)) → IsDecided (accepted_file disk name named)
-accepted_file_decided disk name named =
-    then (service_file disk name) (checked_by disk named) (service_file_decided disk name)
-    (λ tree g. then (schema disk named) (checked tree) (schema_decided disk named)
-    (λ by _. checked_decided tree by (typed_given g.1.0 g.0 tree g.1.2 g.2)))
+pub accepted_file_decided : (disk : Disk) (name : List ℕ) (named form : Option (List ℕ)) → IsDecided (accepted_file disk name named form)
+accepted_file_decided disk name named form =
+    then (service_file disk name) (checked_by disk named form) (service_file_decided disk name)
+    (λ tree g. then (schema disk named) (checked_with disk form tree) (schema_decided disk named)
+    (λ by _. then (formats disk form) (checked tree by) (formats_decided disk form)
+    (λ given _. checked_decided tree by given (typed_given g.1.0 g.0 tree g.1.2 g.2))))
 
 pub accepted_text_decided : (text : List ℕ) → IsDecided (accepted_text text)
 accepted_text_decided text =
-    then (read text >>= typed) (λ tree. built_in >>= checked tree) (then (read text) typed (read_decided text) (λ tree _. typed_decided tree))
-    (λ tree g. then built_in (checked tree) (rules_decided _) (λ by _. checked_decided tree by (typed_given text g.0 tree g.1 g.2)))
+    then (read text >>= typed) (λ tree. built_in >>= (λ by. checked tree by [])) (then (read text) typed (read_decided text) (λ tree _. typed_decided tree))
+    (λ tree g. then built_in (λ by. checked tree by []) (rules_decided _) (λ by _. checked_decided tree by [] (typed_given text g.0 tree g.1 g.2)))
 
 pub work_decided : (disk : Disk) (c : Command) → IsDecided (work disk c)
 work_decided disk (Check service judging) =
-    then (accepted_file disk service judging.schema) accepted (accepted_file_decided disk service judging.schema) (λ ruled _. found_decided _)
-work_decided disk (Replay service requests judging most) =
-    then (accepted_file disk service judging.schema) (replayed disk requests most) (accepted_file_decided disk service judging.schema)
+    then (accepted_file disk service judging.schema None) accepted (accepted_file_decided disk service judging.schema None) (λ ruled _. found_decided _)
+work_decided disk (Replay service requests judging form most) =
+    then (accepted_file disk service judging.schema form) (replayed disk requests most) (accepted_file_decided disk service judging.schema form)
     (λ ruled _. then (file disk requests) _ (file_decided disk requests) (λ stream _. found_decided _))
-work_decided disk (Serve service judging port most) =
-    then (accepted_file disk service judging.schema) (at_port port most) (accepted_file_decided disk service judging.schema) (λ ruled _. found_decided _)
+work_decided disk (Serve service judging form port most) =
+    then (accepted_file disk service judging.schema form) (at_port port most) (accepted_file_decided disk service judging.schema form)
+    (λ ruled _. found_decided _)
 work_decided disk (Valid name named) =
     then (page_file disk name) (ruled disk named) (then (file disk name) page (file_decided disk name) (λ content _. page_decided content))
     (λ tree _. then (schema disk named) (judged tree) (schema_decided disk named) (λ by _. judged_decided tree by))
 work_decided disk (Make count workers) = then (accepted_text (made count)) (turned count) (accepted_text_decided (made count)) (λ ruled _. found_decided _)
+work_decided disk (Light form texts) =
+    then (formats_file disk form) (lit_file disk texts) (formats_file_decided disk form)
+    (λ given _. then (file disk texts) (lit given) (file_decided disk texts) (λ content _. lit_decided given content))
 
 -- all that the program asks is decided
 pub asked_decided : (words : List (List ℕ)) (disk : Disk) → IsDecided (asked words disk)

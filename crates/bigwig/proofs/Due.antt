@@ -1,5 +1,5 @@
 -- Some status is due, and one only.
-use Rattle.std.proofs.Common.{◌≡◌, ◌⊎◌, ℕ, List, Option, Some, codes, refl, sym, ◌∙◌, subst, inl, inr}
+use Rattle.std.proofs.Common.{◌≡◌, ◌⊎◌, ℕ, List, [], Option, Some, codes, refl, sym, ◌∙◌, subst, inl, inr}
 use Rattle.bw_check.specs.Accepts.{Accepts}
 use Rattle.bw_out.specs.Told.{Disk}
 use Rattle.bigwig.specs.Asked.{Ruled, Work, asked, work}
@@ -130,14 +130,14 @@ check_given disk name judging w g = record {
   typed = g.1.1.2.1;
   by = g.1.2.0;
   is_schema = g.1.2.1;
-  accepted = subst (λ t. Accepts t g.1.2.0) g.1.1.2.0 g.1.2.2.1;
+  accepted = subst (λ t. Accepts t g.1.2.0) g.1.1.2.0 g.1.2.2.2.1;
 }
 
 check_gives : (disk : Disk) (name : List ℕ) (judging : Judging) → IsAcceptedFile disk name judging.schema
     → (work disk (Check name judging)).gives (prints (line (codes "accepted")))
 check_gives disk name judging v = (
-  record { service = v.tree; schema = v.by },
-  (v.tree, (v.tree, (v.content, v.found, v.reads), (refl, v.typed)), (v.by, v.is_schema, (refl, v.accepted))),
+  record { service = v.tree; schema = v.by; formats = [] },
+  (v.tree, (v.tree, (v.content, v.found, v.reads), (refl, v.typed)), (v.by, v.is_schema, ([], refl, (refl, v.accepted)))),
   refl,
 )
 

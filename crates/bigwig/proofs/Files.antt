@@ -15,7 +15,7 @@ take_all n s h = grind (arith, common_steps)
 pub take_short : (n : ℕ) (s : List ℕ) → length (take n s) < n → take n s ≡ s
 take_short n s h = grind (arith, common_steps)
 
-take_length : (n : ℕ) (s : List ℕ) → n < length s → length (take n s) ≡ n
+pub take_length : (n : ℕ) (s : List ℕ) → n < length s → length (take n s) ≡ n
 take_length n s h = grind (arith, common_steps)
 
 -- a file that is too long is refused for that, as its front is, where there is one reason

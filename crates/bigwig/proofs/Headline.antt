@@ -29,6 +29,9 @@ use Rattle.std.proofs.Common.{
   length-append,
 }
 use Rattle.std.specs.Io.KnownBytes.{Appends}
+use Rattle.std.specs.Str.Lines.{lines}
+use Rattle.bw_format.specs.FormatFile.{Gives}
+use Rattle.bw_format.specs.declared.format.Format.{Format}
 use Rattle.bw_world.specs.Streams.Courses.{Course, IsBroken, bytes_by}
 use Rattle.bw_world.specs.declared.ends.StreamEnd.{StreamEnd}
 use Rattle.bw_world.specs.declared.ends.StreamEnd.TheVariants as ends
@@ -41,8 +44,9 @@ use Rattle.bw_model.specs.Laws.{is_page}
 use Rattle.bw_model.specs.Runs.{At, Turn, Turns, Run, answer_of}
 use Rattle.bw_model.specs.Runs.Turn.{request, no_memory}
 use Rattle.bw_model.specs.Sessions.{empty}
-use Rattle.bw_model.specs.Steps.{Step}
-use Rattle.bw_model.proofs.Quiet.{others_change_nothing}
+use Rattle.bw_model.specs.Within.{AreWithin}
+use Rattle.bw_model.proofs.Cases.{others_change_nothing}
+use Rattle.bw_model.proofs.Storing.{empty_is_within, turn_within}
 use Rattle.bw_out.specs.Causes.{Shows}
 use Rattle.bw_out.specs.Doors.{Returned}
 use Rattle.bw_out.specs.Told.{Coming, Disk}
@@ -52,15 +56,15 @@ use Rattle.bw_sound.specs.Good.{AreGood}
 use Rattle.bw_types.specs.Faults.{IsWellTyped}
 use Rattle.bw_types.specs.Typing.{IsTypedService}
 use Rattle.bw_types.proofs.WellTyped.{typed}
-use Rattle.bigwig.specs.Asked.{Ruled, Work, accepted_file, asked, schema, work}
+use Rattle.bigwig.specs.Asked.{Ruled, Work, accepted_file, asked, formats, schema, work}
 use Rattle.bigwig.specs.Commands.{command_of}
-use Rattle.bigwig.specs.Headline.{AreAnswered, AreRight, Headline, IsAnswer, IsAnswered, IsReplay, IsServe, IsServiceOf, rules_text}
+use Rattle.bigwig.specs.Headline.{AreAnswered, AreFormatsOf, AreRight, Headline, IsAnswer, IsAnswered, IsLit, IsReplay, IsServe, IsServiceOf, rules_text}
 use Rattle.bigwig.specs.Headline.IsAnswered.{whole, broken, unread}
-use Rattle.bigwig.specs.Outcomes.{AreServed, Between, Comes, IsDone, IsReplayed, IsServing, IsStreamed, Outside, begins, status_of}
+use Rattle.bigwig.specs.Outcomes.{AreServed, Between, Comes, IsDone, IsReplayed, IsSaid, IsServing, IsStreamed, Outside, begins, status_of}
 use Rattle.bigwig.specs.Outcomes.Comes.{said, done, read_fault, no_memory as no_room}
 use Rattle.bigwig.specs.Outcomes.IsServing.{no_port, no_line, links_served}
 use Rattle.bigwig.specs.declared.command.Command.{Command}
-use Rattle.bigwig.specs.declared.command.Command.TheVariants.{Replay, Serve}
+use Rattle.bigwig.specs.declared.command.Command.TheVariants.{Replay, Serve, Light}
 use Rattle.bigwig.specs.declared.command.Judging.{Judging}
 use Rattle.bigwig.specs.declared.status.Status.{Status}
 use Rattle.bigwig.specs.declared.status.Status.TheVariants as status
@@ -69,28 +73,36 @@ use Rattle.bigwig.proofs.Refusals.{never_said}
 -- ---- messages
 
 -- a message that is answered by no page has changed nothing
-quiet : (service : Service) (at to : At) (reply : Reply) (cost : ℕ) → Turn service at reply cost to → is_page reply ≡ false → to.world ≡ at.world
-quiet service at to reply cost (request q cut e k) none =
-    sym (ap (λ (s : Step). s.world) e)
-    ∙ others_change_nothing service at.world q (at.keys 0) (ap (λ (s : Step). is_page s.reply) e ∙ none)
-quiet service at to reply cost (no_memory cut e w k few) none = w
+quiet : (formats : List Format) (service : Service) (at to : At) (reply : Reply) (cost : ℕ) → Turn formats service at reply cost to
+    → is_page reply ≡ false → to.world ≡ at.world
+quiet formats service at to reply cost (request q cut is k) none =
+    others_change_nothing formats service at.world q (at.keys 0) (record { reply = reply; world = to.world; cost = cost }) is none
+quiet formats service at to reply cost (no_memory cut e w k few) none = w
 
 -- messages were handled, and whichever replies they have are good: so each of these is right
-are_right : (service : Service) (by : Schema) (replies : List Reply) (cost : ℕ) (at to : At) → Turns service at replies cost to
-    → AreGood service by at replies → AreRight service by at replies to
-are_right service by [] cost at to t good = t.1
-are_right service by (reply ∷ replies) cost at to t good =
+are_right : (formats : List Format) (service : Service) (by : Schema) (replies : List Reply) (cost : ℕ) (at to : At)
+    → Turns formats service at replies cost to → AreGood formats service by at replies → AreWithin formats service at.world
+    → AreRight formats service by at replies to
+are_right formats service by [] cost at to t good within = t.1
+are_right formats service by (reply ∷ replies) cost at to t good within =
     let one = good t.0 t.2 t.3 in
-    (t.0, t.2, t.3, (one.0, quiet service at t.2 reply t.0 t.3), are_right service by replies t.1 t.2 to t.4 one.1)
+    let later = turn_within formats service at t.2 reply t.0 t.3 within in (
+      t.0,
+      t.2,
+      t.3,
+      record { good = one.0; quiet = quiet formats service at t.2 reply t.0 t.3; within = later },
+      are_right formats service by replies t.1 t.2 to t.4 one.1 later,
+    )
 
 -- a run is the answer that its replies make
-run_answers : (service : Service) (by : Schema) (most : ℕ) (at to : At) (replies : List Reply) (cost : ℕ) → Run service most at replies cost to
-    → ((all : List Reply) → AreGood service by at all) → IsAnswer service by most at (answer_of service replies) to
-run_answers service by most at to replies cost run good = record {
+run_answers : (formats : List Format) (service : Service) (by : Schema) (most : ℕ) (at to : At) (replies : List Reply) (cost : ℕ)
+    → Run formats service most at replies cost to → ((all : List Reply) → AreGood formats service by at all) → AreWithin formats service at.world
+    → IsAnswer formats service by most at (answer_of service replies) to
+run_answers formats service by most at to replies cost run good within = record {
   replies = run.first;
   last = run.last;
   mid = run.mid;
-  right = are_right service by run.first cost at run.mid run.turns (good run.first);
+  right = are_right formats service by run.first cost at run.mid run.turns (good run.first) within;
   ends = run.ends;
   bytes = ap (answer_of service) run.all;
 }
@@ -106,10 +118,10 @@ holds (Some held) bytes a = ap Some a
 counted : (fact : Type 0) (count : ℕ) → Shows fact 0 count → fact → 0 < count
 counted fact count shows is = let rose = shows.only is in omega (arith, rose)
 
-none_handled : (service : Service) (replies : List Reply) (cost : ℕ) (at to : At) (now : Option (List ℕ)) → Turns service at replies cost to
-    → length replies < 1 → Appends (Some []) now (answer_of service replies) → (to ≡ at) × (now ≡ Some [])
-none_handled service [] cost at to now t few a = (t.1, holds now [] a)
-none_handled service (reply ∷ replies) cost at to now t few a = absurd (omega (arith, few))
+none_handled : (formats : List Format) (service : Service) (replies : List Reply) (cost : ℕ) (at to : At) (now : Option (List ℕ))
+    → Turns formats service at replies cost to → length replies < 1 → Appends (Some []) now (answer_of service replies) → (to ≡ at) × (now ≡ Some [])
+none_handled formats service [] cost at to now t few a = (t.1, holds now [] a)
+none_handled formats service (reply ∷ replies) cost at to now t few a = absurd (omega (arith, few))
 
 -- the last reply stands in a first part behind the others
 broken_is : (service : Service) (now : Option (List ℕ)) (replies : List Reply) (b : IsBroken service (Some []) now replies)
@@ -124,36 +136,38 @@ one_reply replies earlier last all few = omega (arith, few, ap length all, lengt
 
 -- by its end
 link_ended : (ruled : Ruled) (from to : Between) (bytes rest taken : List ℕ) (back : Returned) (cost : ℕ) (end : StreamEnd)
-    → Course ruled.service 1 (begins from bytes) (begins to rest) (Some []) back.written taken cost end
-    → ((all : List Reply) → AreGood ruled.service ruled.schema (begins from bytes) all)
+    → Course ruled.formats ruled.service 1 (begins from bytes) (begins to rest) (Some []) back.written taken cost end
+    → ((all : List Reply) → AreGood ruled.formats ruled.service ruled.schema (begins from bytes) all)
+    → AreWithin ruled.formats ruled.service from.world
     → Shows (end ≡ ends.ReadFault) 0 back.read_faults → Shows (end ≡ ends.WriteFault) 0 back.write_faults
-    → IsAnswered ruled.service ruled.schema (begins from bytes) back (begins to rest)
-link_ended ruled from to bytes rest taken back cost (ends.Ended count) c good read write =
-    whole (answer_of ruled.service c.0) (run_answers ruled.service ruled.schema 1 _ _ c.0 cost c.1 good) (holds back.written _ c.2)
-link_ended ruled from to bytes rest taken back cost ends.ReadFault c good read write =
-    let none = none_handled ruled.service c.0 cost (begins from bytes) (begins to rest) back.written c.1 c.2 c.3 in
+    → IsAnswered ruled.formats ruled.service ruled.schema (begins from bytes) back (begins to rest)
+link_ended ruled from to bytes rest taken back cost (ends.Ended count) c good within read write =
+    whole (answer_of ruled.service c.0) (run_answers ruled.formats ruled.service ruled.schema 1 _ _ c.0 cost c.1 good within) (holds back.written _ c.2)
+link_ended ruled from to bytes rest taken back cost ends.ReadFault c good within read write =
+    let none = none_handled ruled.formats ruled.service c.0 cost (begins from bytes) (begins to rest) back.written c.1 c.2 c.3 in
     unread none.0 none.1 (counted (ends.ReadFault ≡ ends.ReadFault) back.read_faults read refl)
-link_ended ruled from to bytes rest taken back cost ends.WriteFault c good read write =
+link_ended ruled from to bytes rest taken back cost ends.WriteFault c good within read write =
     let b = c.3 in
     let one = one_reply c.0 b.earlier b.last b.all c.2 in
-    let run = subst (λ n. Run ruled.service n (begins from bytes) c.0 cost (begins to rest)) one c.1 in
+    let run = subst (λ n. Run ruled.formats ruled.service n (begins from bytes) c.0 cost (begins to rest)) one c.1 in
     broken (answer_of ruled.service c.0) (answer_of ruled.service b.earlier ++ b.front) b.back
-    (run_answers ruled.service ruled.schema 1 (begins from bytes) (begins to rest) c.0 cost run good)
+    (run_answers ruled.formats ruled.service ruled.schema 1 (begins from bytes) (begins to rest) c.0 cost run good within)
     (broken_is ruled.service back.written c.0 b) (holds back.written _ b.holds)
     (counted (ends.WriteFault ≡ ends.WriteFault) back.write_faults write refl)
 
 links_answered : (ruled : Ruled) (from to : Between) (links rest : List (List ℕ)) (backs : List Returned) → AreServed ruled from links backs to rest
-    → AreAnswered ruled.service ruled.schema from.world from.keys links backs rest
-links_answered ruled from to links rest [] s = s.1
-links_answered ruled from to links rest (back ∷ backs) s =
+    → AreWithin ruled.formats ruled.service from.world
+    → AreAnswered ruled.formats ruled.service ruled.schema from.world from.keys links backs rest
+links_answered ruled from to links rest [] s within = s.1
+links_answered ruled from to links rest (back ∷ backs) s within =
     let one = s.4 in
     let stream = one.streamed in (
       s.0,
       s.1,
       begins s.2 stream.rest,
       s.3,
-      link_ended ruled from s.2 s.0 stream.rest stream.taken back stream.cost one.end stream.course stream.pages one.read_fault one.write_fault,
-      links_answered ruled s.2 to s.1 rest backs s.5,
+      link_ended ruled from s.2 s.0 stream.rest stream.taken back stream.cost one.end stream.course stream.pages within one.read_fault one.write_fault,
+      links_answered ruled s.2 to s.1 rest backs s.5 stream.within,
     )
 
 -- ---- the service
@@ -166,13 +180,23 @@ rules_given disk (Some name) by g = (g.0, g.1, g.2)
 is_typed : (content : List ℕ) (service : Service) → Reads content service → IsWellTyped service → IsTypedService service
 is_typed content service r w = typed service (readable_is_woven service ∣ (content, r) ∣₁) w
 
-service_of : (disk : Disk) (name : List ℕ) (named : Option (List ℕ)) (ruled : Ruled) → (accepted_file disk name named).gives ruled
+-- the formats that are named
+formats_given : (disk : Disk) (form : Option (List ℕ)) (given : List Format) → (formats disk form).gives given → AreFormatsOf disk form given
+formats_given disk None given g = g
+formats_given disk (Some name) given g = (g.0, g.1, g.2)
+
+formats_of : (disk : Disk) (name : List ℕ) (named form : Option (List ℕ)) (ruled : Ruled) → (accepted_file disk name named form).gives ruled
+    → AreFormatsOf disk form ruled.formats
+formats_of disk name named form ruled g =
+    subst (AreFormatsOf disk form) (sym (ap (λ (r : Ruled). r.formats) g.2.2.2.0)) (formats_given disk form g.2.2.0 g.2.2.1)
+
+service_of : (disk : Disk) (name : List ℕ) (named form : Option (List ℕ)) (ruled : Ruled) → (accepted_file disk name named form).gives ruled
     → IsServiceOf disk name named ruled.service ruled.schema
-service_of disk name named ruled g =
+service_of disk name named form ruled g =
     let content = g.1.1.0 in
     let tree = g.1.0 in
-    let service : tree ≡ ruled.service = sym g.1.2.0 ∙ sym (ap (λ (r : Ruled). r.service) g.2.2.0) in
-    let by : g.2.0 ≡ ruled.schema = sym (ap (λ (r : Ruled). r.schema) g.2.2.0) in
+    let service : tree ≡ ruled.service = sym g.1.2.0 ∙ sym (ap (λ (r : Ruled). r.service) g.2.2.2.0) in
+    let by : g.2.0 ≡ ruled.schema = sym (ap (λ (r : Ruled). r.schema) g.2.2.2.0) in
     let rules = rules_given disk named g.2.0 g.2.1 in
     record {
       content = content;
@@ -196,37 +220,40 @@ work_of words disk c w is g =
 
 -- a stream that was done was answered whole
 stream_answered : (ruled : Ruled) (most : ℕ) (from to : Between) (bytes : List ℕ) (held now left : Option (List ℕ)) (end : StreamEnd)
-    → IsStreamed most ruled from bytes to held now left end → status_of end ≡ status.Done
-    → (answer : List ℕ) × (last : At) × IsAnswer ruled.service ruled.schema most (begins from bytes) answer last × Appends held now answer
-stream_answered ruled most from to bytes held now left (ends.Ended count) s is =
+    → IsStreamed most ruled from bytes to held now left end → AreWithin ruled.formats ruled.service from.world → status_of end ≡ status.Done
+    → (answer : List ℕ) × (last : At) × IsAnswer ruled.formats ruled.service ruled.schema most (begins from bytes) answer last
+    × Appends held now answer
+stream_answered ruled most from to bytes held now left (ends.Ended count) s within is =
     let c = s.course in
-    (answer_of ruled.service c.0, begins to s.rest, run_answers ruled.service ruled.schema most _ _ c.0 s.cost c.1 s.pages, c.2)
-stream_answered ruled most from to bytes held now left ends.ReadFault s is = absurd (let e : status.ReadFault ≡ status.Done = is in cc)
-stream_answered ruled most from to bytes held now left ends.WriteFault s is = absurd (let e : status.WriteFault ≡ status.Done = is in cc)
+    (answer_of ruled.service c.0, begins to s.rest, run_answers ruled.formats ruled.service ruled.schema most _ _ c.0 s.cost c.1 s.pages within, c.2)
+stream_answered ruled most from to bytes held now left ends.ReadFault s within is = absurd (let e : status.ReadFault ≡ status.Done = is in cc)
+stream_answered ruled most from to bytes held now left ends.WriteFault s within is = absurd (let e : status.WriteFault ≡ status.Done = is in cc)
 
-replay_done : (disk : Disk) (name requests : List ℕ) (judging : Judging) (most : ℕ) (w : Work) (before after : Outside) (s : Status)
-    → (work disk (Replay name requests judging most)).gives w → IsDone w before after s → s ≡ status.Done
-    → IsReplay disk name requests judging.schema most before after
-replay_done disk name requests judging most w before after s g d is =
+replay_done : (disk : Disk) (name requests : List ℕ) (judging : Judging) (form : Option (List ℕ)) (most : ℕ) (w : Work) (before after : Outside)
+    (s : Status) → (work disk (Replay name requests judging form most)).gives w → IsDone w before after s → s ≡ status.Done
+    → IsReplay disk name requests judging.schema form most before after
+replay_done disk name requests judging form most w before after s g d is =
     let ruled = g.0 in
     let stream = g.2.0 in
     let replayed : IsReplayed ruled stream most before after s = subst (λ x. IsDone x before after s) g.2.2 d in
     record {
       service = ruled.service;
       schema = ruled.schema;
-      is = service_of disk name judging.schema ruled g.1;
+      formats = ruled.formats;
+      formats_are = formats_of disk name judging.schema form ruled g.1;
+      is = service_of disk name judging.schema form ruled g.1;
       stream = stream;
       found = g.2.1;
       answered = λ keys k.
           let x = replayed.streamed keys k in
           stream_answered ruled most (record { world = empty ruled.service; keys = keys; steps = before.steps }) x.0 stream before.printed after.printed
-          after.unread replayed.end x.3 (sym replayed.status_is ∙ is);
+          after.unread replayed.end x.3 (empty_is_within ruled.formats ruled.service) (sym replayed.status_is ∙ is);
     }
 
 no_link : (ruled : Ruled) (most : ℕ) (before after : Outside) (s : Status) → s ≡ status.DoorFault → after.coming ≡ before.coming
     → after.returned ≡ before.returned → (keys : Coming) → before.keys ≡ Some keys → (links : List (List ℕ)) → before.coming ≡ Some links
     → (given : List Returned) → before.returned ≡ Some given → (backs : List Returned) × (rest : List (List ℕ)) × (after.returned ≡ Some (given ++ backs))
-    × (after.coming ≡ Some rest) × AreAnswered ruled.service ruled.schema (empty ruled.service) keys links backs rest
+    × (after.coming ≡ Some rest) × AreAnswered ruled.formats ruled.service ruled.schema (empty ruled.service) keys links backs rest
     × (s ≡ status.Done → (rest ≡ []) ⊎ (length backs ≡ most))
 no_link ruled most before after s e c r keys k links l given g =
     ([], links, r ∙ g ∙ ap Some (sym (append-nil given)), c ∙ l, refl, λ is. absurd (let f : status.Done ≡ status.DoorFault = sym is ∙ e in cc))
@@ -239,19 +266,23 @@ no_write : (s : Status) → s ≡ status.WriteFault → (s ≡ status.Done) ⊎ 
 no_write s e (inl f) = let g : status.Done ≡ status.WriteFault = sym f ∙ e in cc
 no_write s e (inr f) = let g : status.DoorFault ≡ status.WriteFault = sym f ∙ e in cc
 
-serving_answers : (disk : Disk) (name : List ℕ) (named : Option (List ℕ)) (ruled : Ruled) (port most : ℕ) (before after : Outside) (s : Status)
-    → IsServiceOf disk name named ruled.service ruled.schema → IsServing ruled port most before after s → (s ≡ status.Done) ⊎ (s ≡ status.DoorFault)
-    → IsServe disk name named most before after s
-serving_answers disk name named ruled port most before after s is (no_port e m k) ends = record {
+serving_answers : (disk : Disk) (name : List ℕ) (named form : Option (List ℕ)) (ruled : Ruled) (port most : ℕ) (before after : Outside) (s : Status)
+    → IsServiceOf disk name named ruled.service ruled.schema → AreFormatsOf disk form ruled.formats → IsServing ruled port most before after s → (s ≡ status.Done) ⊎ (s ≡ status.DoorFault)
+    → IsServe disk name named form most before after s
+serving_answers disk name named form ruled port most before after s is are (no_port e m k) ends = record {
   service = ruled.service;
   schema = ruled.schema;
+  formats = ruled.formats;
+  formats_are = are;
   is = is;
   answered = no_link ruled most before after s e (ap (λ (o : Outside). o.coming) k) (ap (λ (o : Outside). o.returned) k);
 }
-serving_answers disk name named ruled port most before after s is (no_line e a p k) ends = absurd (no_write s e ends)
-serving_answers disk name named ruled port most before after s is (links_served e a line all) ends = record {
+serving_answers disk name named form ruled port most before after s is are (no_line e a p k) ends = absurd (no_write s e ends)
+serving_answers disk name named form ruled port most before after s is are (links_served e a line all) ends = record {
   service = ruled.service;
   schema = ruled.schema;
+  formats = ruled.formats;
+  formats_are = are;
   is = is;
   answered = λ keys k links l given g.
       let x = all keys k links l given g in
@@ -260,18 +291,36 @@ serving_answers disk name named ruled port most before after s is (links_served 
         x.1,
         back.returned,
         back.coming,
-        links_answered ruled (record { world = empty ruled.service; keys = keys; steps = before.steps }) x.2 links x.1 x.0 back.served,
+        links_answered ruled (record { world = empty ruled.service; keys = keys; steps = before.steps }) x.2 links x.1 x.0 back.served
+            (empty_is_within ruled.formats ruled.service),
         over_done s x.5,
       );
 }
 
-serve_done : (disk : Disk) (name : List ℕ) (judging : Judging) (port most : ℕ) (w : Work) (before after : Outside) (s : Status)
-    → (work disk (Serve name judging port most)).gives w → IsDone w before after s → (s ≡ status.Done) ⊎ (s ≡ status.DoorFault)
-    → IsServe disk name judging.schema most before after s
-serve_done disk name judging port most w before after s g d ends =
+serve_done : (disk : Disk) (name : List ℕ) (judging : Judging) (form : Option (List ℕ)) (port most : ℕ) (w : Work) (before after : Outside) (s : Status)
+    → (work disk (Serve name judging form port most)).gives w → IsDone w before after s → (s ≡ status.Done) ⊎ (s ≡ status.DoorFault)
+    → IsServe disk name judging.schema form most before after s
+serve_done disk name judging form port most w before after s g d ends =
     let ruled = g.0 in
     let serving : IsServing ruled port most before after s = subst (λ x. IsDone x before after s) g.2 d in
-    serving_answers disk name judging.schema ruled port most before after s (service_of disk name judging.schema ruled g.1) serving ends
+    serving_answers disk name judging.schema form ruled port most before after s (service_of disk name judging.schema form ruled g.1)
+    (formats_of disk name judging.schema form ruled g.1) serving ends
+
+light_done : (disk : Disk) (form texts : List ℕ) (w : Work) (before after : Outside) (s : Status) → (work disk (Light form texts)).gives w
+    → IsDone w before after s → s ≡ status.Done → IsLit disk form texts before after
+light_done disk form texts w before after s g d is =
+    let content = g.2.0 in
+    let lit = g.2.2 in
+    let so : IsSaid (record { status = status.Done; text = lit.0 }) before after s = subst (λ x. IsDone x before after s) lit.3 d in
+    record {
+      formats = g.0;
+      formats_are = (g.1.0, g.1.1, g.1.2);
+      content = content;
+      found = g.2.1;
+      printed = lit.0;
+      lights = lit.2;
+      appended = elim so.prints [ inl x ↦ x.1 | inr x ↦ absurd (let f : status.Done ≡ status.WriteFault = sym is ∙ x.0 in cc) ];
+    }
 
 -- neither what is said nor a read fault nor want of memory is this status
 no_other : (words : List (List ℕ)) (disk : Disk) (before after : Outside) (s : Status) → Comes (asked words disk) before after s
@@ -295,12 +344,15 @@ no_other words disk before after s (no_room f k) (inr e) = absurd (let g : statu
 pub headline : (words : List (List ℕ)) (disk : Disk) (before after : Outside) (s : Status) → Comes (asked words disk) before after s
     → Headline words disk before after s
 headline words disk before after s c = record {
-  replay = λ name requests judging most is e.
+  replay = λ name requests judging form most is e.
       let x = no_other words disk before after s c (inl e) in
-      replay_done disk name requests judging most x.0 before after s (work_of words disk (Replay name requests judging most) x.0 is x.1) x.2 e;
-  serve = λ name judging port most is ends.
+      replay_done disk name requests judging form most x.0 before after s (work_of words disk (Replay name requests judging form most) x.0 is x.1) x.2 e;
+  serve = λ name judging form port most is ends.
       let x = no_other words disk before after s c ends in
-      serve_done disk name judging port most x.0 before after s (work_of words disk (Serve name judging port most) x.0 is x.1) x.2 ends;
+      serve_done disk name judging form port most x.0 before after s (work_of words disk (Serve name judging form port most) x.0 is x.1) x.2 ends;
+  light = λ form texts is e.
+      let x = no_other words disk before after s c (inl e) in
+      light_done disk form texts x.0 before after s (work_of words disk (Light form texts) x.0 is x.1) x.2 e;
 }
 
 -- where the files tell

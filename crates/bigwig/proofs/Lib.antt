@@ -6,6 +6,7 @@ pub mod Decided
 pub mod Due
 pub mod Endings
 pub mod Files
+pub mod FormatFiles
 pub mod Headline
 pub mod Links
 pub mod Loads

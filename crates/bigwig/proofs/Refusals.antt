@@ -1,17 +1,19 @@
 -- What is said where a question goes wrong refuses something: it is neither done nor a fault.
-use Rattle.std.proofs.Common.{◌≡◌, ◌∙◌, Bool, true, false, ℕ, List, Option, None, Some, refl, ap, inl, inr}
+use Rattle.std.proofs.Common.{◌≡◌, ◌∙◌, Bool, true, false, ℕ, List, [], Option, None, Some, refl, ap, inl, inr}
+use Rattle.bw_format.specs.declared.format.Format.{Format}
 use Rattle.bw_lang.specs.declared.service.Service.{Service}
 use Rattle.bw_make.specs.Made.{made}
 use Rattle.bw_out.specs.Told.{Disk}
 use Rattle.bw_schema.specs.declared.schema.Schema.{Schema}
-use Rattle.bigwig.specs.Asked.{command, file, read, typed, service_file, checked, checked_by, accepted_file, accepted_text, accepted, replayed}
-use Rattle.bigwig.specs.Asked.{at_port, turned, page, page_file, rules, schema, built_in, judged, ruled, work, asked}
+use Rattle.bigwig.specs.Asked.{command, file, read, typed, service_file, checked, checked_with, checked_by, accepted_file, accepted_text, accepted, replayed}
+use Rattle.bigwig.specs.Asked.{at_port, turned, page, page_file, rules, schema, built_in, formats_in, formats_file, formats, judged, ruled}
+use Rattle.bigwig.specs.Asked.{lit, lit_file, work, asked}
 use Rattle.bigwig.specs.Asked.Work.{replays}
 use Rattle.bigwig.specs.Questions.{Said, Question, ◌>>=◌, found}
 use Rattle.bigwig.specs.declared.command.Command.{Command}
-use Rattle.bigwig.specs.declared.command.Command.TheVariants.{Check, Replay, Serve, Valid, Make}
+use Rattle.bigwig.specs.declared.command.Command.TheVariants.{Check, Replay, Serve, Valid, Make, Light}
 use Rattle.bigwig.specs.declared.status.Status.{Status}
-use Rattle.bigwig.specs.declared.status.Status.TheVariants.{Usage, NoFile, ServiceRefused, SchemaRefused, PageRefused}
+use Rattle.bigwig.specs.declared.status.Status.TheVariants.{Usage, NoFile, ServiceRefused, SchemaRefused, PageRefused, FormatsRefused}
 
 abbrev is_refusal : Status → Bool
 is_refusal Usage = true
@@ -19,6 +21,7 @@ is_refusal NoFile = true
 is_refusal ServiceRefused = true
 is_refusal SchemaRefused = true
 is_refusal PageRefused = true
+is_refusal FormatsRefused = true
 is_refusal status = false
 
 abbrev Refuses : {A : Type 0} → Question A → Type 0
@@ -51,32 +54,44 @@ schema_refuses : (disk : Disk) (named : Option (List ℕ)) → Refuses (schema d
 schema_refuses disk None = rules_refuse _
 schema_refuses disk (Some name) = then_refuses (file disk name) rules (file_refuses disk name) rules_refuse
 
-checked_refuses : (tree : Service) (by : Schema) → Refuses (checked tree by)
-checked_refuses tree by s x = says_so s _ x.3 refl
+formats_file_refuses : (disk : Disk) (name : List ℕ) → Refuses (formats_file disk name)
+formats_file_refuses disk name = then_refuses (file disk name) formats_in (file_refuses disk name) (λ content s x. says_so s _ x.3 refl)
 
-accepted_file_refuses : (disk : Disk) (name : List ℕ) (named : Option (List ℕ)) → Refuses (accepted_file disk name named)
-accepted_file_refuses disk name named =
-    then_refuses (service_file disk name) (checked_by disk named) (service_file_refuses disk name)
-    (λ tree. then_refuses (schema disk named) (checked tree) (schema_refuses disk named) (checked_refuses tree))
+formats_refuse : (disk : Disk) (form : Option (List ℕ)) → Refuses (formats disk form)
+formats_refuse disk None s x = absurd x
+formats_refuse disk (Some name) s x = formats_file_refuses disk name s x
+
+checked_refuses : (tree : Service) (by : Schema) (given : List Format) → Refuses (checked tree by given)
+checked_refuses tree by given s x = says_so s _ x.3 refl
+
+accepted_file_refuses : (disk : Disk) (name : List ℕ) (named form : Option (List ℕ)) → Refuses (accepted_file disk name named form)
+accepted_file_refuses disk name named form =
+    then_refuses (service_file disk name) (checked_by disk named form) (service_file_refuses disk name)
+    (λ tree. then_refuses (schema disk named) (checked_with disk form tree) (schema_refuses disk named)
+    (λ by. then_refuses (formats disk form) (checked tree by) (formats_refuse disk form) (checked_refuses tree by)))
 
 accepted_text_refuses : (text : List ℕ) → Refuses (accepted_text text)
 accepted_text_refuses text =
-    then_refuses (read text >>= typed) (λ tree. built_in >>= checked tree) (then_refuses (read text) typed (read_refuses text) typed_refuses)
-    (λ tree. then_refuses built_in (checked tree) (rules_refuse _) (checked_refuses tree))
+    then_refuses (read text >>= typed) (λ tree. built_in >>= (λ by. checked tree by [])) (then_refuses (read text) typed (read_refuses text) typed_refuses)
+    (λ tree. then_refuses built_in (λ by. checked tree by []) (rules_refuse _) (λ by. checked_refuses tree by []))
 
 work_refuses : (disk : Disk) (c : Command) → Refuses (work disk c)
 work_refuses disk (Check service judging) =
-    then_refuses (accepted_file disk service judging.schema) accepted (accepted_file_refuses disk service judging.schema) (λ ruled s x. absurd x)
-work_refuses disk (Replay service requests judging most) =
-    then_refuses (accepted_file disk service judging.schema) (replayed disk requests most) (accepted_file_refuses disk service judging.schema)
+    then_refuses (accepted_file disk service judging.schema None) accepted (accepted_file_refuses disk service judging.schema None) (λ ruled s x. absurd x)
+work_refuses disk (Replay service requests judging form most) =
+    then_refuses (accepted_file disk service judging.schema form) (replayed disk requests most) (accepted_file_refuses disk service judging.schema form)
     (λ ruled. then_refuses (file disk requests) (λ stream. found (replays ruled stream most)) (file_refuses disk requests) (λ stream s x. absurd x))
-work_refuses disk (Serve service judging port most) =
-    then_refuses (accepted_file disk service judging.schema) (at_port port most) (accepted_file_refuses disk service judging.schema) (λ ruled s x. absurd x)
+work_refuses disk (Serve service judging form port most) =
+    then_refuses (accepted_file disk service judging.schema form) (at_port port most) (accepted_file_refuses disk service judging.schema form)
+    (λ ruled s x. absurd x)
 work_refuses disk (Valid name named) =
     then_refuses (page_file disk name) (ruled disk named) (then_refuses (file disk name) page (file_refuses disk name) (λ content s x. says_so s _ x.1 refl))
     (λ tree. then_refuses (schema disk named) (judged tree) (schema_refuses disk named) (λ by s x. says_so s _ x.2 refl))
 work_refuses disk (Make count workers) =
     then_refuses (accepted_text (made count)) (turned count) (accepted_text_refuses (made count)) (λ ruled s x. absurd x)
+work_refuses disk (Light form texts) =
+    then_refuses (formats_file disk form) (lit_file disk texts) (formats_file_refuses disk form)
+    (λ given. then_refuses (file disk texts) (lit given) (file_refuses disk texts) (λ content s x. says_so s _ x.1 refl))
 
 asked_refuses : (words : List (List ℕ)) (disk : Disk) → Refuses (asked words disk)
 asked_refuses words disk = then_refuses (command words) (work disk) (λ s x. says_so s _ x.1 refl) (work_refuses disk)

@@ -5,18 +5,20 @@ use Rattle.bw_world.specs.Streams.Answers.{Place, IsAt, Answers}
 use Rattle.bw_world.specs.Streams.Good.{RepliesAreGood}
 use Rattle.bw_world.specs.declared.ends.StreamEnd.{StreamEnd}
 use Rattle.bw_check.specs.Accepts.{Accepts}
+use Rattle.bw_format.specs.declared.format.Format.{Format}
 use Rattle.bw_lang.specs.declared.service.Service.{Service}
 use Rattle.bw_model.specs.Runs.{At}
 use Rattle.bw_model.specs.Sessions.{World, empty}
 use Rattle.bw_out.specs.Doors.{Returned, Asks, MayAsk}
 use Rattle.bw_out.specs.Told.{Coming, Disk, Finds}
 use Rattle.bw_out.specs.Writes.{AppendsPart}
-use Rattle.bw_sound.specs.Worlds.{BeginsSound, IsSoundWorld}
+use Rattle.bw_model.proofs.Storing.{empty_is_within}
+use Rattle.bw_sound.specs.Worlds.{BeginsSound}
 use Rattle.bw_world.specs.Seen.{Seen}
 use Rattle.bw_world.specs.Stands.{StandsFor}
 use Rattle.bigwig.specs.Asked.{Ruled, Work, accepted_file, accepted, file, replayed, at_port}
 use Rattle.bigwig.specs.Asked.Work.{replays, serves}
-use Rattle.bigwig.specs.Checks.{IsRuled}
+use Rattle.bigwig.specs.Checks.{IsRuled, IsFitWorld}
 use Rattle.bigwig.specs.Codes.{status_for}
 use Rattle.bigwig.specs.Lines.{no_file_line}
 use Rattle.bigwig.specs.Outcomes.{Outside, outside, Comes, IsReplayed, Replies, ServesLinks, begins, serving_line, status_of}
@@ -33,29 +35,30 @@ use Rattle.bigwig.specs.declared.stop.Stop.TheVariants as stop
 use Rattle.bigwig.proofs.Answering.{stops_first}
 use Rattle.bigwig.proofs.Endings.{comes_then, stopped_so}
 use Rattle.bigwig.proofs.Links.{given_so}
+use Rattle.bigwig.proofs.Reaching.{course_is_fit}
 
 -- ---- accepted services
 
 -- a service that was found is accepted by the schema that was found
-found_accepted : (disk : Disk) (name : List ℕ) (named : Option (List ℕ)) (ruled : Ruled) → (accepted_file disk name named).gives ruled
-    → IsRuled ruled.service ruled
-found_accepted disk name named ruled g = (refl, subst (λ (r : Ruled). Accepts r.service r.schema) (sym g.2.2.0) g.2.2.1)
+found_accepted : (disk : Disk) (name : List ℕ) (named form : Option (List ℕ)) (ruled : Ruled) → (accepted_file disk name named form).gives ruled
+    → IsRuled ruled.service ruled.formats ruled
+found_accepted disk name named form ruled g = (refl, subst (λ (r : Ruled). Accepts r.service r.schema) (sym g.2.2.2.0) g.2.2.2.1, refl)
 
 -- and where no more is asked for, that is said
-pub accepted_said : (told : Option Disk) (name : List ℕ) (named : Option (List ℕ)) (ruled : Ruled) (work : Work) → (accepted ruled).gives work
-    → IfSome told (λ d. (accepted_file d name named).gives ruled) → IfSome told (λ d. (accepted_file d name named >>= accepted).gives work)
-accepted_said None name named ruled work e g = tt
-accepted_said (Some d) name named ruled work e g = (ruled, g, e)
+pub accepted_said : (told : Option Disk) (name : List ℕ) (named form : Option (List ℕ)) (ruled : Ruled) (work : Work) → (accepted ruled).gives work
+    → IfSome told (λ d. (accepted_file d name named form).gives ruled) → IfSome told (λ d. (accepted_file d name named form >>= accepted).gives work)
+accepted_said None name named form ruled work e g = tt
+accepted_said (Some d) name named form ruled work e g = (ruled, g, e)
 
 -- ---- the requests of a file
 
 -- nothing has changed, whatever was asked
-pub nothing_replied : (told : Option Disk) (service : Service) (q : Disk → Ruled → Question Work) (held : Option (List ℕ)) (keys : Option Coming)
-    (unread : Option (List ℕ)) (steps : ℕ) (r : Status) → (r ≡ status.ReadFault) ⊎ (r ≡ status.Memory)
-    → IfSome told (λ d. (ruled : Ruled) → IsRuled service ruled → Replies (q d ruled) held held keys keys unread steps steps r)
-nothing_replied None service q held keys unread steps r why = tt
-nothing_replied (Some d) service q held keys unread steps r (inl e) = λ ruled is o. read_fault e refl
-nothing_replied (Some d) service q held keys unread steps r (inr e) = λ ruled is o. no_memory e refl
+pub nothing_replied : (told : Option Disk) (service : Service) (formats : List Format) (q : Disk → Ruled → Question Work) (held : Option (List ℕ))
+    (keys : Option Coming) (unread : Option (List ℕ)) (steps : ℕ) (r : Status) → (r ≡ status.ReadFault) ⊎ (r ≡ status.Memory)
+    → IfSome told (λ d. (ruled : Ruled) → IsRuled service formats ruled → Replies (q d ruled) held held keys keys unread steps steps r)
+nothing_replied None service formats q held keys unread steps r why = tt
+nothing_replied (Some d) service formats q held keys unread steps r (inl e) = λ ruled is o. read_fault e refl
+nothing_replied (Some d) service formats q held keys unread steps r (inr e) = λ ruled is o. no_memory e refl
 
 absent_stop : (disk : Disk) (name : List ℕ) (s : Stop) → disk name ≡ None → SaysLine refusals.File (no_file_line name) s → IsStop (file disk name) s
 absent_stop disk name (stop.Says refusal text) e a = (
@@ -68,11 +71,12 @@ absent_stop disk name stop.Memory e a = tt
 
 -- there is no file of the name
 pub absent_replied : {File : Type 0} (left : File → Option (List ℕ)) (told : Option Disk) (name : List ℕ) (next : Option File) (s : Stop)
-    (service : Service) (most : ℕ) (held now : Option (List ℕ)) (keys : Option Coming) (unread : Option (List ℕ)) (steps : ℕ) (r : Status) → next ≡ None
+    (service : Service) (formats : List Format) (most : ℕ) (held now : Option (List ℕ)) (keys : Option Coming) (unread : Option (List ℕ)) (steps : ℕ)
+    (r : Status) → next ≡ None
     → Finds left told name next → SaysLine refusals.File (no_file_line name) s → IsReported s held now r
-    → IfSome told (λ d. (ruled : Ruled) → IsRuled service ruled → Replies (replayed d name most ruled) held now keys keys unread steps steps r)
-absent_replied left None name next s service most held now keys unread steps r none f a p = tt
-absent_replied left (Some d) name next s service most held now keys unread steps r none f a p =
+    → IfSome told (λ d. (ruled : Ruled) → IsRuled service formats ruled → Replies (replayed d name most ruled) held now keys keys unread steps steps r)
+absent_replied left None name next s service formats most held now keys unread steps r none f a p = tt
+absent_replied left (Some d) name next s service formats most held now keys unread steps r none f a p =
     let stops = absent_stop d name s (subst (λ x. Finds left (Some d) name x) none f) a in
     λ ruled is o.
     stopped_so (replayed d name most ruled) s held now r
@@ -82,7 +86,7 @@ absent_replied left (Some d) name next s service most held now keys unread steps
 stream_replied : (ruled : Ruled) (bytes : List ℕ) (most : ℕ) (old new : Place) (end : StreamEnd) (r : Status) (o : Outside)
     → Accepts ruled.service ruled.schema → r ≡ status_of end → StandsFor old.seen (empty ruled.service) → BeginsSound ruled.service
     → old.taken ≡ [] → old.left ≡ Some bytes
-    → Answers ruled.service most old new end → RepliesAreGood ruled.service old
+    → Answers ruled.formats ruled.service most old new end → RepliesAreGood ruled.formats ruled.service old
     → IsReplayed ruled bytes most (record o { printed = old.held; keys = old.keys; steps = old.steps })
     (record o { printed = new.held; keys = new.keys; unread = new.left; steps = new.steps }) r
 stream_replied ruled bytes most old new end r o accepts e stands sound none left answers good = record {
@@ -103,53 +107,57 @@ stream_replied ruled bytes most old new end r o accepts e stands sound none left
           unhandled = a.2.bytes;
           steps = a.3;
           pages = λ replies. good ruled.schema at replies accepts here (sound ruled.schema 1 1 accepts);
+          within = (course_is_fit ruled most at a.0 old.held new.held new.taken a.1 end accepts a.4
+              (sound ruled.schema 1 1 accepts, empty_is_within ruled.formats ruled.service)).1;
         },
       );
   kept = (refl, refl, refl);
 }
 
 -- the requests of a file were answered
-pub requests_replied : {File : Type 0} (left : File → Option (List ℕ)) (told : Option Disk) (name : List ℕ) (next : Option File) (file : File) (most : ℕ)
-    (old new : Place) (unread : Option (List ℕ)) (end : StreamEnd) (r : Status) → unread ≡ new.left → r ≡ status_of end → next ≡ Some file
+pub requests_replied : {File : Type 0} (left : File → Option (List ℕ)) (told : Option Disk) (name : List ℕ) (next : Option File) (file : File)
+    (formats : List Format) (most : ℕ) (old new : Place) (unread : Option (List ℕ)) (end : StreamEnd) (r : Status) → unread ≡ new.left → r ≡ status_of end → next ≡ Some file
     → Finds left told name next
     → StandsFor old.seen (empty old.seen.service) → BeginsSound old.seen.service → old.taken ≡ [] → old.left ≡ left file
-    → Answers old.seen.service most old new end
-    → RepliesAreGood old.seen.service old
-    → IfSome told (λ d. (ruled : Ruled) → IsRuled old.seen.service ruled
+    → Answers formats old.seen.service most old new end
+    → RepliesAreGood formats old.seen.service old
+    → IfSome told (λ d. (ruled : Ruled) → IsRuled old.seen.service formats ruled
     → Replies (replayed d name most ruled) old.held new.held old.keys new.keys unread old.steps new.steps r)
-requests_replied left None name next file most old new unread end r was e some f stands sound none here answers good = tt
-requests_replied left (Some d) name next file most old new unread end r was e some f stands sound none here answers good =
+requests_replied left None name next file formats most old new unread end r was e some f stands sound none here answers good = tt
+requests_replied left (Some d) name next file formats most old new unread end r was e some f stands sound none here answers good =
     let found_so = subst (λ x. Finds left (Some d) name x) some f in
     λ ruled is o.
     let same : old.seen.service ≡ ruled.service = sym is.0 in
+    let form : formats ≡ ruled.formats = sym is.2 in
     done (replays ruled found_so.0 most) (found_so.0, found_so.1, refl)
     (subst (λ u. IsReplayed ruled found_so.0 most (record o { printed = old.held; keys = old.keys; steps = old.steps })
     (record o { printed = new.held; keys = new.keys; unread = u; steps = new.steps }) r) (sym was)
     (stream_replied ruled found_so.0 most old new end r o is.1 e (subst (λ s. StandsFor old.seen (empty s)) same stands)
     (subst BeginsSound same sound) none (here ∙ found_so.2)
-    (subst (λ s. Answers s most old new end) same answers) (subst (λ s. RepliesAreGood s old) same good)))
+    (subst (λ f. Answers f ruled.service most old new end) form (subst (λ s. Answers formats s most old new end) same answers))
+    (subst (λ f. RepliesAreGood f ruled.service old) form (subst (λ s. RepliesAreGood formats s old) same good))))
 
 -- the service is the one that the world was made with
-pub by_service : (told : Option Disk) (q : Disk → Ruled → Question Work) (service seen : Service) (held now : Option (List ℕ)) (keys later : Option Coming)
-    (unread : Option (List ℕ)) (steps after : ℕ) (r : Status) → seen ≡ service
-    → IfSome told (λ d. (ruled : Ruled) → IsRuled seen ruled → Replies (q d ruled) held now keys later unread steps after r)
-    → IfSome told (λ d. (ruled : Ruled) → IsRuled service ruled → Replies (q d ruled) held now keys later unread steps after r)
-by_service told q service seen held now keys later unread steps after r e h =
-    subst (λ s. IfSome told (λ d. (ruled : Ruled) → IsRuled s ruled → Replies (q d ruled) held now keys later unread steps after r)) e h
+pub by_service : (told : Option Disk) (q : Disk → Ruled → Question Work) (service seen : Service) (formats : List Format) (held now : Option (List ℕ))
+    (keys later : Option Coming) (unread : Option (List ℕ)) (steps after : ℕ) (r : Status) → seen ≡ service
+    → IfSome told (λ d. (ruled : Ruled) → IsRuled seen formats ruled → Replies (q d ruled) held now keys later unread steps after r)
+    → IfSome told (λ d. (ruled : Ruled) → IsRuled service formats ruled → Replies (q d ruled) held now keys later unread steps after r)
+by_service told q service seen formats held now keys later unread steps after r e h =
+    subst (λ s. IfSome told (λ d. (ruled : Ruled) → IsRuled s formats ruled → Replies (q d ruled) held now keys later unread steps after r)) e h
 
 -- the service was found, and then its requests were answered, whose file is asked for by the text of its name
-pub replies_found : (told later_told : Option Disk) (name : List ℕ) (named : Option (List ℕ)) (requests text : List ℕ) (most : ℕ) (ruled : Ruled)
+pub replies_found : (told later_told : Option Disk) (name : List ℕ) (named form : Option (List ℕ)) (requests text : List ℕ) (most : ℕ) (ruled : Ruled)
     (held now : Option (List ℕ)) (keys later : Option Coming) (unread : Option (List ℕ)) (steps after : ℕ) (r : Status) → later_told ≡ told
-    → text ≡ requests → IfSome told (λ d. (accepted_file d name named).gives ruled)
-    → IfSome later_told (λ d. (x : Ruled) → IsRuled ruled.service x → Replies (replayed d text most x) held now keys later unread steps after r)
-    → IfSome told (λ d. Replies (accepted_file d name named >>= replayed d requests most) held now keys later unread steps after r)
-replies_found None later_told name named requests text most ruled held now keys later unread steps after r e t g h = tt
-replies_found (Some d) later_told name named requests text most ruled held now keys later unread steps after r e t g h =
+    → text ≡ requests → IfSome told (λ d. (accepted_file d name named form).gives ruled)
+    → IfSome later_told (λ d. (x : Ruled) → IsRuled ruled.service ruled.formats x → Replies (replayed d text most x) held now keys later unread steps after r)
+    → IfSome told (λ d. Replies (accepted_file d name named form >>= replayed d requests most) held now keys later unread steps after r)
+replies_found None later_told name named form requests text most ruled held now keys later unread steps after r e t g h = tt
+replies_found (Some d) later_told name named form requests text most ruled held now keys later unread steps after r e t g h =
     let all = subst
-    (λ o. IfSome o (λ d. (x : Ruled) → IsRuled ruled.service x → Replies (replayed d text most x) held now keys later unread steps after r)) e h in
-    let is = found_accepted d name named ruled g in
+    (λ o. IfSome o (λ d. (x : Ruled) → IsRuled ruled.service ruled.formats x → Replies (replayed d text most x) held now keys later unread steps after r)) e h in
+    let is = found_accepted d name named form ruled g in
     λ o.
-    comes_then (accepted_file d name named) (replayed d requests most) ruled _ _ r g
+    comes_then (accepted_file d name named form) (replayed d requests most) ruled _ _ r g
     (subst (λ n. Replies (replayed d n most ruled) held now keys later unread steps after r) t (all ruled is) o)
 
 -- ---- links
@@ -174,39 +182,39 @@ no_line_comes ruled port most o printed asked coming returned unread e f a p =
     done (serves ruled port most) refl (no_line refl a p (outside_same printed o.keys asked coming o.coming returned o.returned unread o.steps e f))
 
 -- links were served
-pub serving_comes : (ruled : Ruled) (seen : Seen) (port most : ℕ) (o after : Outside) (asked : Option (List ℕ)) (coming : Option (List (List ℕ)))
-    (returned : Option (List Returned)) (s : Status) → coming ≡ o.coming → returned ≡ o.returned
-    → IsRuled seen.service ruled → StandsFor seen (empty seen.service) → BeginsSound seen.service → Asks o.asked asked port → after.asked ≡ asked
+pub serving_comes : (ruled : Ruled) (seen : Seen) (formats : List Format) (port most : ℕ) (o after : Outside) (asked : Option (List ℕ))
+    (coming : Option (List (List ℕ))) (returned : Option (List Returned)) (s : Status) → coming ≡ o.coming → returned ≡ o.returned
+    → IsRuled seen.service formats ruled → StandsFor seen (empty seen.service) → BeginsSound seen.service → Asks o.asked asked port → after.asked ≡ asked
     → Appends o.printed after.printed (serving_line port) → (s ≡ status.Done) ⊎ (s ≡ status.DoorFault)
-    → ((r : Ruled) (m : World) → IsRuled seen.service r → StandsFor seen m → IsSoundWorld r.service m
+    → ((r : Ruled) (m : World) → IsRuled seen.service formats r → StandsFor seen m → IsFitWorld r m
     → ServesLinks r m most (outside None o.keys asked coming returned None o.steps) (record after { printed = None; unread = None }) s)
     → Comes (at_port port most ruled) o after s
-serving_comes ruled seen port most o after asked coming returned s e f is stands sound asks same line ends gives =
+serving_comes ruled seen formats port most o after asked coming returned s e f is stands sound asks same line ends gives =
     let unprinted : Outside = record after { printed = None; unread = None } in
     let from = gives ruled (empty ruled.service) is (subst (λ t. StandsFor seen (empty t)) (sym is.0) stands)
-    (subst BeginsSound (sym is.0) sound ruled.schema 1 1 is.1) in
+    (subst BeginsSound (sym is.0) sound ruled.schema 1 1 is.1, empty_is_within ruled.formats ruled.service) in
     let all : ServesLinks ruled (empty ruled.service) most o after s = λ keys k links l given g.
     let x = from keys k links (e ∙ l) given (f ∙ g) in
     (x.0, x.1, x.2, given_so ruled _ links given x.0 x.1 x.2 unprinted after x.3 refl refl refl refl, x.4, x.5) in
     done (serves ruled port most) refl (links_served ends (subst (λ x. Asks o.asked x port) (sym same) asks) line all)
 
 -- the service is the one that the world was made with
-pub by_same_service : (port most : ℕ) (service seen : Service) (before after : Outside) (s : Status) → seen ≡ service
-    → ((ruled : Ruled) (u v : Option (List ℕ)) → IsRuled seen ruled
+pub by_same_service : (port most : ℕ) (service seen : Service) (formats : List Format) (before after : Outside) (s : Status) → seen ≡ service
+    → ((ruled : Ruled) (u v : Option (List ℕ)) → IsRuled seen formats ruled
     → Comes (at_port port most ruled) (record before { unread = u }) (record after { unread = v }) s)
-    → (ruled : Ruled) (u v : Option (List ℕ)) → IsRuled service ruled
+    → (ruled : Ruled) (u v : Option (List ℕ)) → IsRuled service formats ruled
     → Comes (at_port port most ruled) (record before { unread = u }) (record after { unread = v }) s
-by_same_service port most service seen before after s e h =
-    subst (λ t. (ruled : Ruled) (u v : Option (List ℕ)) → IsRuled t ruled
+by_same_service port most service seen formats before after s e h =
+    subst (λ t. (ruled : Ruled) (u v : Option (List ℕ)) → IsRuled t formats ruled
     → Comes (at_port port most ruled) (record before { unread = u }) (record after { unread = v }) s) e h
 
 -- the service was found, and then its port was served
-pub port_comes : (told : Option Disk) (name : List ℕ) (named : Option (List ℕ)) (port most : ℕ) (ruled : Ruled) (before after : Outside) (s : Status)
-    → IfSome told (λ d. (accepted_file d name named).gives ruled)
-    → ((x : Ruled) (u v : Option (List ℕ)) → IsRuled ruled.service x
+pub port_comes : (told : Option Disk) (name : List ℕ) (named form : Option (List ℕ)) (port most : ℕ) (ruled : Ruled) (before after : Outside) (s : Status)
+    → IfSome told (λ d. (accepted_file d name named form).gives ruled)
+    → ((x : Ruled) (u v : Option (List ℕ)) → IsRuled ruled.service ruled.formats x
     → Comes (at_port port most x) (record before { unread = u }) (record after { unread = v }) s)
-    → IfSome told (λ d. Comes (accepted_file d name named >>= at_port port most) before after s)
-port_comes None name named port most ruled before after s g h = tt
-port_comes (Some d) name named port most ruled before after s g h =
-    comes_then (accepted_file d name named) (at_port port most) ruled before after s g
-    (h ruled before.unread after.unread (found_accepted d name named ruled g))
+    → IfSome told (λ d. Comes (accepted_file d name named form >>= at_port port most) before after s)
+port_comes None name named form port most ruled before after s g h = tt
+port_comes (Some d) name named form port most ruled before after s g h =
+    comes_then (accepted_file d name named form) (at_port port most) ruled before after s g
+    (h ruled before.unread after.unread (found_accepted d name named form ruled g))

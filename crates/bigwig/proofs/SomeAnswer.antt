@@ -1,7 +1,17 @@
 -- Each question has an answer: it gives a value, or something is said.
-use Rattle.std.proofs.Common.{◌≡◌, ◌⊎◌, codes, ℕ, List, [], ◌∷◌, Option, None, Some, refl, inl, inr}
+use Rattle.std.proofs.Common.{◌≡◌, ◌≢◌, ◌⊎◌, ◌≤◌, Bool, true, false, codes, ℕ, List, [], ◌∷◌, length, Option, None, Some, Result, Ok, Err, IsUtf8, refl, sym, ap, ◌∙◌, inl, inr, arith}
+use Rattle.std.specs.Str.{is_utf8}
+use Rattle.std.specs.Str.Lines.{lines}
+use Rattle.std.proofs.lemmas.Bool.{cases_lt}
+use Rattle.std.proofs.lemmas.Str.{is_utf8-from_IsUtf8, IsUtf8-from_is_utf8}
+use Rattle.bw_format.specs.FormatFile.{Gives}
+use Rattle.bw_format.specs.declared.file.FormatFault.{FormatFault}
+use Rattle.bw_format.specs.declared.file.FormatFault.TheVariants as fault
+use Rattle.bw_format.specs.declared.format.Format.{Format}
+use Rattle.bw_format.proofs.SomeAnswer.{some_answer}
 use Rattle.bw_lang.specs.Document.Forest.{Forest}
 use Rattle.bw_lang.specs.declared.service.Service.{Service}
+use Rattle.bw_lights.proofs.SomeLights.{some_lights}
 use Rattle.bw_make.specs.Made.{made}
 use Rattle.bw_out.specs.Told.{Disk}
 use Rattle.bw_read.proofs.Decided.{page_or_none}
@@ -13,18 +23,18 @@ use Rattle.bw_types.specs.declared.fault.TypeFault.{TypeFault}
 use Rattle.bw_valid.specs.Breaches.{breach}
 use Rattle.bw_valid.specs.declared.breach.Breach.{Breach}
 use Rattle.bw_valid.proofs.BreachLaws.{valid_decided}
-use Rattle.bigwig.specs.Asked.{page, page_file, rules, schema, built_in, judged, ruled}
+use Rattle.bigwig.specs.Asked.{page, page_file, rules, schema, built_in, judged, ruled, formats_in, formats_file, formats, AreTexts, lit, lit_file}
 use Rattle.bigwig.specs.Asked.Work.{prints}
-use Rattle.bigwig.specs.Asked.{command, file, read, typed, service_file, service_text, checked, checked_by, accepted_file, accepted_text}
+use Rattle.bigwig.specs.Asked.{command, file, read, typed, service_file, service_text, checked, checked_with, checked_by, accepted_file, accepted_text}
 use Rattle.bigwig.specs.Asked.{accepted, replayed, at_port, turned, work, asked, usage_line}
 use Rattle.bigwig.specs.Commands.{command_of}
 use Rattle.bigwig.specs.FaultLines.{check_text, page_names}
 use Rattle.bigwig.specs.Laws.{HasVerdict, Checks}
-use Rattle.bigwig.specs.Lines.{syntax_line, type_line, no_file_line, no_page_line, breach_line, schema_line}
+use Rattle.bigwig.specs.Lines.{syntax_line, type_line, no_file_line, no_page_line, breach_line, schema_line, format_line, no_texts_line}
 use Rattle.bigwig.specs.Questions.{Said, Question, ◌>>=◌, found, line}
 use Rattle.bigwig.specs.declared.command.Command.{Command}
-use Rattle.bigwig.specs.declared.command.Command.TheVariants.{Check, Replay, Serve, Valid, Make}
-use Rattle.bigwig.specs.declared.status.Status.TheVariants.{Usage, NoFile, ServiceRefused, SchemaRefused, PageRefused}
+use Rattle.bigwig.specs.declared.command.Command.TheVariants.{Check, Replay, Serve, Valid, Make, Light}
+use Rattle.bigwig.specs.declared.status.Status.TheVariants.{Usage, NoFile, ServiceRefused, SchemaRefused, PageRefused, FormatsRefused}
 
 abbrev pub HasAnswer : {A : Type 0} → Question A → Type 0
 HasAnswer {A = A} question = ((a : A) × question.gives a) ⊎ ((said : Said) × question.says said)
@@ -104,41 +114,77 @@ judged_some tree by = by_breach (breach by tree) refl
     by_breach None e = inl (prints (line (codes "valid")), ((valid_decided by tree).1 e, refl))
     by_breach (Some first) e = inr (record { status = PageRefused; text = line (breach_line first) }, (first, e, refl))
 
--- the check's own question has the check's verdict
-checked_some : (tree : Service) (by : Schema) → HasVerdict tree by → HasAnswer (checked tree by)
-checked_some tree by (inl x) = inl (record { service = tree; schema = by }, (refl, x))
-checked_some tree by (inr x) = inr (record { status = ServiceRefused; text = check_text (page_names tree) x.0 }, (x.0, x.1, x.2, refl))
+formats_in_some : (content : List ℕ) → HasAnswer (formats_in content)
+formats_in_some content = let x = some_answer content in by_result x.0 x.1 x.2
+  where
+    by_result : (r : Result (List Format) FormatFault) → Gives content r → r ≢ Err fault.Memory → HasAnswer (formats_in content)
+    by_result (Ok given) g some = inl (given, g)
+    by_result (Err e) g some =
+        inr (record { status = FormatsRefused; text = line (format_line e) }, (e, g, (λ same. some (ap Err same)), refl))
 
-accepted_file_some : (disk : Disk) (name : List ℕ) (named : Option (List ℕ))
+formats_file_some : (disk : Disk) (name : List ℕ) → HasAnswer (formats_file disk name)
+formats_file_some disk name = then_some (file disk name) formats_in (file_some disk name) (λ content _. formats_in_some content)
+
+formats_some : (disk : Disk) (form : Option (List ℕ)) → HasAnswer (formats disk form)
+formats_some disk None = found_some []
+formats_some disk (Some name) = formats_file_some disk name
+
+are_texts_or_not : (content : List ℕ) → AreTexts content ⊎ (AreTexts content → ⊥)
+are_texts_or_not content = by_utf8 (is_utf8 content) refl
+  where
+    by_utf8 : (b : Bool) → is_utf8 content ≡ b → AreTexts content ⊎ (AreTexts content → ⊥)
+    by_utf8 false e = inr (λ t. (let k : true ≡ false = sym (is_utf8-from_IsUtf8 content t.utf8) ∙ e in cc))
+    by_utf8 true e = elim (cases_lt 1048576 (length content)) [
+      | inl gt ↦ inr (λ t. absurd (omega (arith, gt, t.short)))
+      | inr le ↦ inl (record { utf8 = IsUtf8-from_is_utf8 content e; short = le })
+    ]
+
+-- formats of a file give lights
+lit_some : (bytes : List ℕ) (given : List Format) → Gives bytes (Ok given) → (content : List ℕ) → HasAnswer (lit given content)
+lit_some bytes given g content = elim (are_texts_or_not content) as (λ _. HasAnswer (lit given content)) [
+  | inl x ↦ (let l = some_lights bytes given g (lines content) in inl (prints l.0, (l.0, x, l.1, refl)))
+  | inr x ↦ inr (record { status = FormatsRefused; text = line no_texts_line }, (x, refl))
+]
+
+-- the check's own question has the check's verdict
+checked_some : (tree : Service) (by : Schema) (given : List Format) → HasVerdict tree by → HasAnswer (checked tree by given)
+checked_some tree by given (inl x) = inl (record { service = tree; schema = by; formats = given }, (refl, x))
+checked_some tree by given (inr x) = inr (record { status = ServiceRefused; text = check_text (page_names tree) x.0 }, (x.0, x.1, x.2, refl))
+
+accepted_file_some : (disk : Disk) (name : List ℕ) (named form : Option (List ℕ))
     → ((tree : Service) (by : Schema) → (service_file disk name).gives tree → (schema disk named).gives by → HasVerdict tree by)
-    → HasAnswer (accepted_file disk name named)
-accepted_file_some disk name named verdicts =
-    then_some (service_file disk name) (checked_by disk named) (service_file_some disk name)
-    (λ tree g. then_some (schema disk named) (checked tree) (schema_some disk named) (λ by k. checked_some tree by (verdicts tree by g k)))
+    → HasAnswer (accepted_file disk name named form)
+accepted_file_some disk name named form verdicts =
+    then_some (service_file disk name) (checked_by disk named form) (service_file_some disk name)
+    (λ tree g. then_some (schema disk named) (checked_with disk form tree) (schema_some disk named)
+    (λ by k. then_some (formats disk form) (checked tree by) (formats_some disk form) (λ given _. checked_some tree by given (verdicts tree by g k))))
 
 accepted_text_some : (text : List ℕ)
     → ((tree : Service) (by : Schema) → (service_text text).gives tree → built_in.gives by → HasVerdict tree by) → HasAnswer (accepted_text text)
 accepted_text_some text verdicts =
-    then_some (service_text text) (λ tree. built_in >>= checked tree) (service_text_some text)
-    (λ tree g. then_some built_in (checked tree) (rules_some _) (λ by k. checked_some tree by (verdicts tree by g k)))
+    then_some (service_text text) (λ tree. built_in >>= (λ by. checked tree by [])) (service_text_some text)
+    (λ tree g. then_some built_in (λ by. checked tree by []) (rules_some _) (λ by k. checked_some tree by [] (verdicts tree by g k)))
 
 work_some : (disk : Disk) (c : Command) → ((tree : Service) (by : Schema) → Checks disk c tree by → HasVerdict tree by) → HasAnswer (work disk c)
 work_some disk (Check service judging) verdicts =
-    then_some (accepted_file disk service judging.schema) accepted
-    (accepted_file_some disk service judging.schema (λ tree by g k. verdicts tree by (g, k))) (λ ruled _. found_some _)
-work_some disk (Replay service requests judging most) verdicts =
-    then_some (accepted_file disk service judging.schema) (replayed disk requests most)
-    (accepted_file_some disk service judging.schema (λ tree by g k. verdicts tree by (g, k)))
+    then_some (accepted_file disk service judging.schema None) accepted
+    (accepted_file_some disk service judging.schema None (λ tree by g k. verdicts tree by (g, k))) (λ ruled _. found_some _)
+work_some disk (Replay service requests judging form most) verdicts =
+    then_some (accepted_file disk service judging.schema form) (replayed disk requests most)
+    (accepted_file_some disk service judging.schema form (λ tree by g k. verdicts tree by (g, k)))
     (λ ruled _. then_some (file disk requests) _ (file_some disk requests) (λ stream _. found_some _))
-work_some disk (Serve service judging port most) verdicts =
-    then_some (accepted_file disk service judging.schema) (at_port port most)
-    (accepted_file_some disk service judging.schema (λ tree by g k. verdicts tree by (g, k))) (λ ruled _. found_some _)
+work_some disk (Serve service judging form port most) verdicts =
+    then_some (accepted_file disk service judging.schema form) (at_port port most)
+    (accepted_file_some disk service judging.schema form (λ tree by g k. verdicts tree by (g, k))) (λ ruled _. found_some _)
 work_some disk (Valid name named) verdicts =
     then_some (page_file disk name) (ruled disk named) (page_file_some disk name)
     (λ tree _. then_some (schema disk named) (judged tree) (schema_some disk named) (λ by _. judged_some tree by))
 work_some disk (Make count workers) verdicts =
     then_some (accepted_text (made count)) (turned count) (accepted_text_some (made count) (λ tree by g k. verdicts tree by (g, k)))
     (λ ruled _. found_some _)
+work_some disk (Light form texts) verdicts =
+    then_some (formats_file disk form) (lit_file disk texts) (formats_file_some disk form)
+    (λ given g. then_some (file disk texts) (lit given) (file_some disk texts) (λ content _. lit_some g.0 given g.2 content))
 
 -- all that the program asks has an answer, where the check has a verdict on the service that the words lead to
 pub asked_some : (words : List (List ℕ)) (disk : Disk)

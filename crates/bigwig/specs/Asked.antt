@@ -1,11 +1,17 @@
 -- The questions of each command, in their order. A later command, option or file is one line more.
-use Rattle.std.specs.Prelude.{◌≡◌, ◌≢◌, ℕ, List, Option, None, Some, codes}
+use Rattle.std.specs.Prelude.{◌≡◌, ◌≢◌, ◌≤◌, ℕ, List, [], length, Option, None, Some, Ok, Err, codes, IsUtf8}
+use Rattle.std.specs.Str.Lines.{lines}
 use Rattle.bw_check.specs.Accepts.{Accepts, IsCheckFault}
 use Rattle.bw_check.specs.declared.fault.CheckFault.{CheckFault}
 use Rattle.bw_check.specs.declared.fault.CheckFault.TheVariants as checks
+use Rattle.bw_format.specs.FormatFile.{Gives}
+use Rattle.bw_format.specs.declared.file.FormatFault.{FormatFault}
+use Rattle.bw_format.specs.declared.file.FormatFault.TheVariants as faults
+use Rattle.bw_format.specs.declared.format.Format.{Format}
 use Rattle.bw_lang.specs.Document.Forest.{Forest}
 use Rattle.bw_lang.specs.Service.Reads.{Reads}
 use Rattle.bw_lang.specs.declared.service.Service.{Service}
+use Rattle.bw_lights.specs.Lights.{AreLights}
 use Rattle.bw_make.specs.Made.{made}
 use Rattle.bw_out.specs.Told.{Disk}
 use Rattle.bw_read.specs.Pages.{IsPage}
@@ -25,16 +31,17 @@ use Rattle.bw_valid.specs.Breaches.{breach}
 use Rattle.bw_valid.specs.declared.breach.Breach.{Breach}
 use Rattle.bigwig.specs.Commands.{command_of}
 use Rattle.bigwig.specs.FaultLines.{check_text, page_names}
-use Rattle.bigwig.specs.Lines.{syntax_line, type_line, no_file_line, no_page_line, breach_line, schema_line}
+use Rattle.bigwig.specs.Lines.{syntax_line, type_line, no_file_line, no_page_line, breach_line, schema_line, format_line, no_texts_line}
 use Rattle.bigwig.specs.Making.{made_text}
 use Rattle.bigwig.specs.Questions.{Question, ◌>>=◌, found, line}
 use Rattle.bigwig.specs.declared.command.Command.{Command}
-use Rattle.bigwig.specs.declared.command.Command.TheVariants.{Check, Replay, Serve, Valid, Make}
-use Rattle.bigwig.specs.declared.status.Status.TheVariants.{Usage, NoFile, ServiceRefused, SchemaRefused, PageRefused}
+use Rattle.bigwig.specs.declared.command.Command.TheVariants.{Check, Replay, Serve, Valid, Make, Light}
+use Rattle.bigwig.specs.declared.lighting.TheConstants.{MAX_TEXTS_BYTES}
+use Rattle.bigwig.specs.declared.status.Status.TheVariants.{Usage, NoFile, ServiceRefused, SchemaRefused, PageRefused, FormatsRefused}
 
 -- what is printed where the words are refused
 abbrev pub usage_line : List ℕ
-usage_line = line (codes "usage: bigwig check SERVICE | replay SERVICE REQUESTS | serve SERVICE | valid PAGE | make N")
+usage_line = line (codes "usage: bigwig check SERVICE | replay SERVICE REQUESTS | serve SERVICE | valid PAGE | make N | light FORMATS TEXTS")
 
 -- which command do the words give?
 abbrev pub command : List (List ℕ) → Question Command
@@ -90,26 +97,48 @@ abbrev pub schema : Disk → Option (List ℕ) → Question Schema
 schema disk None = built_in
 schema disk (Some name) = file disk name >>= rules
 
--- a service, and a schema by which it is accepted
+-- which formats does the content read as?
+abbrev pub formats_in : List ℕ → Question (List Format)
+formats_in content = record {
+  gives = λ formats. Gives content (Ok formats);
+  says = λ said. (fault : FormatFault) × Gives content (Err fault) × (fault ≢ faults.Memory)
+      × (said ≡ record { status = FormatsRefused; text = line (format_line fault) });
+}
+
+-- the formats of a file
+abbrev pub formats_file : Disk → List ℕ → Question (List Format)
+formats_file disk name = file disk name >>= formats_in
+
+-- the same, or none where no file is named
+abbrev pub formats : Disk → Option (List ℕ) → Question (List Format)
+formats disk None = found []
+formats disk (Some name) = formats_file disk name
+
+-- a service, a schema by which it is accepted, and the formats of its fields
 pub record Ruled : Type 0 where
   pub service : Service
   pub schema : Schema
+  pub formats : List Format
 
 -- does the check accept the service by the schema?
-abbrev pub checked : Service → Schema → Question Ruled
-checked tree by = record {
-  gives = λ both. (both ≡ record { service = tree; schema = by }) × Accepts tree by;
+abbrev pub checked : Service → Schema → List Format → Question Ruled
+checked tree by formats = record {
+  gives = λ ruled. (ruled ≡ record { service = tree; schema = by; formats = formats }) × Accepts tree by;
   says = λ said. (fault : CheckFault) × IsCheckFault tree by fault × (fault ≢ checks.Memory)
       × (said ≡ record { status = ServiceRefused; text = check_text (page_names tree) fault });
 }
 
--- the schema that is named, and then the check
-abbrev pub checked_by : Disk → Option (List ℕ) → Service → Question Ruled
-checked_by disk named tree = schema disk named >>= checked tree
+-- the formats that are named, and then the check
+abbrev pub checked_with : Disk → Option (List ℕ) → Service → Schema → Question Ruled
+checked_with disk form tree by = formats disk form >>= checked tree by
+
+-- the schema that is named, the formats, and then the check
+abbrev pub checked_by : Disk → Option (List ℕ) → Option (List ℕ) → Service → Question Ruled
+checked_by disk named form tree = schema disk named >>= checked_with disk form tree
 
 -- the service of a file, where it is accepted: the file is read before the schema
-abbrev pub accepted_file : Disk → List ℕ → Option (List ℕ) → Question Ruled
-accepted_file disk name named = service_file disk name >>= checked_by disk named
+abbrev pub accepted_file : Disk → List ℕ → Option (List ℕ) → Option (List ℕ) → Question Ruled
+accepted_file disk name named form = service_file disk name >>= checked_by disk named form
 
 -- What is left to do where every question went well: to print; to answer a stream of at most so many requests; or to
 -- serve at most so many links at a port.
@@ -130,9 +159,9 @@ replayed disk requests most ruled = file disk requests >>= (λ stream. found (re
 abbrev pub at_port : ℕ → ℕ → Ruled → Question Work
 at_port port most ruled = found (serves ruled port most)
 
--- the service of a text, where it is accepted by the built-in schema
+-- the service of a text, without formats, where it is accepted by the built-in schema
 abbrev pub accepted_text : List ℕ → Question Ruled
-accepted_text text = service_text text >>= (λ tree. built_in >>= checked tree)
+accepted_text text = service_text text >>= (λ tree. built_in >>= (λ by. checked tree by []))
 
 -- its turns, and what is printed of them
 abbrev pub turned : ℕ → Ruled → Question Work
@@ -164,13 +193,34 @@ judged tree schema = record {
 abbrev pub ruled : Disk → Option (List ℕ) → Forest → Question Work
 ruled disk named tree = schema disk named >>= judged tree
 
+-- the content is texts: UTF-8, and not too long
+pub record AreTexts (content : List ℕ) : Type 0 where
+  pub utf8 : IsUtf8 content
+  pub short : length content ≤ MAX_TEXTS_BYTES
+
+-- which lights have the lines of the content?
+abbrev pub lit : List Format → List ℕ → Question Work
+lit formats content = record {
+  gives = λ work. (printed : List ℕ) × AreTexts content × AreLights formats (lines content) printed × (work ≡ prints printed);
+  says = λ said. (AreTexts content → ⊥) × (said ≡ record { status = FormatsRefused; text = line no_texts_line });
+}
+
+-- the lights of a file
+abbrev pub lit_file : Disk → List ℕ → List Format → Question Work
+lit_file disk name formats = file disk name >>= lit formats
+
+-- the formats, and then the texts
+abbrev pub lights : Disk → List ℕ → List ℕ → Question Work
+lights disk form texts = formats_file disk form >>= lit_file disk texts
+
 -- the questions of a command, and the work that they lead to
 abbrev pub work : Disk → Command → Question Work
-work disk (Check service judging) = accepted_file disk service judging.schema >>= accepted
-work disk (Replay service requests judging most) = accepted_file disk service judging.schema >>= replayed disk requests most
-work disk (Serve service judging port most) = accepted_file disk service judging.schema >>= at_port port most
+work disk (Check service judging) = accepted_file disk service judging.schema None >>= accepted
+work disk (Replay service requests judging form most) = accepted_file disk service judging.schema form >>= replayed disk requests most
+work disk (Serve service judging form port most) = accepted_file disk service judging.schema form >>= at_port port most
 work disk (Valid name named) = page_file disk name >>= ruled disk named
 work disk (Make count workers) = made_work count
+work disk (Light form texts) = lights disk form texts
 
 -- all that the program finds out from its words and its files
 abbrev pub asked : List (List ℕ) → Disk → Question Work

@@ -1,14 +1,22 @@
 -- Services that are accepted, as the code holds them.
-use Rattle.std.specs.Prelude.{◌≡◌}
+use Rattle.std.specs.Prelude.{◌≡◌, List}
 use Rattle.bw_check.specs.Accepts.{Accepts}
-use Rattle.bw_check.specs.declared.checked.Checked.{Checked}
+use Rattle.bw_format.specs.declared.format.Format.{Format}
 use Rattle.bw_lang.specs.declared.service.Service.{Service}
+use Rattle.bw_model.specs.Sessions.{World}
+use Rattle.bw_model.specs.Within.{AreWithin}
+use Rattle.bw_sound.specs.Worlds.{IsSoundWorld}
 use Rattle.bigwig.specs.Asked.{Ruled}
+use Rattle.bigwig.specs.declared.checking.Served.{Served}
 
--- the service, and the schema by which it was accepted
-abbrev pub ruled_by : Checked → Ruled
-ruled_by checked = record { service = checked.typed.service; schema = checked.schema }
+-- the service, the schema by which it was accepted, and the formats
+abbrev pub ruled_by : Served → Ruled
+ruled_by served = record { service = served.checked.typed.service; schema = served.checked.schema; formats = served.formats }
 
--- this is the service, with a schema by which it is accepted
-abbrev pub IsRuled : Service → Ruled → Type 0
-IsRuled service ruled = (ruled.service ≡ service) × Accepts ruled.service ruled.schema
+-- these are the service and the formats, with a schema by which it is accepted
+abbrev pub IsRuled : Service → List Format → Ruled → Type 0
+IsRuled service formats ruled = (ruled.service ≡ service) × Accepts ruled.service ruled.schema × (ruled.formats ≡ formats)
+
+-- a sound world, in which each value that a session stored is in its field's format
+abbrev pub IsFitWorld : Ruled → World → Type 0
+IsFitWorld ruled world = IsSoundWorld ruled.service world × AreWithin ruled.formats ruled.service world

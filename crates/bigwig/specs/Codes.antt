@@ -13,6 +13,7 @@ use Rattle.bigwig.specs.declared.status.Status.TheVariants.{
   DoorFault,
   Memory,
   PageRefused,
+  FormatsRefused,
   NoFile,
 }
 
@@ -27,6 +28,7 @@ code_of WriteFault = 6
 code_of DoorFault = 7
 code_of Memory = 8
 code_of PageRefused = 9
+code_of FormatsRefused = 10
 code_of NoFile = 15
 
 -- the status that the program ends with where this is refused
@@ -35,3 +37,4 @@ status_for refusals.File = NoFile
 status_for refusals.Service = ServiceRefused
 status_for refusals.Schema = SchemaRefused
 status_for refusals.Page = PageRefused
+status_for refusals.Formats = FormatsRefused

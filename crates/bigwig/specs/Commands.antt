@@ -5,7 +5,7 @@ use Rattle.clap.specs.Words.{fault_of}
 use Rattle.bigwig.specs.Numbers.{number_in, number_or}
 use Rattle.bigwig.specs.Words.{Written, bigwig, written_by}
 use Rattle.bigwig.specs.declared.command.Command.{Command}
-use Rattle.bigwig.specs.declared.command.Command.TheVariants.{Check, Replay, Serve, Valid, Make}
+use Rattle.bigwig.specs.declared.command.Command.TheVariants.{Check, Replay, Serve, Valid, Make, Light}
 use Rattle.bigwig.specs.declared.command.Judging.{Judging}
 use Rattle.bigwig.specs.declared.command.TheConstants.{DEFAULT_PORT, MAX_LINKS, MAX_PORT, MAX_REQUESTS, MAX_WORKERS}
 use Rattle.bw_make.specs.declared.TheConstants.{MAX_PAGES}
@@ -20,7 +20,7 @@ judging_by w = judging_of w.schema (number_or 1 MAX_WORKERS 1 w.workers)
 
 -- no option is there but the schema and the workers
 abbrev pub has_judging_alone : Written → Bool
-has_judging_alone w = is_none w.limit && is_none w.port
+has_judging_alone w = is_none w.limit && (is_none w.port && is_none w.formats)
 
 -- check SERVICE
 abbrev pub check_of : Option (List ℕ) → Option (List ℕ) → Option Judging → Option Command
@@ -30,26 +30,27 @@ check_of service second judging = None
 abbrev pub check_by : Written → Option Command
 check_by w = if has_judging_alone w then check_of w.first w.second (judging_by w) else None
 
--- replay SERVICE REQUESTS
-abbrev pub replay_of : Option (List ℕ) → Option (List ℕ) → Option Judging → Option ℕ → Option Command
-replay_of (Some service) (Some requests) (Some judging) (Some most) = Some (Replay service requests judging most)
-replay_of service requests judging most = None
+-- replay SERVICE REQUESTS, with the formats that are named, if some are
+abbrev pub replay_of : Option (List ℕ) → Option (List ℕ) → Option Judging → Option (List ℕ) → Option ℕ → Option Command
+replay_of (Some service) (Some requests) (Some judging) formats (Some most) = Some (Replay service requests judging formats most)
+replay_of service requests judging formats most = None
 
 abbrev pub replay_by : Written → Option Command
 replay_by w =
-    if is_none w.port then replay_of w.first w.second (judging_by w) (number_or 1 MAX_REQUESTS MAX_REQUESTS w.limit) else None
+    if is_none w.port then replay_of w.first w.second (judging_by w) w.formats (number_or 1 MAX_REQUESTS MAX_REQUESTS w.limit) else None
 
--- serve SERVICE
-abbrev pub serve_of : Option (List ℕ) → Option (List ℕ) → Option Judging → Option ℕ → Option ℕ → Option Command
-serve_of (Some service) None (Some judging) (Some port) (Some most) = Some (Serve service judging port most)
-serve_of service second judging port most = None
+-- serve SERVICE, with the formats that are named, if some are
+abbrev pub serve_of : Option (List ℕ) → Option (List ℕ) → Option Judging → Option (List ℕ) → Option ℕ → Option ℕ → Option Command
+serve_of (Some service) None (Some judging) formats (Some port) (Some most) = Some (Serve service judging formats port most)
+serve_of service second judging formats port most = None
 
 abbrev pub serve_by : Written → Option Command
-serve_by w = serve_of w.first w.second (judging_by w) (number_or 1 MAX_PORT DEFAULT_PORT w.port) (number_or 1 MAX_LINKS MAX_LINKS w.limit)
+serve_by w =
+    serve_of w.first w.second (judging_by w) w.formats (number_or 1 MAX_PORT DEFAULT_PORT w.port) (number_or 1 MAX_LINKS MAX_LINKS w.limit)
 
 -- no option is there but the schema
 abbrev pub has_schema_alone : Written → Bool
-has_schema_alone w = is_none w.workers && (is_none w.limit && is_none w.port)
+has_schema_alone w = is_none w.workers && (is_none w.limit && (is_none w.port && is_none w.formats))
 
 -- valid PAGE
 abbrev pub valid_of : Option (List ℕ) → Option (List ℕ) → Option (List ℕ) → Option Command
@@ -61,7 +62,7 @@ valid_by w = if has_schema_alone w then valid_of w.first w.second w.schema else 
 
 -- no option is there but the workers
 abbrev pub has_workers_alone : Written → Bool
-has_workers_alone w = is_none w.schema && (is_none w.limit && is_none w.port)
+has_workers_alone w = is_none w.schema && (is_none w.limit && (is_none w.port && is_none w.formats))
 
 -- make N
 abbrev pub make_of : Option ℕ → Option (List ℕ) → Option ℕ → Option Command
@@ -76,6 +77,18 @@ count_of (Some t) = number_in 1 MAX_PAGES t
 abbrev pub make_by : Written → Option Command
 make_by w = if has_workers_alone w then make_of (count_of w.first) w.second (number_or 1 MAX_WORKERS 1 w.workers) else None
 
+-- no option is there
+abbrev pub has_no_option : Written → Bool
+has_no_option w = is_none w.schema && (is_none w.workers && (is_none w.limit && (is_none w.port && is_none w.formats)))
+
+-- light FORMATS TEXTS
+abbrev pub light_of : Option (List ℕ) → Option (List ℕ) → Option Command
+light_of (Some formats) (Some texts) = Some (Light formats texts)
+light_of formats texts = None
+
+abbrev pub light_by : Written → Option Command
+light_by w = if has_no_option w then light_of w.first w.second else None
+
 -- the command of this name
 abbrev pub named_by : Option (List ℕ) → Written → Option Command
 named_by None w = None
@@ -84,7 +97,8 @@ named_by (Some name) w =
     else (if bytes_eq name (codes "replay") then replay_by w
     else (if bytes_eq name (codes "serve") then serve_by w
     else (if bytes_eq name (codes "valid") then valid_by w
-    else (if bytes_eq name (codes "make") then make_by w else None))))
+    else (if bytes_eq name (codes "make") then make_by w
+    else (if bytes_eq name (codes "light") then light_by w else None)))))
 
 -- the command that is written so
 abbrev pub command_by : Written → Option Command
@@ -108,7 +122,8 @@ AreWorkers n = (1 ≤ n) × (n ≤ MAX_WORKERS)
 -- the command's numbers are within their ranges
 abbrev pub IsInRange : Command → Type 0
 IsInRange (Check service judging) = AreWorkers judging.workers
-IsInRange (Replay service requests judging most) = AreWorkers judging.workers
-IsInRange (Serve service judging port most) = AreWorkers judging.workers
+IsInRange (Replay service requests judging formats most) = AreWorkers judging.workers
+IsInRange (Serve service judging formats port most) = AreWorkers judging.workers
 IsInRange (Valid page schema) = ⊤
 IsInRange (Make count workers) = (1 ≤ count) × (count ≤ MAX_PAGES) × AreWorkers workers
+IsInRange (Light formats texts) = ⊤

@@ -1,14 +1,20 @@
--- What requests are answered by, in words of its own: the service, its meaning, and the pages.
+-- What requests are answered by, in words of its own: the service, its meaning, the pages, and the formats of fields; and
+-- what `light` prints.
 -- It follows from what the program comes to. That the check accepted the service isn't said here, but what follows from it:
 -- each page that is answered is good.
-use Rattle.std.specs.Prelude.{◌≡◌, ◌⊎◌, ◌<◌, ℕ, false, List, [], ◌∷◌, ◌++◌, length, Option, None, Some}
+use Rattle.std.specs.Prelude.{◌≡◌, ◌⊎◌, ◌<◌, ℕ, false, List, [], ◌∷◌, ◌++◌, length, Option, None, Some, Ok}
 use Rattle.std.specs.Io.KnownBytes.{Appends}
+use Rattle.std.specs.Str.Lines.{lines}
+use Rattle.bw_format.specs.FormatFile.{Gives}
+use Rattle.bw_format.specs.declared.format.Format.{Format}
 use Rattle.bw_http.specs.declared.replies.Reply.{Reply}
 use Rattle.bw_lang.specs.Service.Reads.{Reads}
 use Rattle.bw_lang.specs.declared.service.Service.{Service}
+use Rattle.bw_lights.specs.Lights.{AreLights}
 use Rattle.bw_model.specs.Laws.{is_page}
 use Rattle.bw_model.specs.Runs.{At, Turn, Stops, answer_of}
 use Rattle.bw_model.specs.Sessions.{World, empty}
+use Rattle.bw_model.specs.Within.{AreWithin}
 use Rattle.bw_out.specs.Doors.{Returned}
 use Rattle.bw_out.specs.Told.{Coming, Disk}
 use Rattle.bw_schema.specs.Reads.{Reads as ReadsSchema}
@@ -18,30 +24,34 @@ use Rattle.bw_sound.specs.Good.{IsGood}
 use Rattle.bw_types.specs.Typing.{IsTypedService}
 use Rattle.bigwig.specs.Commands.{command_of}
 use Rattle.bigwig.specs.Outcomes.{Outside}
-use Rattle.bigwig.specs.declared.command.Command.TheVariants.{Replay, Serve}
+use Rattle.bigwig.specs.declared.command.Command.TheVariants.{Replay, Serve, Light}
 use Rattle.bigwig.specs.declared.command.Judging.{Judging}
 use Rattle.bigwig.specs.declared.status.Status.{Status}
 use Rattle.bigwig.specs.declared.status.Status.TheVariants.{Done, DoorFault}
 
 -- ---- a stream of requests
 
--- a page is good, and each other reply has changed nothing: no session, and no shared variable
-abbrev pub IsRight : Service → Schema → World → World → Reply → Type 0
-IsRight service schema before after reply = IsGood service schema before after reply × (is_page reply ≡ false → after ≡ before)
+-- A page is good, and each other reply has changed nothing: no session, and no shared variable. Each value that a session
+-- stored for a field is in the field's format, if it has one.
+pub record IsRight (formats : List Format) (service : Service) (schema : Schema) (before after : World) (reply : Reply) : Type 0 where
+  pub good : IsGood service schema before after reply
+  pub quiet : is_page reply ≡ false → after ≡ before
+  pub within : AreWithin formats service after
 
 -- messages were answered one after another, from there to there, by these replies, and each of them is right
-abbrev pub AreRight : Service → Schema → At → List Reply → At → Type 0
-AreRight service schema at [] to = to ≡ at
-AreRight service schema at (reply ∷ replies) to =
-    (cost : ℕ) × (mid : At) × Turn service at reply cost mid × IsRight service schema at.world mid.world reply × AreRight service schema mid replies to
+abbrev pub AreRight : List Format → Service → Schema → At → List Reply → At → Type 0
+AreRight formats service schema at [] to = to ≡ at
+AreRight formats service schema at (reply ∷ replies) to =
+    (cost : ℕ) × (mid : At) × Turn formats service at reply cost mid × IsRight formats service schema at.world mid.world reply
+    × AreRight formats service schema mid replies to
 
 -- These bytes are the answer to a stream of at most so many messages: to one after another, until there are that many or none
 -- follows. What is no message is refused, and changes nothing.
-pub record IsAnswer (service : Service) (schema : Schema) (most : ℕ) (at : At) (answer : List ℕ) (to : At) : Type 0 where
+pub record IsAnswer (formats : List Format) (service : Service) (schema : Schema) (most : ℕ) (at : At) (answer : List ℕ) (to : At) : Type 0 where
   pub replies : List Reply
   pub last : List Reply
   pub mid : At
-  pub right : AreRight service schema at replies mid
+  pub right : AreRight formats service schema at replies mid
   pub ends : ((length replies ≡ most) × (last ≡ []) × (to ≡ mid)) ⊎ ((length replies < most) × Stops mid last to)
   pub bytes : answer ≡ answer_of service (replies ++ last)
 
@@ -49,19 +59,20 @@ pub record IsAnswer (service : Service) (schema : Schema) (most : ℕ) (at : At)
 
 -- A link was answered and given back: it holds the answer to its first message, or a first part of it where a write failed,
 -- or nothing where a read failed, and then nothing has changed.
-pub data IsAnswered (service : Service) (schema : Schema) (at : At) (back : Returned) (to : At) : Type 0 where
-  whole : (answer : List ℕ) → IsAnswer service schema 1 at answer to → back.written ≡ Some answer → IsAnswered service schema at back to
-  broken : (answer front rest : List ℕ) → IsAnswer service schema 1 at answer to → front ++ rest ≡ answer → back.written ≡ Some front
-      → 0 < back.write_faults → IsAnswered service schema at back to
-  unread : to ≡ at → back.written ≡ Some [] → 0 < back.read_faults → IsAnswered service schema at back to
+pub data IsAnswered (formats : List Format) (service : Service) (schema : Schema) (at : At) (back : Returned) (to : At) : Type 0 where
+  whole : (answer : List ℕ) → IsAnswer formats service schema 1 at answer to → back.written ≡ Some answer
+      → IsAnswered formats service schema at back to
+  broken : (answer front rest : List ℕ) → IsAnswer formats service schema 1 at answer to → front ++ rest ≡ answer → back.written ≡ Some front
+      → 0 < back.write_faults → IsAnswered formats service schema at back to
+  unread : to ≡ at → back.written ≡ Some [] → 0 < back.read_faults → IsAnswered formats service schema at back to
 
 -- links were answered and given back in the order in which they came, over one world; the rest is to come
-abbrev pub AreAnswered : Service → Schema → World → Coming → List (List ℕ) → List Returned → List (List ℕ) → Type 0
-AreAnswered service schema world keys links [] rest = rest ≡ links
-AreAnswered service schema world keys links (back ∷ backs) rest =
+abbrev pub AreAnswered : List Format → Service → Schema → World → Coming → List (List ℕ) → List Returned → List (List ℕ) → Type 0
+AreAnswered formats service schema world keys links [] rest = rest ≡ links
+AreAnswered formats service schema world keys links (back ∷ backs) rest =
     (bytes : List ℕ) × (more : List (List ℕ)) × (to : At) × (links ≡ bytes ∷ more)
-    × IsAnswered service schema (record { world = world; bytes = bytes; keys = keys }) back to
-    × AreAnswered service schema to.world to.keys more backs rest
+    × IsAnswered formats service schema (record { world = world; bytes = bytes; keys = keys }) back to
+    × AreAnswered formats service schema to.world to.keys more backs rest
 
 -- ---- the program
 
@@ -80,35 +91,56 @@ pub record IsServiceOf (disk : Disk) (name : List ℕ) (named : Option (List ℕ
   pub rules_are : rules_text disk named ≡ Some rules
   pub is_schema : ReadsSchema rules schema.root schema.elements
 
+-- the formats of a file, or none where none is named
+abbrev pub AreFormatsOf : Disk → Option (List ℕ) → List Format → Type 0
+AreFormatsOf disk None formats = formats ≡ []
+AreFormatsOf disk (Some name) formats = (content : List ℕ) × (disk name ≡ Some content) × Gives content (Ok formats)
+
 -- The requests of a file were answered on `out` by the service of another, from the world in which nothing was requested yet.
 -- It is said where the keys to come are told.
-pub record IsReplay (disk : Disk) (name requests : List ℕ) (named : Option (List ℕ)) (most : ℕ) (before after : Outside) : Type 0 where
+pub record IsReplay (disk : Disk) (name requests : List ℕ) (named form : Option (List ℕ)) (most : ℕ) (before after : Outside) : Type 0 where
   pub service : Service
   pub schema : Schema
+  pub formats : List Format
+  pub formats_are : AreFormatsOf disk form formats
   pub is : IsServiceOf disk name named service schema
   pub stream : List ℕ
   pub found : disk requests ≡ Some stream
   pub answered : (keys : Coming) → before.keys ≡ Some keys → (answer : List ℕ) × (to : At)
-      × IsAnswer service schema most (record { world = empty service; bytes = stream; keys = keys }) answer to
+      × IsAnswer formats service schema most (record { world = empty service; bytes = stream; keys = keys }) answer to
       × Appends before.printed after.printed answer
 
 -- Links were answered by the service of a file, from the world in which nothing was requested yet, and no other link was
 -- given back. Where all was done no link is to come, or as many were answered as may be.
 -- It is said where the keys to come are told, and the links to come and those given back.
-pub record IsServe (disk : Disk) (name : List ℕ) (named : Option (List ℕ)) (most : ℕ) (before after : Outside) (status : Status) : Type 0 where
+pub record IsServe (disk : Disk) (name : List ℕ) (named form : Option (List ℕ)) (most : ℕ) (before after : Outside) (status : Status) : Type 0 where
   pub service : Service
   pub schema : Schema
+  pub formats : List Format
+  pub formats_are : AreFormatsOf disk form formats
   pub is : IsServiceOf disk name named service schema
   pub answered : (keys : Coming) → before.keys ≡ Some keys → (links : List (List ℕ)) → before.coming ≡ Some links → (given : List Returned)
       → before.returned ≡ Some given → (backs : List Returned) × (rest : List (List ℕ)) × (after.returned ≡ Some (given ++ backs))
-      × (after.coming ≡ Some rest) × AreAnswered service schema (empty service) keys links backs rest
+      × (after.coming ≡ Some rest) × AreAnswered formats service schema (empty service) keys links backs rest
       × (status ≡ Done → (rest ≡ []) ⊎ (length backs ≡ most))
 
--- The headline: what each `replay` that was done has answered, and each `serve` that was done or whose door failed.
+-- the lights of a file of texts were printed, by the formats of another
+pub record IsLit (disk : Disk) (form texts : List ℕ) (before after : Outside) : Type 0 where
+  pub formats : List Format
+  pub formats_are : AreFormatsOf disk (Some form) formats
+  pub content : List ℕ
+  pub found : disk texts ≡ Some content
+  pub printed : List ℕ
+  pub lights : AreLights formats (lines content) printed
+  pub appended : Appends before.printed after.printed printed
+
+-- The headline: what each `replay` that was done has answered, each `serve` that was done or whose door failed, and what each
+-- `light` that was done has printed.
 -- Where a read or a write of a `replay` failed, what was answered before is said by `Comes` alone: such a status also comes
 -- before any request.
 pub record Headline (words : List (List ℕ)) (disk : Disk) (before after : Outside) (status : Status) : Type 0 where
-  pub replay : (name requests : List ℕ) (judging : Judging) (most : ℕ) → command_of words ≡ Some (Replay name requests judging most) → status ≡ Done
-      → IsReplay disk name requests judging.schema most before after
-  pub serve : (name : List ℕ) (judging : Judging) (port most : ℕ) → command_of words ≡ Some (Serve name judging port most)
-      → (status ≡ Done) ⊎ (status ≡ DoorFault) → IsServe disk name judging.schema most before after status
+  pub replay : (name requests : List ℕ) (judging : Judging) (form : Option (List ℕ)) (most : ℕ)
+      → command_of words ≡ Some (Replay name requests judging form most) → status ≡ Done → IsReplay disk name requests judging.schema form most before after
+  pub serve : (name : List ℕ) (judging : Judging) (form : Option (List ℕ)) (port most : ℕ) → command_of words ≡ Some (Serve name judging form port most)
+      → (status ≡ Done) ⊎ (status ≡ DoorFault) → IsServe disk name judging.schema form most before after status
+  pub light : (form texts : List ℕ) → command_of words ≡ Some (Light form texts) → status ≡ Done → IsLit disk form texts before after

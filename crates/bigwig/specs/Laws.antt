@@ -21,7 +21,7 @@ use Rattle.bigwig.specs.Commands.{command_of}
 use Rattle.bigwig.specs.Outcomes.{Outside, Comes, IsDone}
 use Rattle.bigwig.specs.Questions.{Said}
 use Rattle.bigwig.specs.declared.command.Command.{Command}
-use Rattle.bigwig.specs.declared.command.Command.TheVariants.{Check, Make, Replay, Serve, Valid}
+use Rattle.bigwig.specs.declared.command.Command.TheVariants.{Check, Make, Replay, Serve, Valid, Light}
 use Rattle.bigwig.specs.declared.command.Judging.{Judging}
 use Rattle.bigwig.specs.declared.status.Status.{Status}
 use Rattle.bigwig.specs.declared.status.Status.TheVariants.{Done, ReadFault, WriteFault, DoorFault, Memory}
@@ -38,10 +38,11 @@ HasVerdict tree by = Accepts tree by ⊎ ((fault : CheckFault) × IsCheckFault t
 -- the command leads to a check of this service by this schema
 abbrev pub Checks : Disk → Command → Service → Schema → Type 0
 Checks disk (Check service judging) tree by = (service_file disk service).gives tree × (schema disk judging.schema).gives by
-Checks disk (Replay service requests judging most) tree by = (service_file disk service).gives tree × (schema disk judging.schema).gives by
-Checks disk (Serve service judging port most) tree by = (service_file disk service).gives tree × (schema disk judging.schema).gives by
+Checks disk (Replay service requests judging form most) tree by = (service_file disk service).gives tree × (schema disk judging.schema).gives by
+Checks disk (Serve service judging form port most) tree by = (service_file disk service).gives tree × (schema disk judging.schema).gives by
 Checks disk (Valid name named) tree by = ⊥
 Checks disk (Make count workers) tree by = (service_text (made count)).gives tree × built_in.gives by
+Checks disk (Light form texts) tree by = ⊥
 
 -- for all words and files some status is due, where the check has a verdict on the service that they lead to, if any
 abbrev pub SomeStatusIsDue : Type 0

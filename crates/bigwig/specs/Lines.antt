@@ -1,5 +1,7 @@
 -- The lines that tell why something is refused, without their ends.
 use Rattle.std.specs.Prelude.{ℕ, ◌==◌, if◌then◌else◌, List, [], ◌++◌, map, codes, decimal}
+use Rattle.bw_format.specs.declared.file.FormatFault.{FormatFault}
+use Rattle.bw_format.specs.declared.file.FormatFault.TheVariants as formats
 use Rattle.bw_lang.specs.declared.limits.Limit.{Limit}
 use Rattle.bw_lang.specs.declared.limits.Limit.TheVariants as limits
 use Rattle.bw_lang.specs.declared.stmt.Kind.{Kind}
@@ -104,3 +106,14 @@ schema_line (schemas.Repeated name) = codes "schema repeated " ++ name
 schema_line (schemas.Unknown name) = codes "schema unknown " ++ name
 schema_line schemas.TooLong = codes "schema too long"
 schema_line schemas.Memory = []
+
+-- why the file is read as no formats
+abbrev pub format_line : FormatFault → List ℕ
+format_line formats.TooLong = codes "formats too long"
+format_line (formats.Malformed n) = codes "formats malformed line " ++ decimal n
+format_line (formats.Repeated n) = codes "formats repeated line " ++ decimal n
+format_line formats.Memory = []
+
+-- the bytes are no texts
+abbrev pub no_texts_line : List ℕ
+no_texts_line = codes "texts malformed"

@@ -4,6 +4,7 @@ use Rattle.std.specs.Io.KnownBytes.{Appends}
 use Rattle.bw_http.specs.declared.replies.Reply.{Reply}
 use Rattle.bw_model.specs.Runs.{At}
 use Rattle.bw_model.specs.Sessions.{World, empty}
+use Rattle.bw_model.specs.Within.{AreWithin}
 use Rattle.bw_out.specs.Causes.{Shows}
 use Rattle.bw_out.specs.Doors.{Returned, Asks, MayAsk}
 use Rattle.bw_out.specs.Told.{Coming}
@@ -45,16 +46,18 @@ begins from bytes = record { world = from.world; bytes = bytes; keys = from.keys
 
 -- These bytes were answered by a run of at most so many messages, whose replies are appended to what was held. What follows
 -- them is `rest`, of which some bytes were taken, and `left` was not read. Each page among the replies is good: it is valid by
--- the schema, and a shown page has each field that its show receives.
+-- the schema, and a shown page has each field that its show receives. Each value that a session stored is in its field's
+-- format.
 pub record IsStreamed (most : ℕ) (ruled : Ruled) (from : Between) (bytes : List ℕ) (to : Between) (held now left : Option (List ℕ))
     (end : StreamEnd) : Type 0 where
   pub rest : List ℕ
   pub taken : List ℕ
   pub cost : ℕ
-  pub course : Course ruled.service most (begins from bytes) (begins to rest) held now taken cost end
+  pub course : Course ruled.formats ruled.service most (begins from bytes) (begins to rest) held now taken cost end
   pub unhandled : AreLeft taken left rest
   pub steps : to.steps ≡ from.steps + cost
-  pub pages : (replies : List Reply) → AreGood ruled.service ruled.schema (begins from bytes) replies
+  pub pages : (replies : List Reply) → AreGood ruled.formats ruled.service ruled.schema (begins from bytes) replies
+  pub within : AreWithin ruled.formats ruled.service to.world
 
 -- the status of a stream that ended so
 abbrev pub status_of : StreamEnd → Status

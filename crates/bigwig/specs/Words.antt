@@ -1,4 +1,4 @@
--- The words of the command line, by clap: one simple command with three words and four options.
+-- The words of the command line, by clap: one simple command with three words and five options.
 use Rattle.std.specs.Prelude.{◌≡◌, true, List, [], Option, Some, codes, option_map}
 use Rattle.std.specs.Borrow.{Bor}
 use Rattle.clap.specs.Words.{App, Row, Rule, Text, new_app, new_rule, with_rule, matches_of, fault_of}
@@ -17,10 +17,10 @@ bare = on_top (λ s. record s { no_binary_name = true; disable_help_flag = true;
 -- the whole command
 unfoldable pub bigwig : App
 bigwig =
-    with_rule (with_rule (with_rule (with_rule (with_rule (with_rule (with_rule bare
+    with_rule (with_rule (with_rule (with_rule (with_rule (with_rule (with_rule (with_rule bare
     (new_rule (codes "command"))) (new_rule (codes "first"))) (new_rule (codes "second")))
     (option_rule (codes "schema"))) (option_rule (codes "workers"))) (option_rule (codes "limit")))
-    (option_rule (codes "port"))
+    (option_rule (codes "port"))) (option_rule (codes "formats"))
 
 -- clap takes the words
 abbrev pub IsTaken : List Text → Type 0
@@ -35,6 +35,7 @@ pub record Written : Type 0 where
   pub workers : Option Text
   pub limit : Option Text
   pub port : Option Text
+  pub formats : Option Text
 
 -- the first values of clap's matches
 abbrev pub written_in : List Row → Written
@@ -46,6 +47,7 @@ written_in rows = record {
   workers = first_of (codes "workers") rows;
   limit = first_of (codes "limit") rows;
   port = first_of (codes "port") rows;
+  formats = first_of (codes "formats") rows;
 }
 
 -- what is written by these words
@@ -66,4 +68,5 @@ line_of l = record {
   workers = text_of l.workers;
   limit = text_of l.limit;
   port = text_of l.port;
+  formats = text_of l.formats;
 }

@@ -51,6 +51,8 @@ pub enum Command {
         /// The name of the file of requests.
         requests: Text,
         judging: Judging,
+        /// The name of the file of formats. Where there is none, no field has a format.
+        formats: Option<Text>,
         /// The greatest number of requests that are answered.
         most: u32,
     },
@@ -59,6 +61,8 @@ pub enum Command {
         /// The name of the service file.
         service: Text,
         judging: Judging,
+        /// The name of the file of formats. Where there is none, no field has a format.
+        formats: Option<Text>,
         /// The port.
         port: u16,
         /// The greatest number of links that are served.
@@ -77,6 +81,13 @@ pub enum Command {
         count: u32,
         /// How many workers judge it, from 1 to 16.
         workers: u32,
+    },
+    /// To print the lights of texts.
+    Light {
+        /// The name of the file of formats.
+        formats: Text,
+        /// The name of the file of texts.
+        texts: Text,
     },
 }
 
@@ -111,6 +122,8 @@ fn command_by(alloc: Global, line: &Line<'_>) -> Result<Command, WordsFault>
         valid_by(alloc, line)
     } else if name == "make" {
         make_by(line)
+    } else if name == "light" {
+        light_by(alloc, line)
     } else {
         Err(WordsFault::Refused)
     }
@@ -153,7 +166,11 @@ fn check_by(alloc: Global, line: &Line<'_>) -> Result<Command, WordsFault>
     ensures ok { IfOk result (λ c. (spec.check_by (words.line_of line.now) ≡ Some c) × spec.IsInRange c) }
     ensures refused { IsErrOf result WordsFault.Refused → spec.check_by (words.line_of line.now) ≡ None }
 {
-    if line.limit.is_some() || line.port.is_some() || line.second.is_some() {
+    if line.limit.is_some()
+        || line.port.is_some()
+        || line.formats.is_some()
+        || line.second.is_some()
+    {
         return Err(WordsFault::Refused);
     }
     let service = line.first.ok_or(WordsFault::Refused)?;
@@ -180,6 +197,7 @@ fn replay_by(alloc: Global, line: &Line<'_>) -> Result<Command, WordsFault>
         service: owned(alloc, service)?,
         requests: owned(alloc, requests)?,
         judging,
+        formats: owned_option(alloc, line.formats)?,
         most,
     })
 }
@@ -199,6 +217,7 @@ fn serve_by(alloc: Global, line: &Line<'_>) -> Result<Command, WordsFault>
     Ok(Command::Serve {
         service: owned(alloc, service)?,
         judging,
+        formats: owned_option(alloc, line.formats)?,
         port,
         most,
     })
@@ -225,6 +244,7 @@ fn valid_by(alloc: Global, line: &Line<'_>) -> Result<Command, WordsFault>
     if line.workers.is_some()
         || line.limit.is_some()
         || line.port.is_some()
+        || line.formats.is_some()
         || line.second.is_some()
     {
         return Err(WordsFault::Refused);
@@ -244,6 +264,7 @@ fn make_by(line: &Line<'_>) -> Result<Command, WordsFault>
     if line.schema.is_some()
         || line.limit.is_some()
         || line.port.is_some()
+        || line.formats.is_some()
         || line.second.is_some()
     {
         return Err(WordsFault::Refused);
@@ -252,4 +273,25 @@ fn make_by(line: &Line<'_>) -> Result<Command, WordsFault>
     let count = number_in(1, MAX_PAGES, count).ok_or(WordsFault::Refused)?;
     let workers = number_or(1, MAX_WORKERS, 1, line.workers).ok_or(WordsFault::Refused)?;
     Ok(Command::Make { count, workers })
+}
+
+/// `light FORMATS TEXTS`.
+fn light_by(alloc: Global, line: &Line<'_>) -> Result<Command, WordsFault>
+    ensures ok { IfOk result (λ c. (spec.light_by (words.line_of line.now) ≡ Some c) × spec.IsInRange c) }
+    ensures refused { IsErrOf result WordsFault.Refused → spec.light_by (words.line_of line.now) ≡ None }
+{
+    if line.schema.is_some()
+        || line.workers.is_some()
+        || line.limit.is_some()
+        || line.port.is_some()
+        || line.formats.is_some()
+    {
+        return Err(WordsFault::Refused);
+    }
+    let formats = line.first.ok_or(WordsFault::Refused)?;
+    let texts = line.second.ok_or(WordsFault::Refused)?;
+    Ok(Command::Light {
+        formats: owned(alloc, formats)?,
+        texts: owned(alloc, texts)?,
+    })
 }

@@ -4,8 +4,10 @@
 mod checking;
 mod command;
 mod fault_lines;
+mod formats;
 mod judging;
 mod laws;
+mod lighting;
 mod lines;
 mod loading;
 mod making;

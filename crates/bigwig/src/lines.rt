@@ -1,10 +1,12 @@
 //! The lines that tell why something is refused, without their ends.
 ghost use Rattle.std.specs.Prelude.{◌≡◌, ◌≢◌, ◌++◌, decimal, IfOk};
+ghost use Rattle.bw_format.specs.declared.file.FormatFault.TheVariants as formats;
 ghost use Rattle.bw_schema.specs.declared.fault.SchemaFault.TheVariants as schemas;
 ghost use Rattle.bw_syntax.specs.declared.fault.SyntaxFault.TheVariants as faults;
 ghost use Rattle.bw_types.specs.declared.fault.TypeFault.TheVariants as types;
 ghost use Rattle.bigwig.specs.Lines as spec;
 
+use bw_format::FormatFault;
 use bw_lang::{Kind, Limit, Memory};
 use bw_lex::LexFault;
 use bw_schema::SchemaFault;
@@ -237,4 +239,24 @@ pub fn schema_line(alloc: Global, fault: &SchemaFault) -> Result<Vec<u8>, Memory
         SchemaFault::TooLong => paired(alloc, b"schema too long", b""),
         SchemaFault::Memory => Err(Memory),
     }
+}
+
+/// Why a file is read as no formats. Want of memory has no line.
+pub fn format_line(alloc: Global, fault: &FormatFault) -> Result<Vec<u8>, Memory>
+    ensures line { IfOk result (λ line. line.items ≡ spec.format_line fault.now) }
+    ensures reason { IfOk result (λ line. fault.now ≢ formats.Memory) }
+{
+    match fault {
+        FormatFault::TooLong => paired(alloc, b"formats too long", b""),
+        FormatFault::Malformed(line) => placed(alloc, b"formats malformed line ", *line as usize),
+        FormatFault::Repeated(line) => placed(alloc, b"formats repeated line ", *line as usize),
+        FormatFault::Memory => Err(Memory),
+    }
+}
+
+/// The bytes are no texts.
+pub fn no_texts_line(alloc: Global) -> Result<Vec<u8>, Memory>
+    ensures { IfOk result (λ line. line.items ≡ spec.no_texts_line) }
+{
+    paired(alloc, b"texts malformed", b"")
 }

@@ -11,7 +11,7 @@ ghost use Rattle.bigwig.specs.Outcomes.{Speaks};
 ghost use Rattle.bigwig.specs.Questions.{IsAnswer, line};
 ghost use Rattle.bw_make.specs.declared.TheConstants.{MAX_PAGES};
 
-use crate::checking::made_checked;
+use crate::checking::{Served, made_checked};
 use crate::report::{print_text, report};
 use crate::status::Status;
 use crate::stop::Stop;
@@ -64,7 +64,9 @@ fn made_text<R: Threads + Sync, P: Pulse>(
     let Ok(text) = make(alloc, count) else {
         return Err(Stop::Memory);
     };
-    let checked = made_checked(rt, alloc, text.as_bytes(), workers, pulse)?;
+    let served = made_checked(rt, alloc, text.as_bytes(), workers, pulse)?;
+    let Served { checked, formats } = served;
+    drop(formats);
     match turns::<Brand>(alloc, checked, count, text.len(), Blank::new(1)) {
         Ok(lines) => Ok(lines),
         Err(Memory) => Err(Stop::Memory),

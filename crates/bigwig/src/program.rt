@@ -11,9 +11,10 @@ ghost use Rattle.bigwig.specs.declared.command.Command.TheVariants as commands;
 use crate::checking::load_accepted;
 use crate::command::{Command, Judging, read_words};
 use crate::judging::load_valid;
+use crate::lighting::load_lights;
 use crate::making::make_command;
 use crate::replaying::replay_command;
-use crate::report::{print_line, report};
+use crate::report::{print_line, print_text, report};
 use crate::serving::serve_command;
 use crate::status::Status;
 use crate::words::WordsFault;
@@ -25,7 +26,7 @@ use std::thread::Threads;
 
 /// The line that is printed where the words are refused.
 const USAGE: &[u8] =
-    b"usage: bigwig check SERVICE | replay SERVICE REQUESTS | serve SERVICE | valid PAGE | make N";
+    b"usage: bigwig check SERVICE | replay SERVICE REQUESTS | serve SERVICE | valid PAGE | make N | light FORMATS TEXTS";
 
 /// Does all that the program does: reads the words of the command line and the files that they name, prints on `out`,
 /// and serves the links of `door`. Memory is taken from `alloc`; the check makes its threads by `rt`, and tells `pulse` as it
@@ -36,8 +37,9 @@ const USAGE: &[u8] =
 /// `replay` is one run of the meaning's world over the stream: the bytes answered are those of the service's meaning of
 /// each session's own submissions, and of the shared variables in request order. Every page among them is valid by the
 /// schema, and a shown page has each field that its show receives. A request that is refused, spent or fails changes no
-/// session and no shared variable. The work of `serve` is the same over one world, with one request on each link: each link
-/// that comes is given back in its turn, after a fault too, and holds what the run answers.
+/// session and no shared variable. Each value that a session stored for a field is in the field's format, if it has one.
+/// The work of `serve` is the same over one world, with one request on each link: each link that comes is given back in its
+/// turn, after a fault too, and holds what the run answers. `light` prints the lights of the lines of its texts.
 ///
 /// `Usage` comes only where the words are refused, and `ReadFault`, `WriteFault` and `DoorFault` exactly where the count
 /// of `files`, `out` or `door` rose in this call; a fault on a link is none of these and ends that link alone. After a
@@ -103,20 +105,24 @@ fn obey<R: Threads + Sync, F: Files, D: Door, K: Keys, W: Sink, P: Pulse, L: Led
             service,
             requests,
             judging,
+            formats,
             most,
         } => replay_command(
-            rt, alloc, service, requests, judging, *most, files, keys, out, pulse, steps,
+            rt, alloc, service, requests, judging, formats, *most, files, keys, out, pulse, steps,
         ),
         Command::Serve {
             service,
             judging,
+            formats,
             port,
             most,
         } => serve_command(
-            rt, alloc, service, judging, *port, *most, files, door, keys, out, pulse, steps,
+            rt, alloc, service, judging, formats, *port, *most, files, door, keys, out, pulse,
+            steps,
         ),
         Command::Valid { page, schema } => valid_command(alloc, page, schema, files, out),
         Command::Make { count, workers } => make_command(rt, alloc, *count, *workers, out, pulse),
+        Command::Light { formats, texts } => light_command(alloc, formats, texts, files, out),
     }
 }
 
@@ -158,6 +164,25 @@ fn valid_command<F: Files, W: Sink>(
 {
     match load_valid(alloc, files, page.as_str(), schema) {
         Ok(()) => print_line(out, Status::Done, b"valid"),
+        Err(stop) => report(out, stop),
+    }
+}
+
+/// `light`: prints the lights of texts.
+fn light_command<F: Files, W: Sink>(
+    alloc: Global,
+    formats: &Text,
+    texts: &Text,
+    files: &mut F,
+    out: &mut W,
+) -> Status
+    ensures comes { IfSome (F.told files.old) (λ disk. Speaks (work disk (commands.Light formats.now texts.now)) (W.held out.old) (W.held out.new) result) }
+    ensures others { (result ≢ Status.Usage) × (result ≢ Status.DoorFault) }
+    ensures read_fault { Shows (result ≡ Status.ReadFault) (F.faults files.old) (F.faults files.new) }
+    ensures write_fault { Shows (result ≡ Status.WriteFault) (W.write_faults out.old) (W.write_faults out.new) }
+{
+    match load_lights(alloc, files, formats.as_str(), texts.as_str()) {
+        Ok(printed) => print_text(out, Status::Done, printed.as_bytes()),
         Err(stop) => report(out, stop),
     }
 }

@@ -13,12 +13,12 @@ ghost use Rattle.bigwig.specs.Outcomes as outcomes;
 ghost use Rattle.bigwig.specs.Outcomes.{Replies};
 ghost use Rattle.bigwig.specs.declared.command.Command.TheVariants as commands;
 
-use crate::checking::load_checked;
+use crate::checking::{Served, load_checked};
 use crate::command::Judging;
 use crate::loading::no_file;
 use crate::report::report;
 use crate::status::Status;
-use bw_check::Checked;
+use bw_format::Formats;
 use bw_http::Intake;
 use bw_lang::{Memory, Text};
 use bw_out::{Failed, Files, Keys, Pair, Pulse, Sink, Source, Steps};
@@ -34,6 +34,7 @@ pub fn replay_command<R: Threads + Sync, F: Files, K: Keys, W: Sink, P: Pulse, L
     service: &Text,
     requests: &Text,
     judging: &Judging,
+    formats: &Option<Text>,
     most: u32,
     files: &mut F,
     keys: &mut K,
@@ -42,16 +43,16 @@ pub fn replay_command<R: Threads + Sync, F: Files, K: Keys, W: Sink, P: Pulse, L
     steps: &mut Steps<L>,
 ) -> Status
     requires { AreWorkers judging.now.workers }
-    ensures comes { IfSome (F.told files.old) (λ disk. Replies (work disk (commands.Replay service.now requests.now judging.now most))
+    ensures comes { IfSome (F.told files.old) (λ disk. Replies (work disk (commands.Replay service.now requests.now judging.now formats.now most))
         (W.held out.old) (W.held out.new) (K.coming keys.old) (K.coming keys.new) (F.unread files.new) steps.old steps.new result) }
     ensures others { (result ≢ Status.Usage) × (result ≢ Status.DoorFault) }
     ensures read_fault { Shows (result ≡ Status.ReadFault) (F.faults files.old) (F.faults files.new) }
     ensures write_fault { Shows (result ≡ Status.WriteFault) (W.write_faults out.old) (W.write_faults out.new) }
 {
-    match load_checked(rt, alloc, files, service.as_str(), judging, pulse) {
-        Ok(checked) => replay_file(
+    match load_checked(rt, alloc, files, service.as_str(), judging, formats, pulse) {
+        Ok(served) => replay_file(
             alloc,
-            checked,
+            served,
             requests.as_str(),
             most,
             files,
@@ -66,7 +67,7 @@ pub fn replay_command<R: Threads + Sync, F: Files, K: Keys, W: Sink, P: Pulse, L
 /// Answers the requests of a file, from the world in which nothing was requested yet. The memory for it is taken first.
 fn replay_file<F: Files, K: Keys, W: Sink, L: Ledger>(
     alloc: Global,
-    checked: Checked,
+    served: Served,
     name: &str,
     most: u32,
     files: &mut F,
@@ -74,19 +75,27 @@ fn replay_file<F: Files, K: Keys, W: Sink, L: Ledger>(
     out: &mut W,
     steps: &mut Steps<L>,
 ) -> Status
-    ensures comes { IfSome (F.told files.old) (λ disk. (ruled : Ruled) → IsRuled checked.typed.service ruled → Replies (replayed disk name.now most ruled)
-        (W.held out.old) (W.held out.new) (K.coming keys.old) (K.coming keys.new) (F.unread files.new) steps.old steps.new result) }
+    ensures comes { IfSome (F.told files.old) (λ disk. (ruled : Ruled) → IsRuled served.checked.typed.service served.formats ruled →
+        Replies (replayed disk name.now most ruled) (W.held out.old) (W.held out.new) (K.coming keys.old) (K.coming keys.new) (F.unread files.new)
+        steps.old steps.new result) }
     ensures others { (result ≢ Status.Usage) × (result ≢ Status.DoorFault) }
     ensures read_fault { Shows (result ≡ Status.ReadFault) (F.faults files.old) (F.faults files.new) }
     ensures write_fault { Shows (result ≡ Status.WriteFault) (W.write_faults out.old) (W.write_faults out.new) }
 {
+    let Served { checked, formats } = served;
     match World::new(alloc, checked) {
         Ok(mut world) => {
-            let status = replay_in(alloc, &mut world, name, most, files, keys, out, steps);
+            let status = replay_in(
+                alloc, &mut world, &formats, name, most, files, keys, out, steps,
+            );
             drop(world);
+            drop(formats);
             status
         }
-        Err(Memory) => Status::Memory,
+        Err(Memory) => {
+            drop(formats);
+            Status::Memory
+        }
     }
 }
 
@@ -94,6 +103,7 @@ fn replay_file<F: Files, K: Keys, W: Sink, L: Ledger>(
 fn replay_in<F: Files, K: Keys, W: Sink, L: Ledger>(
     alloc: Global,
     world: &mut World,
+    formats: &Formats,
     name: &str,
     most: u32,
     files: &mut F,
@@ -103,8 +113,9 @@ fn replay_in<F: Files, K: Keys, W: Sink, L: Ledger>(
 ) -> Status
     requires stands { StandsFor world.old (empty world.old.service) }
     requires sound { BeginsSound world.old.service }
-    ensures comes { IfSome (F.told files.old) (λ disk. (ruled : Ruled) → IsRuled world.old.service ruled → Replies (replayed disk name.now most ruled)
-        (W.held out.old) (W.held out.new) (K.coming keys.old) (K.coming keys.new) (F.unread files.new) steps.old steps.new result) }
+    ensures comes { IfSome (F.told files.old) (λ disk. (ruled : Ruled) → IsRuled world.old.service formats.now ruled →
+        Replies (replayed disk name.now most ruled) (W.held out.old) (W.held out.new) (K.coming keys.old) (K.coming keys.new) (F.unread files.new)
+        steps.old steps.new result) }
     ensures others { (result ≢ Status.Usage) × (result ≢ Status.DoorFault) }
     ensures read_fault { Shows (result ≡ Status.ReadFault) (F.faults files.old) (F.faults files.new) }
     ensures write_fault { Shows (result ≡ Status.WriteFault) (W.write_faults out.old) (W.write_faults out.new) }
@@ -113,6 +124,7 @@ fn replay_in<F: Files, K: Keys, W: Sink, L: Ledger>(
         Ok(mut intake) => replay_from(
             alloc,
             world,
+            formats,
             &mut intake,
             name,
             most,
@@ -129,6 +141,7 @@ fn replay_in<F: Files, K: Keys, W: Sink, L: Ledger>(
 fn replay_from<F: Files, K: Keys, W: Sink, L: Ledger>(
     alloc: Global,
     world: &mut World,
+    formats: &Formats,
     intake: &mut Intake,
     name: &str,
     most: u32,
@@ -140,8 +153,9 @@ fn replay_from<F: Files, K: Keys, W: Sink, L: Ledger>(
     requires stands { StandsFor world.old (empty world.old.service) }
     requires sound { BeginsSound world.old.service }
     requires none { intake.old ≡ [] }
-    ensures comes { IfSome (F.told files.old) (λ disk. (ruled : Ruled) → IsRuled world.old.service ruled → Replies (replayed disk name.now most ruled)
-        (W.held out.old) (W.held out.new) (K.coming keys.old) (K.coming keys.new) (F.unread files.new) steps.old steps.new result) }
+    ensures comes { IfSome (F.told files.old) (λ disk. (ruled : Ruled) → IsRuled world.old.service formats.now ruled →
+        Replies (replayed disk name.now most ruled) (W.held out.old) (W.held out.new) (K.coming keys.old) (K.coming keys.new) (F.unread files.new)
+        steps.old steps.new result) }
     ensures others { (result ≢ Status.Usage) × (result ≢ Status.DoorFault) }
     ensures read_fault { Shows (result ≡ Status.ReadFault) (F.faults files.old) (F.faults files.new) }
     ensures write_fault { Shows (result ≡ Status.WriteFault) (W.write_faults out.old) (W.write_faults out.new) }
@@ -150,7 +164,9 @@ fn replay_from<F: Files, K: Keys, W: Sink, L: Ledger>(
         Err(Failed) => Status::ReadFault,
         Ok(None) => report(out, no_file(alloc, name)),
         Ok(Some(mut file)) => {
-            let end = answer_source(alloc, world, intake, &mut file, keys, out, most, steps);
+            let end = answer_source(
+                alloc, world, formats, intake, &mut file, keys, out, most, steps,
+            );
             files.close(file);
             status_of(end)
         }
@@ -172,6 +188,7 @@ fn status_of(end: StreamEnd) -> Status
 fn answer_source<S: Source, K: Keys, W: Sink, L: Ledger>(
     alloc: Global,
     world: &mut World,
+    formats: &Formats,
     intake: &mut Intake,
     source: &mut S,
     keys: &mut K,
@@ -179,14 +196,14 @@ fn answer_source<S: Source, K: Keys, W: Sink, L: Ledger>(
     most: u32,
     steps: &mut Steps<L>,
 ) -> StreamEnd
-    ensures answers { answers.Answers world.old.service most
+    ensures answers { answers.Answers formats.now world.old.service most
         (answers.between world.old intake.old (S.left source.old) (W.held out.old) (K.coming keys.old) steps.old)
         (answers.between world.new intake.new (S.left source.new) (W.held out.new) (K.coming keys.new) steps.new) result }
-    ensures pages { RepliesAreGood world.old.service
+    ensures pages { RepliesAreGood formats.now world.old.service
         (answers.between world.old intake.old (S.left source.old) (W.held out.old) (K.coming keys.old) steps.old) }
     ensures read_fault { Shows (result ≡ StreamEnd.ReadFault) (S.read_faults source.old) (S.read_faults source.new) }
     ensures write_fault { Shows (result ≡ StreamEnd.WriteFault) (W.write_faults out.old) (W.write_faults out.new) }
 {
     let mut link = Pair { source, sink: out };
-    answer(alloc, world, intake, &mut link, keys, most, steps)
+    answer(alloc, world, formats, intake, &mut link, keys, most, steps)
 }

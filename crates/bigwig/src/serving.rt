@@ -3,19 +3,19 @@ ghost use Rattle.std.specs.Prelude.{◌≡◌, ◌≢◌, ◌⊎◌, ℕ, List, 
 ghost use Rattle.bw_model.specs.Sessions as model;
 ghost use Rattle.bw_out.specs.Causes.{HasCause, Shows};
 ghost use Rattle.bw_out.specs.Writes.{Writes};
-ghost use Rattle.bw_sound.specs.Worlds.{BeginsSound, IsSoundWorld};
+ghost use Rattle.bw_sound.specs.Worlds.{BeginsSound};
 ghost use Rattle.bw_world.specs.Stands.{StandsFor};
 ghost use Rattle.bigwig.specs.Asked.{Ruled, at_port, work};
-ghost use Rattle.bigwig.specs.Checks.{IsRuled};
+ghost use Rattle.bigwig.specs.Checks.{IsRuled, IsFitWorld};
 ghost use Rattle.bigwig.specs.Commands.{AreWorkers};
 ghost use Rattle.bigwig.specs.Outcomes.{Comes, ServesLinks, outside, serving_line};
 ghost use Rattle.bigwig.specs.declared.command.Command.TheVariants as commands;
 
-use crate::checking::load_checked;
+use crate::checking::{Served, load_checked};
 use crate::command::Judging;
 use crate::report::report;
 use crate::status::Status;
-use bw_check::Checked;
+use bw_format::Formats;
 use bw_http::Intake;
 use bw_lang::{Memory, Text};
 use bw_out::{Door, Failed, Files, Keys, Pulse, Sink, Steps, WriteFault, write_parts};
@@ -31,6 +31,7 @@ pub fn serve_command<R: Threads + Sync, F: Files, D: Door, K: Keys, W: Sink, P: 
     alloc: Global,
     service: &Text,
     judging: &Judging,
+    formats: &Option<Text>,
     port: u16,
     most: u32,
     files: &mut F,
@@ -41,7 +42,7 @@ pub fn serve_command<R: Threads + Sync, F: Files, D: Door, K: Keys, W: Sink, P: 
     steps: &mut Steps<L>,
 ) -> Status
     requires { AreWorkers judging.now.workers }
-    ensures comes { IfSome (F.told files.old) (λ disk. Comes (work disk (commands.Serve service.now judging.now port most))
+    ensures comes { IfSome (F.told files.old) (λ disk. Comes (work disk (commands.Serve service.now judging.now formats.now port most))
         (outside (W.held out.old) (K.coming keys.old) (D.asked door.old) (D.coming door.old) (D.returned door.old) (F.unread files.old) steps.old)
         (outside (W.held out.new) (K.coming keys.new) (D.asked door.new) (D.coming door.new) (D.returned door.new) (F.unread files.new) steps.new) result) }
     ensures not_usage { result ≢ Status.Usage }
@@ -49,8 +50,8 @@ pub fn serve_command<R: Threads + Sync, F: Files, D: Door, K: Keys, W: Sink, P: 
     ensures write_fault { Shows (result ≡ Status.WriteFault) (W.write_faults out.old) (W.write_faults out.new) }
     ensures door_fault { Shows (result ≡ Status.DoorFault) (D.faults door.old) (D.faults door.new) }
 {
-    match load_checked(rt, alloc, files, service.as_str(), judging, pulse) {
-        Ok(checked) => serve_service(alloc, checked, port, most, door, keys, out, steps),
+    match load_checked(rt, alloc, files, service.as_str(), judging, formats, pulse) {
+        Ok(served) => serve_service(alloc, served, port, most, door, keys, out, steps),
         Err(stop) => report(out, stop),
     }
 }
@@ -58,7 +59,7 @@ pub fn serve_command<R: Threads + Sync, F: Files, D: Door, K: Keys, W: Sink, P: 
 /// Serves links from the world in which nothing was requested yet. The memory for it is taken first.
 fn serve_service<D: Door, K: Keys, W: Sink, L: Ledger>(
     alloc: Global,
-    checked: Checked,
+    served: Served,
     port: u16,
     most: u32,
     door: &mut D,
@@ -66,20 +67,27 @@ fn serve_service<D: Door, K: Keys, W: Sink, L: Ledger>(
     out: &mut W,
     steps: &mut Steps<L>,
 ) -> Status
-    ensures comes { (ruled : Ruled) (u v : Option (List ℕ)) → IsRuled checked.typed.service ruled → Comes (at_port port most ruled)
+    ensures comes { (ruled : Ruled) (u v : Option (List ℕ)) → IsRuled served.checked.typed.service served.formats ruled → Comes (at_port port most ruled)
         (outside (W.held out.old) (K.coming keys.old) (D.asked door.old) (D.coming door.old) (D.returned door.old) u steps.old)
         (outside (W.held out.new) (K.coming keys.new) (D.asked door.new) (D.coming door.new) (D.returned door.new) v steps.new) result }
     ensures others { (result ≢ Status.Usage) × (result ≢ Status.ReadFault) }
     ensures write_fault { Shows (result ≡ Status.WriteFault) (W.write_faults out.old) (W.write_faults out.new) }
     ensures door_fault { Shows (result ≡ Status.DoorFault) (D.faults door.old) (D.faults door.new) }
 {
+    let Served { checked, formats } = served;
     match World::new(alloc, checked) {
         Ok(mut world) => {
-            let status = serve_world(alloc, &mut world, port, most, door, keys, out, steps);
+            let status = serve_world(
+                alloc, &mut world, &formats, port, most, door, keys, out, steps,
+            );
             drop(world);
+            drop(formats);
             status
         }
-        Err(Memory) => Status::Memory,
+        Err(Memory) => {
+            drop(formats);
+            Status::Memory
+        }
     }
 }
 
@@ -87,6 +95,7 @@ fn serve_service<D: Door, K: Keys, W: Sink, L: Ledger>(
 fn serve_world<D: Door, K: Keys, W: Sink, L: Ledger>(
     alloc: Global,
     world: &mut World,
+    formats: &Formats,
     port: u16,
     most: u32,
     door: &mut D,
@@ -96,7 +105,7 @@ fn serve_world<D: Door, K: Keys, W: Sink, L: Ledger>(
 ) -> Status
     requires stands { StandsFor world.old (model.empty world.old.service) }
     requires sound { BeginsSound world.old.service }
-    ensures comes { (ruled : Ruled) (u v : Option (List ℕ)) → IsRuled world.old.service ruled → Comes (at_port port most ruled)
+    ensures comes { (ruled : Ruled) (u v : Option (List ℕ)) → IsRuled world.old.service formats.now ruled → Comes (at_port port most ruled)
         (outside (W.held out.old) (K.coming keys.old) (D.asked door.old) (D.coming door.old) (D.returned door.old) u steps.old)
         (outside (W.held out.new) (K.coming keys.new) (D.asked door.new) (D.coming door.new) (D.returned door.new) v steps.new) result }
     ensures others { (result ≢ Status.Usage) × (result ≢ Status.ReadFault) }
@@ -107,6 +116,7 @@ fn serve_world<D: Door, K: Keys, W: Sink, L: Ledger>(
         Ok(mut intake) => serve_port(
             alloc,
             world,
+            formats,
             &mut intake,
             port,
             most,
@@ -123,6 +133,7 @@ fn serve_world<D: Door, K: Keys, W: Sink, L: Ledger>(
 fn serve_port<D: Door, K: Keys, W: Sink, L: Ledger>(
     alloc: Global,
     world: &mut World,
+    formats: &Formats,
     intake: &mut Intake,
     port: u16,
     most: u32,
@@ -133,7 +144,7 @@ fn serve_port<D: Door, K: Keys, W: Sink, L: Ledger>(
 ) -> Status
     requires stands { StandsFor world.old (model.empty world.old.service) }
     requires sound { BeginsSound world.old.service }
-    ensures comes { (ruled : Ruled) (u v : Option (List ℕ)) → IsRuled world.old.service ruled → Comes (at_port port most ruled)
+    ensures comes { (ruled : Ruled) (u v : Option (List ℕ)) → IsRuled world.old.service formats.now ruled → Comes (at_port port most ruled)
         (outside (W.held out.old) (K.coming keys.old) (D.asked door.old) (D.coming door.old) (D.returned door.old) u steps.old)
         (outside (W.held out.new) (K.coming keys.new) (D.asked door.new) (D.coming door.new) (D.returned door.new) v steps.new) result }
     ensures others { (result ≢ Status.Usage) × (result ≢ Status.ReadFault) }
@@ -144,7 +155,7 @@ fn serve_port<D: Door, K: Keys, W: Sink, L: Ledger>(
         Err(Failed) => Status::DoorFault,
         Ok(()) => match print_serving(out, port) {
             Err(WriteFault) => Status::WriteFault,
-            Ok(()) => serve_links(alloc, world, intake, door, keys, most, steps),
+            Ok(()) => serve_links(alloc, world, formats, intake, door, keys, most, steps),
         },
     }
 }
@@ -165,13 +176,14 @@ fn print_serving<W: Sink>(out: &mut W, port: u16) -> Result<(), WriteFault>
 fn serve_links<D: Door, K: Keys, L: Ledger>(
     alloc: Global,
     world: &mut World,
+    formats: &Formats,
     intake: &mut Intake,
     door: &mut D,
     keys: &mut K,
     most: u32,
     steps: &mut Steps<L>,
 ) -> Status
-    ensures serves { (ruled : Ruled) (m : model.World) → IsRuled world.old.service ruled → StandsFor world.old m → IsSoundWorld ruled.service m
+    ensures serves { (ruled : Ruled) (m : model.World) → IsRuled world.old.service formats.now ruled → StandsFor world.old m → IsFitWorld ruled m
         → ServesLinks ruled m most (outside None (K.coming keys.old) (D.asked door.old) (D.coming door.old) (D.returned door.old) None steps.old)
         (outside None (K.coming keys.new) (D.asked door.new) (D.coming door.new) (D.returned door.new) None steps.new) result }
     ensures ends { (result ≡ Status.Done) ⊎ (result ≡ Status.DoorFault) }
@@ -184,7 +196,7 @@ fn serve_links<D: Door, K: Keys, L: Ledger>(
             Ok(None) => return Status::Done,
             Ok(Some(mut link)) => {
                 intake.clear();
-                let _end = answer(alloc, world, intake, &mut link, keys, 1, steps);
+                let _end = answer(alloc, world, formats, intake, &mut link, keys, 1, steps);
                 door.give_back(link);
             }
         }

@@ -23,6 +23,8 @@ pub enum Status {
     Memory,
     /// 9: the page file is no page, or isn't valid.
     PageRefused,
+    /// 10: the file of formats is refused, or the file of texts.
+    FormatsRefused,
     /// 15: a file that the words name isn't there.
     NoFile,
 }
@@ -42,6 +44,7 @@ impl Status {
             Status::DoorFault => 7,
             Status::Memory => 8,
             Status::PageRefused => 9,
+            Status::FormatsRefused => 10,
             Status::NoFile => 15,
         }
     }
@@ -58,6 +61,8 @@ pub enum Refusal {
     Schema,
     /// What a page file holds.
     Page,
+    /// What a file of formats holds, or one of texts.
+    Formats,
 }
 
 impl Refusal {
@@ -70,6 +75,7 @@ impl Refusal {
             Refusal::Service => Status::ServiceRefused,
             Refusal::Schema => Status::SchemaRefused,
             Refusal::Page => Status::PageRefused,
+            Refusal::Formats => Status::FormatsRefused,
         }
     }
 }

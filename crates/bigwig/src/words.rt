@@ -18,6 +18,7 @@ pub struct Line<'a> {
     pub workers: Option<&'a str>,
     pub limit: Option<&'a str>,
     pub port: Option<&'a str>,
+    pub formats: Option<&'a str>,
 }
 
 /// Why words give no line or no command.
@@ -61,7 +62,7 @@ fn bare<'a>(alloc: Global) -> Command<'a>
         .disable_version_flag(true)
 }
 
-/// The whole command line: a command word, up to two further words and four options.
+/// The whole command line: a command word, up to two further words and five options.
 fn whole<'a>(alloc: Global) -> Result<Command<'a>, AllocError>
     ensures { IfOk result (λ r. app_of r ≡ bigwig) }
 {
@@ -71,7 +72,8 @@ fn whole<'a>(alloc: Global) -> Result<Command<'a>, AllocError>
     let c = with_option(alloc, c, "schema")?;
     let c = with_option(alloc, c, "workers")?;
     let c = with_option(alloc, c, "limit")?;
-    with_option(alloc, c, "port")
+    let c = with_option(alloc, c, "port")?;
+    with_option(alloc, c, "formats")
 }
 
 /// The line of clap's matches.
@@ -86,6 +88,7 @@ fn line_of<'a>(matches: &ArgMatches<'a>) -> Line<'a>
         workers: matches.get_str("workers"),
         limit: matches.get_str("limit"),
         port: matches.get_str("port"),
+        formats: matches.get_str("formats"),
     }
 }
 

@@ -1,6 +1,7 @@
 //! Answers to links over a world, and what is said of them.
 
 use crate::links::CaseLink;
+use bw_format::Formats;
 use bw_http::Intake;
 use bw_lang::Memory;
 use bw_out::{MemKeys, MemLink, Steps};
@@ -41,7 +42,7 @@ fn say_answer<L: Ledger>(
     Ok(())
 }
 
-/// Answers the link, and gives how it ends.
+/// Answers the link, without formats of fields, and gives how it ends.
 fn end_of<L: Ledger>(
     alloc: Global,
     world: &mut World,
@@ -50,7 +51,18 @@ fn end_of<L: Ledger>(
     steps: &mut Steps<L>,
 ) -> Result<StreamEnd, Memory> {
     let mut intake = Intake::new(alloc)?;
-    let end = answer(alloc, world, &mut intake, link, keys, u32::MAX, steps);
+    let formats = Formats::none();
+    let end = answer(
+        alloc,
+        world,
+        &formats,
+        &mut intake,
+        link,
+        keys,
+        u32::MAX,
+        steps,
+    );
+    drop(formats);
     drop(intake);
     Ok(end)
 }

@@ -41,6 +41,8 @@ enum Subject {
     Worlds,
     /// Runs of the whole program by the services of the folder `examples`.
     Examples,
+    /// Runs of the whole program that light texts, and that answer requests by formats of fields.
+    Formats,
 }
 
 impl Subject {
@@ -55,12 +57,13 @@ impl Subject {
             Subject::Retries => "retries.cases",
             Subject::Worlds => "worlds.cases",
             Subject::Examples => "examples.cases",
+            Subject::Formats => "formats.cases",
         }
     }
 }
 
 /// What is tried, in this order.
-const SUBJECTS: [Subject; 8] = [
+const SUBJECTS: [Subject; 9] = [
     Subject::Runs,
     Subject::Sessions,
     Subject::Serves,
@@ -69,6 +72,7 @@ const SUBJECTS: [Subject; 8] = [
     Subject::Retries,
     Subject::Worlds,
     Subject::Examples,
+    Subject::Formats,
 ];
 
 /// Tries a case. The check makes its threads by `rt`.
@@ -80,8 +84,12 @@ fn try_case<R: Threads + Sync>(
     case: &Case<'_>,
 ) -> Result<Verdict, Fault> {
     let tried = match subject {
-        Subject::Runs | Subject::Sessions | Subject::Serves | Subject::Checks | Subject::Examples =>
-            runs::try_case(rt, alloc, texts, case),
+        Subject::Runs
+        | Subject::Sessions
+        | Subject::Serves
+        | Subject::Checks
+        | Subject::Examples
+        | Subject::Formats => runs::try_case(rt, alloc, texts, case),
         Subject::Services => runs::try_service(rt, alloc, case),
         Subject::Retries => retries::try_case(alloc, case),
         Subject::Worlds => worlds::try_case(rt, alloc, texts, case),

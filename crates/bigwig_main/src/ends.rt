@@ -63,6 +63,7 @@ pub fn say_end<R: Eprint>(rt: &R, status: Status, troubles: &Troubles<'_>) {
         | Status::ServiceRefused
         | Status::SchemaRefused
         | Status::PageRefused
+        | Status::FormatsRefused
         | Status::NoFile => Ok(()),
     };
 }

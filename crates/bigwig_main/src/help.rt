@@ -7,15 +7,19 @@ bigwig check SERVICE             says 'accepted', or each fault of the service's
   --workers N                    judges with N threads at most, from 1 to 16; else with 1
 bigwig replay SERVICE REQUESTS   checks the service, and answers the requests of a file
   --schema FILE, --workers N     as check has them
+  --formats FILE                 takes values in the formats of this file alone; else any values
   --limit N                      answers N requests at most, from 1 to 1000000; else 1000000
 bigwig serve SERVICE             checks the service, and serves it to browsers on this machine
   --schema FILE, --workers N     as check has them
+  --formats FILE                 as replay has it
   --port N                       at this port, from 1 to 65535; else at 8080
   --limit N                      for N connections at most, from 1 to 1000000; else for 1000000
 bigwig valid PAGE                says 'valid', or which element of the page breaks which rule
   --schema FILE                  as check has it
 bigwig make N                    makes a service of N pages, from 1 to 250, checks it and runs it
   --workers N                    as check has it
+bigwig light FORMATS TEXTS       prints a light for each line 'FIELD TEXT': green where the text is in the field's
+                                 format, yellow where a longer one may be, red where none is
 
 Options stand anywhere among the words. README.md is where to begin; docs/FORMATS.md has each line that is
 printed and each exit code, docs/LANGUAGE.md how a service is written.

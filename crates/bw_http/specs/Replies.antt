@@ -74,6 +74,7 @@ bytes_of names replies.Media = plain (codes "HTTP/1.1 415 Unsupported Media Type
 bytes_of names (replies.Lacking field) = plain (codes "HTTP/1.1 422 Unprocessable Content") (codes "lacking " ++ shown_name names field)
 bytes_of names (replies.Repeated field) = plain (codes "HTTP/1.1 422 Unprocessable Content") (codes "repeated " ++ shown_name names field)
 bytes_of names (replies.FieldTooLong field) = plain (codes "HTTP/1.1 422 Unprocessable Content") (codes "too long " ++ shown_name names field)
+bytes_of names (replies.Format field) = plain (codes "HTTP/1.1 422 Unprocessable Content") (codes "format " ++ shown_name names field)
 bytes_of names replies.HeadTooLong = plain (codes "HTTP/1.1 431 Request Header Fields Too Large") (codes "head too large")
 bytes_of names (replies.Failed fault) = plain (codes "HTTP/1.1 500 Internal Server Error") (fault_words fault)
 bytes_of names replies.NoNumbers = plain (codes "HTTP/1.1 503 Service Unavailable") (codes "no numbers")
@@ -85,5 +86,6 @@ abbrev pub IsReply : List (List ℕ) → Reply → Type 0
 IsReply names (replies.Lacking field) = field < length names
 IsReply names (replies.Repeated field) = field < length names
 IsReply names (replies.FieldTooLong field) = field < length names
+IsReply names (replies.Format field) = field < length names
 IsReply names (replies.Failed fault) = fault ≢ faults.Memory
 IsReply names other = ⊤

@@ -32,6 +32,8 @@ pub enum Reply {
     Repeated(FieldId),
     /// 422: the value of a field that is received is longer than 16,384 bytes.
     FieldTooLong(FieldId),
+    /// 422: a value of a field that is received is outside the field's format.
+    Format(FieldId),
     /// 500: the turn failed. Want of memory is `Memory` and never stands here.
     Failed(TurnFault),
     /// 503: all numbers of sessions were given.
@@ -78,6 +80,7 @@ pub fn write_reply<W: Sink>(
         Reply::Lacking(field) => write_field(b"lacking ", field, fields, sink),
         Reply::Repeated(field) => write_field(b"repeated ", field, fields, sink),
         Reply::FieldTooLong(field) => write_field(b"too long ", field, fields, sink),
+        Reply::Format(field) => write_field(b"format ", field, fields, sink),
         Reply::Method(allow) => write_allowed(allow, sink),
         Reply::Stale(turn) => {
             write_number(

@@ -1,4 +1,7 @@
 pub mod Alone
+pub mod Answering
+pub mod Cases
+pub mod Deciding
 pub mod Found
 pub mod Keeping
 pub mod Kept
@@ -6,4 +9,5 @@ pub mod Quiet
 pub mod Reaching
 pub mod Refused
 pub mod Replies
+pub mod Storing
 pub mod Views

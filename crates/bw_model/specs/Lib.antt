@@ -1,5 +1,8 @@
 pub mod Answers
 pub mod Examples
+pub mod FormatAnswers
+pub mod FormatLaws
+pub mod Guards
 pub mod Laws
 pub mod Reached
 pub mod Received
@@ -7,3 +10,4 @@ pub mod Runs
 pub mod Sessions
 pub mod Steps
 pub mod Talks
+pub mod Within

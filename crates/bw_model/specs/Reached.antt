@@ -1,5 +1,6 @@
 -- The worlds that requests reach.
 use Rattle.std.specs.Prelude.{ℕ, List}
+use Rattle.bw_format.specs.declared.format.Format.{Format}
 use Rattle.bw_http.specs.declared.replies.Reply.{Reply}
 use Rattle.bw_http.specs.declared.request.Request.{Request}
 use Rattle.bw_lang.specs.Service.Submissions.{IsTextForm}
@@ -18,8 +19,8 @@ pub data Reached (service : Service) (from : World) : World → Type 0 where
 abbrev pub ReachedOn : Type 0
 ReachedOn = (service : Service) (from mid to : World) → Reached service from mid → Reached service mid to → Reached service from to
 
--- the messages of a stream reach no other worlds
+-- the messages of a stream reach no other worlds, with any formats of fields
 abbrev pub StreamsReach : Type 0
 StreamsReach =
-    (service : Service) (from : World) (at to : At) (replies : List Reply) (cost : ℕ) → Turns service at replies cost to → Reached service from at.world →
-    Reached service from to.world
+    (formats : List Format) (service : Service) (from : World) (at to : At) (replies : List Reply) (cost : ℕ) → Turns formats service at replies cost to →
+    Reached service from at.world → Reached service from to.world

@@ -1,4 +1,4 @@
--- A stream of messages is one run of the world.
+-- A stream of messages is one run of the world, with formats of fields.
 use Rattle.std.specs.Prelude.{◌≡◌, ◌⊎◌, ◌≤◌, ◌<◌, ◌+◌, ℕ, List, [], ◌∷◌, ◌++◌, length, Option, None, Some, Ok, Err}
 use Rattle.bw_http.specs.declared.replies.Reply.{Reply}
 use Rattle.bw_http.specs.declared.replies.Reply.TheVariants as replies
@@ -11,8 +11,9 @@ use Rattle.bw_lang.specs.declared.service.Service.{Service}
 use Rattle.bw_lang.specs.Table.Names.{with_names}
 use Rattle.bw_out.specs.Told.{Coming, later_words}
 use Rattle.bw_types.specs.Fields.{field_names}
+use Rattle.bw_format.specs.declared.format.Format.{Format}
+use Rattle.bw_model.specs.Guards.{IsGuarded}
 use Rattle.bw_model.specs.Sessions.{World}
-use Rattle.bw_model.specs.Steps.{step}
 use Rattle.bw_lang.specs.declared.turn.TheConstants.{BUDGET}
 
 -- where a stream stands: the world, the bytes to come, and the keys to come
@@ -21,19 +22,19 @@ pub record At : Type 0 where
   pub bytes : List ℕ
   pub keys : Coming
 
--- One message is handled, by this reply at this cost: a request by the step of the world, with the next key; or there was
+-- One message is handled, by this reply at this cost: a request as it is guarded by these formats, with the next key; or there was
 -- no memory for a whole message, and the world stays.
-pub data Turn (service : Service) (at : At) (reply : Reply) (cost : ℕ) (to : At) : Type 0 where
-  request : (r : Request) → Cut at.bytes (Ok r) to.bytes → step service at.world r (at.keys 0) ≡ record { reply = reply; world = to.world; cost = cost }
-      → to.keys ≡ later_words at.keys → Turn service at reply cost to
+pub data Turn (formats : List Format) (service : Service) (at : At) (reply : Reply) (cost : ℕ) (to : At) : Type 0 where
+  request : (r : Request) → Cut at.bytes (Ok r) to.bytes → IsGuarded formats service at.world r (at.keys 0) (record { reply = reply; world = to.world; cost = cost })
+      → to.keys ≡ later_words at.keys → Turn formats service at reply cost to
   no_memory : Cut at.bytes (Err outcomes.Memory) to.bytes → reply ≡ replies.Memory → to.world ≡ at.world → (to.keys ≡ at.keys) ⊎ (to.keys ≡ later_words at.keys)
-      → cost ≤ BUDGET → Turn service at reply cost to
+      → cost ≤ BUDGET → Turn formats service at reply cost to
 
 -- messages are handled one after another, by these replies
-abbrev pub Turns : Service → At → List Reply → ℕ → At → Type 0
-Turns service at [] cost to = (cost ≡ 0) × (to ≡ at)
-Turns service at (reply ∷ replies) cost to =
-    (first : ℕ) × (later : ℕ) × (mid : At) × Turn service at reply first mid × Turns service mid replies later to × (cost ≡ first + later)
+abbrev pub Turns : List Format → Service → At → List Reply → ℕ → At → Type 0
+Turns formats service at [] cost to = (cost ≡ 0) × (to ≡ at)
+Turns formats service at (reply ∷ replies) cost to =
+    (first : ℕ) × (later : ℕ) × (mid : At) × Turn formats service at reply first mid × Turns formats service mid replies later to × (cost ≡ first + later)
 
 -- the reply to bytes that are refused
 abbrev pub refusal : ReadOutcome → Option Reply
@@ -58,11 +59,11 @@ pub data Stops (at : At) : List Reply → At → Type 0 where
 
 -- A run over a stream, of at most so many messages: they are handled one after another, until there are that many or none
 -- follows.
-pub record Run (service : Service) (most : ℕ) (at : At) (replies : List Reply) (cost : ℕ) (to : At) : Type 0 where
+pub record Run (formats : List Format) (service : Service) (most : ℕ) (at : At) (replies : List Reply) (cost : ℕ) (to : At) : Type 0 where
   pub first : List Reply
   pub last : List Reply
   pub mid : At
-  pub turns : Turns service at first cost mid
+  pub turns : Turns formats service at first cost mid
   pub all : replies ≡ first ++ last
   pub ends : ((length first ≡ most) × (last ≡ []) × (to ≡ mid)) ⊎ ((length first < most) × Stops mid last to)
 

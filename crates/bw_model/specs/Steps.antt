@@ -15,7 +15,7 @@ use Rattle.bw_lang.specs.Document.Print.{print}
 use Rattle.bw_meaning.specs.States.{Form}
 use Rattle.bw_types.specs.Scopes.{session_of}
 use Rattle.bw_page.specs.Pages.{show_page, exit_page}
-use Rattle.bw_model.specs.Answers.{Answer, Shows, Ends, Says, Fate, Stays, IsUsed, GoesOn, Leaves, Answered, turned, answered}
+use Rattle.bw_model.specs.Answers.{Answer, Shows, Ends, Says, Fate, Stays, IsUsed, GoesOn, Leaves, Said, Answered, turned, answered}
 use Rattle.bw_model.specs.Sessions.{Started, Talk, Live, World, now}
 use Rattle.bw_model.specs.declared.limits.TheConstants.{MAX_LIVE, MAX_NUMBER}
 
@@ -90,22 +90,36 @@ starts service w key (Some session) =
     if nat_lt MAX_NUMBER w.next then refuses w replies.NoNumbers
     else let talk = beginner w session in begins service w key (turned w.first talk (now service talk))
 
--- a turn of a live session
-abbrev pub asks : Service → World → Method → Form → ℕ → Option (Live × List Live) → Step
-asks service w method form turn None = refuses w replies.NoSuch
-asks service w method form turn (Some found) =
-    visits service w found.0 found.1 (answered service w.first found.0.talk (record { method = method; form = form; turn = turn; shared = w.shared }))
+-- what a session is answered: by the number of a first turn, what it has come to, and what is said
+abbrev pub Answerer : Type 0
+Answerer = ℕ → Talk → Said → Answered
+
+-- a turn of a live session, that is answered so
+abbrev pub asks_by : Answerer → Service → World → Method → Form → ℕ → Option (Live × List Live) → Step
+asks_by ans service w method form turn None = refuses w replies.NoSuch
+asks_by ans service w method form turn (Some found) =
+    visits service w found.0 found.1 (ans w.first found.0.talk (record { method = method; form = form; turn = turn; shared = w.shared }))
 
 -- what a request by this method comes to, by its path
-abbrev pub on_path : Service → World → Method → Form → ℕ → Path → Step
-on_path service w method form key paths.Other = refuses w replies.NoSuch
-on_path service w Get form key paths.Index = refuses w (replies.Index (index_of service))
-on_path service w method form key paths.Index = refuses w (replies.Method methods.Get)
-on_path service w Get form key (paths.Start name) = starts service w key (session_of service name)
-on_path service w method form key (paths.Start name) = refuses w (replies.Method methods.Get)
-on_path service w Other form key (paths.Turn number k turn) = refuses w (replies.Method methods.GetPost)
-on_path service w method form key (paths.Turn number k turn) = asks service w method form turn (taken_out number k w.live)
+abbrev pub on_path_by : Answerer → Service → World → Method → Form → ℕ → Path → Step
+on_path_by ans service w method form key paths.Other = refuses w replies.NoSuch
+on_path_by ans service w Get form key paths.Index = refuses w (replies.Index (index_of service))
+on_path_by ans service w method form key paths.Index = refuses w (replies.Method methods.Get)
+on_path_by ans service w Get form key (paths.Start name) = starts service w key (session_of service name)
+on_path_by ans service w method form key (paths.Start name) = refuses w (replies.Method methods.Get)
+on_path_by ans service w Other form key (paths.Turn number k turn) = refuses w (replies.Method methods.GetPost)
+on_path_by ans service w method form key (paths.Turn number k turn) = asks_by ans service w method form turn (taken_out number k w.live)
 
 -- what a request comes to, with the key that was drawn for it
+abbrev pub step_by : Answerer → Service → World → Request → ℕ → Step
+step_by ans service w request key = on_path_by ans service w request.method request.form key request.path
+
+-- by the meaning of the session
+abbrev pub asks : Service → World → Method → Form → ℕ → Option (Live × List Live) → Step
+asks service = asks_by (answered service) service
+
+abbrev pub on_path : Service → World → Method → Form → ℕ → Path → Step
+on_path service = on_path_by (answered service) service
+
 abbrev pub step : Service → World → Request → ℕ → Step
-step service w request key = on_path service w request.method request.form key request.path
+step service = step_by (answered service) service

@@ -8,9 +8,9 @@ use Rattle.bw_http.specs.declared.request.Request.{Request}
 use Rattle.bw_lang.specs.declared.service.Service.{Service}
 use Rattle.bw_meaning.specs.States.{Form}
 use Rattle.bw_meaning.specs.Values.{Values}
-use Rattle.bw_model.specs.Answers.{Answer, Fate, Stays, IsUsed, GoesOn, Leaves, Said, answered}
+use Rattle.bw_model.specs.Answers.{Answer, Fate, Stays, IsUsed, GoesOn, Leaves, Said}
 use Rattle.bw_model.specs.Sessions.{Talk, Live, World}
-use Rattle.bw_model.specs.Steps.{is_of, step}
+use Rattle.bw_model.specs.Steps.{is_of, Answerer, step_by}
 
 -- a request, and the key that is drawn for it
 pub record Asked : Type 0 where
@@ -36,18 +36,18 @@ abbrev pub said_to : ℕ → ℕ → World → Asked → Option Said
 said_to number key w a = said_at number key a.request.method a.request.form w.shared a.request.path
 
 -- what is said and answered at one request and behind it, while the session lives
-abbrev pub heard : Service → ℕ → Option Live → Option Said → List (Said × Answer) → List (Said × Answer)
-heard service first None said later = []
-heard service first (Some l) None later = later
-heard service first (Some l) (Some said) later = (said, (answered service first l.talk said).answer) ∷ later
+abbrev pub heard : Answerer → ℕ → Option Live → Option Said → List (Said × Answer) → List (Said × Answer)
+heard ans first None said later = []
+heard ans first (Some l) None later = later
+heard ans first (Some l) (Some said) later = (said, (ans first l.talk said).answer) ∷ later
 
 -- What is said to the session of this number and key, from this world on, with the answers, for as long as it is live:
 -- it may exit, or give way to others.
-abbrev pub conversation : Service → ℕ → ℕ → World → List Asked → List (Said × Answer)
-conversation service number key w [] = []
-conversation service number key w (a ∷ asked) =
-    heard service w.first (find (is_of number key) w.live) (said_to number key w a)
-    (conversation service number key (step service w a.request a.key).world asked)
+abbrev pub conversation : Answerer → Service → ℕ → ℕ → World → List Asked → List (Said × Answer)
+conversation ans service number key w [] = []
+conversation ans service number key w (a ∷ asked) =
+    heard ans w.first (find (is_of number key) w.live) (said_to number key w a)
+    (conversation ans service number key (step_by ans service w a.request a.key).world asked)
 
 -- ---- by the session's own meaning
 
@@ -59,8 +59,8 @@ next_talk talk (GoesOn next shared) = Some next
 next_talk talk (Leaves shared) = None
 
 -- what a session is answered that hears nothing but this
-abbrev pub own_answers : Service → ℕ → Option Talk → List Said → List Answer
-own_answers service first None saids = []
-own_answers service first (Some talk) [] = []
-own_answers service first (Some talk) (said ∷ saids) =
-    (answered service first talk said).answer ∷ own_answers service first (next_talk talk (answered service first talk said).fate) saids
+abbrev pub own_answers : Answerer → ℕ → Option Talk → List Said → List Answer
+own_answers ans first None saids = []
+own_answers ans first (Some talk) [] = []
+own_answers ans first (Some talk) (said ∷ saids) =
+    (ans first talk said).answer ∷ own_answers ans first (next_talk talk (ans first talk said).fate) saids

@@ -3,5 +3,6 @@
 #![tactic(auto)]
 
 pub mod examples;
+pub mod format_laws;
 pub mod laws;
 pub mod limits;

@@ -1,12 +1,13 @@
 -- Worlds stay sound, and each reply to the messages of a stream is good.
-use Rattle.std.proofs.Common.{ℕ, [], ◌∷◌, refl, sym, ap, subst}
-use Rattle.std.specs.Prelude.{List, Option}
+use Rattle.std.proofs.Common.{ℕ, List, [], ◌∷◌, Option, Some, None, refl, sym, subst}
 use Rattle.std.specs.List.{slice_index_or, slice_get}
+use Rattle.bw_format.specs.declared.format.Format.{Format}
 use Rattle.bw_http.specs.declared.replies.Reply.{Reply}
 use Rattle.bw_http.specs.declared.request.Request.{Request}
 use Rattle.bw_lang.specs.Service.Submissions.{IsTextForm}
 use Rattle.bw_http.proofs.Lossy.{cuts_are_text}
 use Rattle.bw_lang.specs.declared.service.Service.{Service}
+use Rattle.bw_model.specs.Guards.{guarded_by}
 use Rattle.bw_model.specs.Reached.{none, one_more}
 use Rattle.bw_model.specs.Runs.{At, Turn, request as by_request, no_memory}
 use Rattle.bw_model.specs.Sessions.{World}
@@ -91,25 +92,30 @@ pages_are_good service schema from w request key a h r text =
 
 -- ---- streams
 
--- a message leaves a sound world, and its reply is good
-record IsGoodTurn (service : Service) (schema : Schema) (at to : At) (reply : Reply) : Type 0 where
-  good : IsGood service schema at.world to.world reply
-  sound : IsSoundWorld service to.world
+-- a step leaves a sound world, and its reply is good
+record IsGoodStep (service : Service) (schema : Schema) (w : World) (s : Step) : Type 0 where
+  good : IsGood service schema w s.world s.reply
+  sound : IsSoundWorld service s.world
 
-turn_good : (service : Service) (schema : Schema) (at to : At) (reply : Reply) (cost : ℕ) → Accepts service schema → IsSoundWorld service at.world
-    → Turn service at reply cost to → IsGoodTurn service schema at to reply
-turn_good service schema at to reply cost a h (by_request q cut e keys) =
-    let text = cuts_are_text at.bytes q to.bytes cut in
-    record {
-      good = subst (λ (s : Step). IsGood service schema at.world s.world s.reply) e (next_is_good service schema at.world q (at.keys 0) a text h);
-      sound = subst (IsSoundWorld service) (ap (λ (s : Step). s.world) e) (steps_keep_sound service schema at.world q (at.keys 0) a text h);
-    }
-turn_good service schema at to reply cost a h (no_memory cut is same keys few) = record {
+-- what is turned away has no page and leaves the world
+guarded_good : (service : Service) (schema : Schema) (w : World) (q : Request) (key : ℕ) → Accepts service schema → IsTextForm q.form
+    → IsSoundWorld service w → (first : Option (List ℕ)) → IsGoodStep service schema w (guarded_by service w (step service w q key) first)
+guarded_good service schema w q key a text h None =
+    record { good = next_is_good service schema w q key a text h; sound = steps_keep_sound service schema w q key a text h }
+guarded_good service schema w q key a text h (Some field) = record { good = tt; sound = h }
+
+turn_good : (formats : List Format) (service : Service) (schema : Schema) (at to : At) (reply : Reply) (cost : ℕ) → Accepts service schema
+    → IsSoundWorld service at.world → Turn formats service at reply cost to
+    → IsGoodStep service schema at.world (record { reply = reply; world = to.world; cost = cost })
+turn_good formats service schema at to reply cost a h (by_request q cut is keys) =
+    subst (IsGoodStep service schema at.world) (sym is.is_step)
+    (guarded_good service schema at.world q (at.keys 0) a (cuts_are_text at.bytes q to.bytes cut) h is.first)
+turn_good formats service schema at to reply cost a h (no_memory cut is same keys few) = record {
   good = subst (IsGood service schema at.world to.world) (sym is) tt;
   sound = subst (IsSoundWorld service) (sym same) h;
 }
 
 pub runs_are_good : RunsAreGood
-runs_are_good service schema at [] a h = tt
-runs_are_good service schema at (reply ∷ replies) a h = λ cost mid turn.
-    let g = turn_good service schema at mid reply cost a h turn in (g.good, runs_are_good service schema mid replies a g.sound)
+runs_are_good formats service schema at [] a h = tt
+runs_are_good formats service schema at (reply ∷ replies) a h = λ cost mid turn.
+    let g = turn_good formats service schema at mid reply cost a h turn in (g.good, runs_are_good formats service schema mid replies a g.sound)

@@ -49,6 +49,7 @@ no_page service schema before after (replies.Stale n) e = tt
 no_page service schema before after (replies.Lacking n) e = tt
 no_page service schema before after (replies.Repeated n) e = tt
 no_page service schema before after (replies.FieldTooLong n) e = tt
+no_page service schema before after (replies.Format n) e = tt
 no_page service schema before after (replies.Failed f) e = tt
 no_page service schema before after replies.NoNumbers e = tt
 no_page service schema before after replies.NoTurns e = tt

@@ -4,6 +4,7 @@ use Rattle.std.specs.List.{All, Contains}
 use Rattle.bw_check.specs.Accepts.{Accepts}
 use Rattle.bw_cover.specs.Received.{received_of}
 use Rattle.bw_fields.specs.Received.{HasField}
+use Rattle.bw_format.specs.declared.format.Format.{Format}
 use Rattle.bw_http.specs.declared.replies.Reply.{Reply}
 use Rattle.bw_http.specs.declared.replies.Reply.TheVariants as replies
 use Rattle.bw_http.specs.declared.request.Path.TheVariants as paths
@@ -91,13 +92,14 @@ PagesAreGood =
     → Reached service from w → IsTextForm request.form
     → IsGood service schema w (step service w request key).world (step service w request key).reply
 
--- So over a stream: whichever way its messages are handled from here on by these replies, each of these is good.
-abbrev pub AreGood : Service → Schema → At → List Reply → Type 0
-AreGood service schema at [] = Unit {0}
-AreGood service schema at (reply ∷ replies) =
-    (cost : ℕ) (mid : At) → Turn service at reply cost mid → IsGood service schema at.world mid.world reply × AreGood service schema mid replies
+-- So over a stream: whichever way its messages are handled from here on by these replies, with these formats of fields,
+-- each of these is good.
+abbrev pub AreGood : List Format → Service → Schema → At → List Reply → Type 0
+AreGood formats service schema at [] = Unit {0}
+AreGood formats service schema at (reply ∷ replies) =
+    (cost : ℕ) (mid : At) → Turn formats service at reply cost mid → IsGood service schema at.world mid.world reply × AreGood formats service schema mid replies
 
 abbrev pub RunsAreGood : Type 0
 RunsAreGood =
-    (service : Service) (schema : Schema) (at : At) (replies : List Reply) → Accepts service schema → IsSoundWorld service at.world
-    → AreGood service schema at replies
+    (formats : List Format) (service : Service) (schema : Schema) (at : At) (replies : List Reply) → Accepts service schema → IsSoundWorld service at.world
+    → AreGood formats service schema at replies

@@ -1,7 +1,10 @@
+pub mod Agreeing
 pub mod Asked
 pub mod Begun
 pub mod GoesOn
 pub mod Good
+pub mod Handling
+pub mod Inside
 pub mod Keeping
 pub mod Live
 pub mod Named

@@ -34,16 +34,16 @@ module _ (typed : Typed) (session : ℕ) (frame : Frame) (fit : IsFrame typed.se
   abbrev flow : List Step
   flow = flow_of typed.service
 
-  at_is : number_at flow frame.point ≡ fit.point.number
+  pub at_is : number_at flow frame.point ≡ fit.point.number
   at_is = ap number_of fit.is
 
   own_point : IsOf service session fit.point.number
   own_point = subst (IsOf service session) at_is own
 
-  fields_are : fit.fields ≡ run.receives_of flow frame
+  pub fields_are : fit.fields ≡ run.receives_of flow frame
   fields_are = sym (ap fields_of fit.acts) ∙ sym (ap run.received_at fit.is)
 
-  received_are : fit.fields ≡ receives service fit.point.scope (receives_of service session fit.point.number)
+  pub received_are : fit.fields ≡ receives service fit.point.scope (receives_of service session fit.point.number)
   received_are =
       show_receives service session frame.point fit.point fit.page fit.fields fit.is fit.acts own_point.from own_point.below
 

@@ -1,5 +1,7 @@
+pub mod Away
 pub mod Changes
 pub mod Good
+pub mod Handled
 pub mod Kept
 pub mod Plain
 pub mod Seen

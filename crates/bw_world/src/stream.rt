@@ -12,6 +12,8 @@ ghost use Rattle.bw_world.specs.Streams.Steps.Turns.{Takes, AreFit, Goes, IsFew}
 use crate::World;
 use crate::ends::StreamEnd;
 use crate::outcomes::{Next, Taken, without_request};
+use crate::requests::guarded;
+use bw_format::Formats;
 use bw_http::{Intake, Reply, read_request, write_reply};
 use bw_out::{Keys, Sink, Source, Steps, WriteFault};
 use std::alloc::Global;
@@ -32,12 +34,13 @@ fn want_of(reply: &Reply) -> u32
 fn take<C: Source + Sink, K: Keys, L: Ledger>(
     alloc: Global,
     world: &mut World,
+    formats: &Formats,
     intake: &mut Intake,
     link: &mut C,
     keys: &mut K,
     steps: &mut Steps<L>,
 ) -> Taken
-    ensures takes { Takes world.old.service (place C.Channel world.old intake.old link.old (K.coming keys.old) steps.old)
+    ensures takes { Takes formats.now world.old.service (place C.Channel world.old intake.old link.old (K.coming keys.old) steps.old)
         (place C.Channel world.new intake.new link.new (K.coming keys.new) steps.new) result }
     ensures fit { AreFit world.old.service result }
     ensures reads { sends.Takes C.Channel link.old link.new (result ≡ Taken.ReadFault) }
@@ -46,7 +49,7 @@ fn take<C: Source + Sink, K: Keys, L: Ledger>(
     match read_request(alloc, intake, link) {
         Ok(request) => {
             let key = keys.draw();
-            Taken::Answered(world.handle(alloc, &request, key, steps))
+            Taken::Answered(guarded(alloc, world, formats, &request, key, steps))
         }
         Err(outcome) => without_request(outcome),
     }
@@ -56,12 +59,13 @@ fn take<C: Source + Sink, K: Keys, L: Ledger>(
 fn answer_next<C: Source + Sink, K: Keys, L: Ledger>(
     alloc: Global,
     world: &mut World,
+    formats: &Formats,
     intake: &mut Intake,
     link: &mut C,
     keys: &mut K,
     steps: &mut Steps<L>,
 ) -> Next
-    ensures goes { Goes world.old.service (place C.Channel world.old intake.old link.old (K.coming keys.old) steps.old)
+    ensures goes { Goes formats.now world.old.service (place C.Channel world.old intake.old link.old (K.coming keys.old) steps.old)
         (place C.Channel world.new intake.new link.new (K.coming keys.new) steps.new) result }
     ensures few { IsFew result }
     ensures read_fault { Shows (result ≡ Next.ReadFault) (C.read_faults link.old) (C.read_faults link.new) }
@@ -69,7 +73,7 @@ fn answer_next<C: Source + Sink, K: Keys, L: Ledger>(
     ensures same { C.same link.old link.new }
     ensures service { world.new.service ≡ world.old.service }
 {
-    match take(alloc, world, intake, link, keys, steps) {
+    match take(alloc, world, formats, intake, link, keys, steps) {
         Taken::End => Next::Ended,
         Taken::ReadFault => Next::ReadFault,
         Taken::Refused(reply) => match write_reply(reply, world.checked().typed().fields(), link) {
@@ -86,7 +90,8 @@ fn answer_next<C: Source + Sink, K: Keys, L: Ledger>(
     }
 }
 
-/// Answers up to `most` messages of a link, whose bytes are taken into the intake, each before the next is read.
+/// Answers up to `most` messages of a link with these formats of fields, each before the next is read. Their bytes are taken
+/// into the intake.
 ///
 /// It ends where `most` messages were answered, where the link has ended, or behind the refusal of what can't be cut.
 /// `ReadFault` and `WriteFault` come exactly where the count of that side of the link rose; a world whose reply couldn't
@@ -100,23 +105,24 @@ fn answer_next<C: Source + Sink, K: Keys, L: Ledger>(
 pub fn answer<C: Source + Sink, K: Keys, L: Ledger>(
     alloc: Global,
     world: &mut World,
+    formats: &Formats,
     intake: &mut Intake,
     link: &mut C,
     keys: &mut K,
     most: u32,
     steps: &mut Steps<L>,
 ) -> StreamEnd
-    ensures answers { Answers world.old.service most (place C.Channel world.old intake.old link.old (K.coming keys.old) steps.old)
+    ensures answers { Answers formats.now world.old.service most (place C.Channel world.old intake.old link.old (K.coming keys.old) steps.old)
         (place C.Channel world.new intake.new link.new (K.coming keys.new) steps.new) result }
     ensures read_fault { Shows (result ≡ StreamEnd.ReadFault) (C.read_faults link.old) (C.read_faults link.new) }
     ensures write_fault { Shows (result ≡ StreamEnd.WriteFault) (C.write_faults link.old) (C.write_faults link.new) }
     ensures same { C.same link.old link.new }
     ensures service { world.new.service ≡ world.old.service }
-    ensures pages { RepliesAreGood world.old.service (place C.Channel world.old intake.old link.old (K.coming keys.old) steps.old) }
+    ensures pages { RepliesAreGood formats.now world.old.service (place C.Channel world.old intake.old link.old (K.coming keys.old) steps.old) }
 {
     let mut count: u32 = 0;
     'messages: for turn in 0..most {
-        match answer_next(alloc, world, intake, link, keys, steps) {
+        match answer_next(alloc, world, formats, intake, link, keys, steps) {
             Next::Answered(want) => count += want,
             Next::Ended => return StreamEnd::Ended(count),
             Next::ReadFault => return StreamEnd::ReadFault,

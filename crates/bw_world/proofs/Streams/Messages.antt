@@ -1,5 +1,7 @@
 -- One message of a stream, and what is sent in answer to it.
-use Rattle.std.proofs.Common.{◌≡◌, ◌+◌, ◌-◌, ℕ, List, [], ◌∷◌, ◌++◌, Option, Some, Ok, Err, refl, sym, ap, ◌∙◌, subst, inl, inr, arith}
+use Rattle.std.proofs.Common.{◌≡◌, ◌+◌, ◌-◌, ℕ, List, [], ◌∷◌, ◌++◌, Option, None, Some, Ok, Err, refl, sym, ap, ◌∙◌, subst, inl, inr, arith}
+use Rattle.bw_format.specs.declared.format.Format.{Format}
+use Rattle.bw_model.specs.Guards.{FirstOutside, stored, guarded_by}
 use Rattle.bw_http.specs.Cuts.{Cut, Tells}
 use Rattle.bw_http.specs.Messages.{IsShort, ComesOf}
 use Rattle.bw_http.specs.Replies.{bytes_of}
@@ -13,11 +15,13 @@ use Rattle.bw_lang.specs.declared.service.Service.{Service}
 use Rattle.bw_model.specs.Runs.{At, Turn, Stops, refusal}
 use Rattle.bw_model.specs.Runs.Turn.{request, no_memory}
 use Rattle.bw_model.specs.Runs.Stops.{ended, refused}
+use Rattle.bw_model.specs.Sessions.{World}
 use Rattle.bw_model.specs.Steps.{Step, step}
 use Rattle.bw_out.specs.Told.{Draws, later_words}
 use Rattle.bw_out.specs.Writes.{AppendsPart}
 use Rattle.bw_types.specs.Fields.{field_names}
-use Rattle.bw_world.specs.Stands.{StandsFor, Ends, Handles}
+use Rattle.bw_world.specs.Stands.{StandsFor}
+use Rattle.bw_world.specs.Handled.{Handles, IsHandled, EndsBy}
 use Rattle.bw_world.specs.Streams.Answers.{Place, IsAt}
 use Rattle.bw_world.specs.Streams.Courses.{AreLeft, bytes_by}
 use Rattle.bw_world.specs.Streams.Steps.Turns.{Takes, Goes, without_request}
@@ -33,64 +37,84 @@ told_at taken left later bytes result now is tells =
     let t = tells is.0 is.1 in
     (now ++ t.0, (t.0, t.1, refl), subst (λ b. Cut b result (now ++ t.0)) (sym is.2) t.2)
 
-handled : (old new : Place) (r : Request) (reply : Reply) (at : At) (rest : List ℕ) → Cut at.bytes (Ok r) rest → AreLeft new.taken new.left rest
-    → new.keys ≡ Some (later_words at.keys) → new.seen.service ≡ old.seen.service
-    → Ends old.seen new.seen reply old.steps new.steps (step old.seen.service at.world r (at.keys 0)) → StandsFor old.seen at.world
-    → (to : At) × IsAt new to × ((cost : ℕ) × Turn old.seen.service at reply cost to × (new.steps ≡ old.steps + cost))
-handled old new r reply at rest cut left keys same (inr h) stands =
-    let s : Step = step old.seen.service at.world r (at.keys 0) in
-    let is : s ≡ record { reply = reply; world = s.world; cost = s.cost } =
-    ap (λ (x : Reply). let y : Step = record { reply = x; world = s.world; cost = s.cost } in y) (sym h.reply) in (
-      record { world = s.world; bytes = rest; keys = later_words at.keys },
-      record { stands = h.world; bytes = left; keys = keys },
-      (s.cost, request r cut is refl, h.cost),
-    )
-handled old new r reply at rest cut left keys same (inl h) stands = (
-  record { world = at.world; bytes = rest; keys = later_words at.keys },
-  record { stands = subst (λ s. StandsFor s at.world) (sym h.world) stands; bytes = left; keys = keys },
-  (new.steps - old.steps, no_memory (cut.0, cut.1, cut.2) h.reply refl (inr refl) (omega (arith, h.rises)), omega (arith, h.rises)),
-)
+module _ (formats : List Format) (old new : Place) (r : Request) (reply : Reply) (at : At) (rest : List ℕ) (cut : Cut at.bytes (Ok r) rest)
+    (left : AreLeft new.taken new.left rest) (keys : new.keys ≡ Some (later_words at.keys)) (stands : StandsFor old.seen at.world) where
+  abbrev served : Service
+  served = old.seen.service
 
-pub request_taken : (old new : Place) (r : Request) (key : ℕ) (reply : Reply) → Tells old.left new.left old.taken (Ok r) new.taken → Draws old.keys new.keys key
-    → Handles old.seen new.seen reply old.steps new.steps (λ w. step old.seen.service w r key) → new.seen.service ≡ old.seen.service
-    → Takes old.seen.service old new (takens.Answered reply)
-request_taken old new r key reply tells draws handles same at is =
+  abbrev s : Step
+  s = step served at.world r (at.keys 0)
+
+  abbrev after : World → At
+  after w = record { world = w; bytes = rest; keys = later_words at.keys }
+
+  abbrev Then : Type 0
+  Then = (to : At) × IsAt new to × ((cost : ℕ) × Turn formats served at reply cost to × (new.steps ≡ old.steps + cost))
+
+  stays : new.seen ≡ old.seen → IsAt new (after at.world)
+  stays e = record { stands = subst (λ x. StandsFor x at.world) (sym e) stands; bytes = left; keys = keys }
+
+  took : (first : Option (List ℕ)) → FirstOutside formats r.form (stored served at.world r) first → (w : World) (cost : ℕ)
+      → record { reply = reply; world = w; cost = cost } ≡ guarded_by served at.world s first → Turn formats served at reply cost (after w)
+  took first is w cost e = request r cut (record { first = first; is_first = is; is_step = e }) refl
+
+  handled_by : (first : Option (List ℕ)) → FirstOutside formats r.form (stored served at.world r) first
+      → EndsBy old.seen new.seen reply old.steps new.steps s first → Then
+  handled_by (Some field) is k =
+      let e = ap (λ (x : Reply). let y : Step = record { reply = x; world = at.world; cost = 0 } in y) k.reply in
+      (after at.world, stays k.world, (0, took (Some field) is at.world 0 e, omega (arith, k.cost)))
+  handled_by None is (inr k) =
+      let e = ap (λ (x : Reply). let y : Step = record { reply = x; world = s.world; cost = s.cost } in y) (k.reply) in
+      (after s.world, record { stands = k.world; bytes = left; keys = keys }, (s.cost, took None is s.world s.cost e, k.cost))
+  handled_by None is (inl k) = (
+    after at.world,
+    stays k.world,
+    (new.steps - old.steps, no_memory (cut.0, cut.1, cut.2) k.reply refl (inr refl) (omega (arith, k.rises)), omega (arith, k.rises)),
+  )
+
+  handled : IsHandled formats old.seen new.seen r (at.keys 0) reply old.steps new.steps at.world → Then
+  handled h = handled_by h.first h.is_first h.ends
+
+pub request_taken : (formats : List Format) (old new : Place) (r : Request) (key : ℕ) (reply : Reply) → Tells old.left new.left old.taken (Ok r) new.taken → Draws old.keys new.keys key
+    → Handles formats old.seen new.seen r key reply old.steps new.steps → new.seen.service ≡ old.seen.service
+    → Takes formats old.seen.service old new (takens.Answered reply)
+request_taken formats old new r key reply tells draws handles same at is =
     let cut = told_at old.taken old.left new.left at.bytes (Ok r) new.taken is.bytes tells in
     let drawn : Draws (Some at.keys) new.keys key = subst (λ o. Draws o new.keys key) is.keys draws in
-    let ends : Ends old.seen new.seen reply old.steps new.steps (step old.seen.service at.world r (at.keys 0)) =
-    subst (λ k. Ends old.seen new.seen reply old.steps new.steps (step old.seen.service at.world r k)) drawn.0 (handles at.world is.stands) in
-    handled old new r reply at cut.0 cut.2 cut.1 drawn.1 same ends is.stands
+    let hand : IsHandled formats old.seen new.seen r (at.keys 0) reply old.steps new.steps at.world =
+    subst (λ k. IsHandled formats old.seen new.seen r k reply old.steps new.steps at.world) drawn.0 (handles at.world is.stands) in
+    handled formats old new r reply at cut.0 cut.2 cut.1 drawn.1 is.stands hand
 
 -- a message that can't be cut
-refused_as : (old : Place) (taken : List ℕ) (left held : Option (List ℕ)) (o : ReadOutcome) (reply : Reply) (at : At) → IsAt old at
+refused_as : (formats : List Format) (old : Place) (taken : List ℕ) (left held : Option (List ℕ)) (o : ReadOutcome) (reply : Reply) (at : At) → IsAt old at
     → Tells old.left left old.taken (Err o) taken
     → refusal o ≡ Some reply → (to : At) × IsAt (record old { taken = taken; left = left; held = held }) to
     × (Stops at (reply ∷ []) to × (old.steps ≡ old.steps))
-refused_as old taken left held o reply at is tells e =
+refused_as formats old taken left held o reply at is tells e =
     let cut = told_at old.taken old.left left at.bytes (Err o) taken is.bytes tells in
     (record at { bytes = cut.0 }, record { stands = is.stands; bytes = cut.1; keys = is.keys }, (refused o reply cut.0 cut.2 e, refl))
 
-outcome_taken : (old : Place) (taken : List ℕ) (left held : Option (List ℕ)) (o : ReadOutcome) → Tells old.left left old.taken (Err o) taken
-    → (o ≡ outcomes.ReadFault → IsShort taken) → Takes old.seen.service old (record old { taken = taken; left = left; held = held }) (without_request o)
-outcome_taken old taken left held outcomes.End tells short at is =
+outcome_taken : (formats : List Format) (old : Place) (taken : List ℕ) (left held : Option (List ℕ)) (o : ReadOutcome) → Tells old.left left old.taken (Err o) taken
+    → (o ≡ outcomes.ReadFault → IsShort taken) → Takes formats old.seen.service old (record old { taken = taken; left = left; held = held }) (without_request o)
+outcome_taken formats old taken left held outcomes.End tells short at is =
     let cut = told_at old.taken old.left left at.bytes (Err outcomes.End) taken is.bytes tells in
     (record at { bytes = cut.0 }, record { stands = is.stands; bytes = cut.1; keys = is.keys }, (ended cut.0 cut.2, refl))
-outcome_taken old taken left held outcomes.BadHead tells short at is = refused_as old taken left held outcomes.BadHead replies.Bad at is tells refl
-outcome_taken old taken left held outcomes.Truncated tells short at is = refused_as old taken left held outcomes.Truncated replies.Bad at is tells refl
-outcome_taken old taken left held outcomes.HeadTooLong tells short at is =
-    refused_as old taken left held outcomes.HeadTooLong replies.HeadTooLong at is tells refl
-outcome_taken old taken left held outcomes.NoHost tells short at is = refused_as old taken left held outcomes.NoHost replies.Bad at is tells refl
-outcome_taken old taken left held outcomes.Coding tells short at is = refused_as old taken left held outcomes.Coding replies.LengthRequired at is tells refl
-outcome_taken old taken left held outcomes.BadLength tells short at is = refused_as old taken left held outcomes.BadLength replies.Bad at is tells refl
-outcome_taken old taken left held outcomes.LengthRequired tells short at is =
-    refused_as old taken left held outcomes.LengthRequired replies.LengthRequired at is tells refl
-outcome_taken old taken left held outcomes.BodyTooLong tells short at is =
-    refused_as old taken left held outcomes.BodyTooLong replies.BodyTooLong at is tells refl
-outcome_taken old taken left held outcomes.Media tells short at is = refused_as old taken left held outcomes.Media replies.Media at is tells refl
-outcome_taken old taken left held outcomes.ReadFault tells short at is =
+outcome_taken formats old taken left held outcomes.BadHead tells short at is = refused_as formats old taken left held outcomes.BadHead replies.Bad at is tells refl
+outcome_taken formats old taken left held outcomes.Truncated tells short at is = refused_as formats old taken left held outcomes.Truncated replies.Bad at is tells refl
+outcome_taken formats old taken left held outcomes.HeadTooLong tells short at is =
+    refused_as formats old taken left held outcomes.HeadTooLong replies.HeadTooLong at is tells refl
+outcome_taken formats old taken left held outcomes.NoHost tells short at is = refused_as formats old taken left held outcomes.NoHost replies.Bad at is tells refl
+outcome_taken formats old taken left held outcomes.Coding tells short at is = refused_as formats old taken left held outcomes.Coding replies.LengthRequired at is tells refl
+outcome_taken formats old taken left held outcomes.BadLength tells short at is = refused_as formats old taken left held outcomes.BadLength replies.Bad at is tells refl
+outcome_taken formats old taken left held outcomes.LengthRequired tells short at is =
+    refused_as formats old taken left held outcomes.LengthRequired replies.LengthRequired at is tells refl
+outcome_taken formats old taken left held outcomes.BodyTooLong tells short at is =
+    refused_as formats old taken left held outcomes.BodyTooLong replies.BodyTooLong at is tells refl
+outcome_taken formats old taken left held outcomes.Media tells short at is = refused_as formats old taken left held outcomes.Media replies.Media at is tells refl
+outcome_taken formats old taken left held outcomes.ReadFault tells short at is =
     let cut = told_at old.taken old.left left at.bytes (Err outcomes.ReadFault) taken is.bytes tells in
     (at, record { stands = is.stands; bytes = subst (AreLeft taken left) cut.2.1 cut.1; keys = is.keys }, (refl, short refl, refl))
-outcome_taken old taken left held outcomes.Memory tells short at is =
+outcome_taken formats old taken left held outcomes.Memory tells short at is =
     let cut = told_at old.taken old.left left at.bytes (Err outcomes.Memory) taken is.bytes tells in (
       record at { bytes = cut.0 },
       record { stands = is.stands; bytes = cut.1; keys = is.keys },
@@ -98,11 +122,11 @@ outcome_taken old taken left held outcomes.Memory tells short at is =
     )
 
 -- so it is of what the code made of the outcome
-pub outcome_taken_as : (old : Place) (taken : List ℕ) (left held : Option (List ℕ)) (o : ReadOutcome) (came : Taken) → came ≡ without_request o
+pub outcome_taken_as : (formats : List Format) (old : Place) (taken : List ℕ) (left held : Option (List ℕ)) (o : ReadOutcome) (came : Taken) → came ≡ without_request o
     → Tells old.left left old.taken (Err o) taken
-    → (o ≡ outcomes.ReadFault → IsShort taken) → Takes old.seen.service old (record old { taken = taken; left = left; held = held }) came
-outcome_taken_as old taken left held o came e tells short =
-    subst (λ t. Takes old.seen.service old (record old { taken = taken; left = left; held = held }) t) (sym e) (outcome_taken old taken left held o tells short)
+    → (o ≡ outcomes.ReadFault → IsShort taken) → Takes formats old.seen.service old (record old { taken = taken; left = left; held = held }) came
+outcome_taken_as formats old taken left held o came e tells short =
+    subst (λ t. Takes formats old.seen.service old (record old { taken = taken; left = left; held = held }) t) (sym e) (outcome_taken formats old taken left held o tells short)
 
 -- after a failed read no message is whole in the bytes at hand
 pub short_taken : (before after : Option (List ℕ)) (held now : List ℕ) (o : ReadOutcome) → ComesOf before after held (Err o) now → o ≡ outcomes.ReadFault
@@ -122,16 +146,16 @@ named_part : (service : Service) (names : List (List ℕ)) (reply : Reply) (a b 
     → AppendsPart b c (bytes_of names reply) → AppendsPart a c (bytes_by service reply)
 named_part service names reply a b c e f w = subst (λ n. AppendsPart a c (bytes_of n reply)) e (subst (λ h. AppendsPart h c (bytes_of names reply)) f w)
 
-pub answer_broken : (service : Service) (old mid : Place) (left held : Option (List ℕ)) (reply : Reply) (names : List (List ℕ))
-    → names ≡ with_names [] (field_names service) → Takes service old mid (takens.Answered reply) → mid.held ≡ old.held → left ≡ mid.left
-    → AppendsPart mid.held held (bytes_of names reply) → Goes service old (record mid { left = left; held = held }) nexts.WriteFault
-answer_broken service old mid left held reply names n takes e l w at is =
+pub answer_broken : (formats : List Format) (service : Service) (old mid : Place) (left held : Option (List ℕ)) (reply : Reply) (names : List (List ℕ))
+    → names ≡ with_names [] (field_names service) → Takes formats service old mid (takens.Answered reply) → mid.held ≡ old.held → left ≡ mid.left
+    → AppendsPart mid.held held (bytes_of names reply) → Goes formats service old (record mid { left = left; held = held }) nexts.WriteFault
+answer_broken formats service old mid left held reply names n takes e l w at is =
     let t = takes at is in
     (t.0, still_at mid left held t.0 l t.1, (reply, t.2.0, inl t.2.1, t.2.2, named_part service names reply old.held mid.held held n e w))
 
-pub refusal_broken : (service : Service) (old mid : Place) (left held : Option (List ℕ)) (reply : Reply) (names : List (List ℕ))
-    → names ≡ with_names [] (field_names service) → Takes service old mid (takens.Refused reply) → mid.held ≡ old.held → left ≡ mid.left
-    → AppendsPart mid.held held (bytes_of names reply) → Goes service old (record mid { left = left; held = held }) nexts.WriteFault
-refusal_broken service old mid left held reply names n takes e l w at is =
+pub refusal_broken : (formats : List Format) (service : Service) (old mid : Place) (left held : Option (List ℕ)) (reply : Reply) (names : List (List ℕ))
+    → names ≡ with_names [] (field_names service) → Takes formats service old mid (takens.Refused reply) → mid.held ≡ old.held → left ≡ mid.left
+    → AppendsPart mid.held held (bytes_of names reply) → Goes formats service old (record mid { left = left; held = held }) nexts.WriteFault
+refusal_broken formats service old mid left held reply names n takes e l w at is =
     let t = takes at is in
     (t.0, still_at mid left held t.0 l t.1, (reply, 0, inr (refl, t.2.0), omega (arith, t.2.1), named_part service names reply old.held mid.held held n e w))

@@ -26,6 +26,9 @@ use Rattle.std.proofs.Common.{
   append_assoc,
   length-append,
 }
+use Rattle.bw_format.specs.declared.format.Format.{Format}
+use Rattle.bw_model.specs.Guards.{IsGuarded}
+use Rattle.bw_model.proofs.Cases.{one_step}
 use Rattle.bw_http.specs.Cuts.{Cut}
 use Rattle.bw_http.specs.Messages.{IsRequest}
 use Rattle.bw_http.specs.declared.replies.Reply.{Reply}
@@ -41,19 +44,19 @@ use Rattle.bw_model.specs.Runs.{At, Turn, Turns, Stops, refusal, want, wants}
 use Rattle.bw_model.specs.Runs.Turn.{request, no_memory}
 use Rattle.bw_model.specs.Runs.Stops.{ended, refused}
 use Rattle.bw_model.specs.Sessions.{World}
-use Rattle.bw_model.specs.Steps.{Step, step}
+use Rattle.bw_model.specs.Steps.{Step}
 use Rattle.bw_out.specs.Told.{Coming}
 use Rattle.bw_world.specs.Streams.Laws.{RunsGoOn, AnswersOnce}
 use Rattle.bw_world.proofs.Streams.Streams.{turns_then, wants_then}
 
 pub runs_go_on : RunsGoOn
-runs_go_on service most more at mid to replies others c d t len r =
+runs_go_on formats service most more at mid to replies others c d t len r =
     let count = length-append replies r.first in
     record {
       first = replies ++ r.first;
       last = r.last;
       mid = r.mid;
-      turns = turns_then service replies r.first c d at mid r.mid t r.turns;
+      turns = turns_then formats service replies r.first c d at mid r.mid t r.turns;
       all = ap (λ l. replies ++ l) r.all ∙ sym (append_assoc replies r.first r.last);
       ends = elim r.ends as (λ _. ((length (replies ++ r.first) ≡ most + more) × (r.last ≡ []) × (to ≡ r.mid))
           ⊎ ((length (replies ++ r.first) < most + more) × Stops r.mid r.last to)) [
@@ -92,14 +95,16 @@ step_parts s r t w v c d e f =
 no_want : (reply : Reply) → reply ≡ replies.Memory → want reply ≡ 0 → ⊥
 no_want reply e none = let one : want reply ≡ 1 = ap want e in omega (arith, one, none)
 
-one_turn : (service : Service) (at to then : At) (reply other : Reply) (c d : ℕ) → Turn service at reply c to → Turn service at other d then
+one_turn : (formats : List Format) (service : Service) (at to then : At) (reply other : Reply) (c d : ℕ) → Turn formats service at reply c to → Turn formats service at other d then
     → want reply ≡ 0 → want other ≡ 0 → SameTurn reply other c d to then
-one_turn service at to then reply other c d (no_memory cut e w k few) u none nor = absurd (no_want reply e none)
-one_turn service at to then reply other c d (request q cut e k) (no_memory cut2 f w k2 few) none nor = absurd (no_want other f nor)
-one_turn service at to then reply other c d (request q cut e k) (request r cut2 f k2) none nor =
+one_turn formats service at to then reply other c d (no_memory cut e w k few) u none nor = absurd (no_want reply e none)
+one_turn formats service at to then reply other c d (request q cut e k) (no_memory cut2 f w k2 few) none nor = absurd (no_want other f nor)
+one_turn formats service at to then reply other c d (request q cut e k) (request r cut2 f k2) none nor =
     let cuts = one_cut at.bytes q r to.bytes then.bytes cut cut2 in
-    let parts = step_parts _ reply other to.world then.world c d
-    (subst (λ x. step service at.world x (at.keys 0) ≡ record { reply = reply; world = to.world; cost = c }) cuts.0 e) f in
+    let s : Step = record { reply = reply; world = to.world; cost = c } in
+    let t : Step = record { reply = other; world = then.world; cost = d } in
+    let parts = step_parts s reply other to.world then.world c d refl
+    (one_step formats service at.world r (at.keys 0) s t (subst (λ x. IsGuarded formats service at.world x (at.keys 0) s) cuts.0 e) f) in
     record { reply_is = parts.0; cost_is = parts.2; to_is = at_is to then parts.1 cuts.1 (k ∙ sym k2) }
 
 -- a whole message is no end, and isn't refused
@@ -111,11 +116,11 @@ not_refused : (bytes rest more : List ℕ) (r : Request) (o : ReadOutcome) (repl
 not_refused bytes rest more r o reply cut wrong e =
     elim (message_exact bytes cut.0 cut.1 rest more o cut.2 wrong) [ inl x ↦ let none = ap refusal x in cc | inr x ↦ let none = ap refusal x in cc ]
 
-turn_or_stop : (service : Service) (at to then : At) (reply : Reply) (last : List Reply) (c : ℕ) → Turn service at reply c to → want reply ≡ 0
+turn_or_stop : (formats : List Format) (service : Service) (at to then : At) (reply : Reply) (last : List Reply) (c : ℕ) → Turn formats service at reply c to → want reply ≡ 0
     → Stops at last then → ⊥
-turn_or_stop service at to then reply last c (no_memory cut e w k few) none s = no_want reply e none
-turn_or_stop service at to then reply last c (request q cut e k) none (ended rest end) = no_end q at.bytes to.bytes end.0 cut
-turn_or_stop service at to then reply last c (request q cut e k) none (refused o answer rest wrong why) =
+turn_or_stop formats service at to then reply last c (no_memory cut e w k few) none s = no_want reply e none
+turn_or_stop formats service at to then reply last c (request q cut e k) none (ended rest end) = no_end q at.bytes to.bytes end.0 cut
+turn_or_stop formats service at to then reply last c (request q cut e k) none (refused o answer rest wrong why) =
     not_refused at.bytes to.bytes rest q o answer cut wrong why
 
 -- ---- message after message
@@ -159,18 +164,18 @@ not_none r rs last mid to (inl x) = omega (arith, x.0)
 not_none r rs last mid to (inr x) = omega (arith, x.0)
 
 -- where a run ends at once, another doesn't handle a message
-stops_here : (service : Service) (k : ℕ) (last more rs : List Reply) (at mid to then later next : At) (r : Reply) (c : ℕ) → EndsAt k [] last mid to
-    → mid ≡ at → Turn service at r c next → want r ≡ 0
+stops_here : (formats : List Format) (service : Service) (k : ℕ) (last more rs : List Reply) (at mid to then later next : At) (r : Reply) (c : ℕ) → EndsAt k [] last mid to
+    → mid ≡ at → Turn formats service at r c next → want r ≡ 0
     → EndsAt k (r ∷ rs) more later then → ⊥
-stops_here service k last more rs at mid to then later next r c (inl x) here turn none (inl y) = omega (arith, x.0, y.0)
-stops_here service k last more rs at mid to then later next r c (inl x) here turn none (inr y) = omega (arith, x.0, y.0)
-stops_here service k last more rs at mid to then later next r c (inr x) here turn none ends =
-    turn_or_stop service at next to r last c turn none (subst (λ a. Stops a last to) here x.1)
+stops_here formats service k last more rs at mid to then later next r c (inl x) here turn none (inl y) = omega (arith, x.0, y.0)
+stops_here formats service k last more rs at mid to then later next r c (inl x) here turn none (inr y) = omega (arith, x.0, y.0)
+stops_here formats service k last more rs at mid to then later next r c (inr x) here turn none ends =
+    turn_or_stop formats service at next to r last c turn none (subst (λ a. Stops a last to) here x.1)
 
-ends_at_once : (service : Service) (k : ℕ) (last more ss : List Reply) (at mid later to then : At) (s : Reply) (c d : ℕ) → Turns service at [] c mid
-    → Turns service at (s ∷ ss) d later
+ends_at_once : (formats : List Format) (service : Service) (k : ℕ) (last more ss : List Reply) (at mid later to then : At) (s : Reply) (c d : ℕ) → Turns formats service at [] c mid
+    → Turns formats service at (s ∷ ss) d later
     → EndsAt k [] last mid to → EndsAt k (s ∷ ss) more later then → want s ≡ 0 → ⊥
-ends_at_once service k last more ss at mid later to then s c d t u e f few = stops_here service k last more ss at mid to then later u.2 s u.0 e t.1 u.3 few f
+ends_at_once formats service k last more ss at mid later to then s c d t u e f few = stops_here formats service k last more ss at mid to then later u.2 s u.0 e t.1 u.3 few f
 
 pub record SameTurns (first others : List Reply) (c d : ℕ) (mid then : At) : Type 0 where
   pub replies_are : first ≡ others
@@ -180,24 +185,24 @@ pub record SameTurns (first others : List Reply) (c d : ℕ) (mid then : At) : T
 one_more : (r s : Reply) (rs ss : List Reply) → r ≡ s → rs ≡ ss → r ∷ rs ≡ s ∷ ss
 one_more r s rs ss e f = cc
 
-same_turns : (service : Service) (k : ℕ) (first others last more : List Reply) (at mid later to then : At) (c d : ℕ) → Turns service at first c mid
-    → Turns service at others d later
+same_turns : (formats : List Format) (service : Service) (k : ℕ) (first others last more : List Reply) (at mid later to then : At) (c d : ℕ) → Turns formats service at first c mid
+    → Turns formats service at others d later
     → EndsAt k first last mid to → EndsAt k others more later then → wants first ≡ 0 → wants others ≡ 0 → SameTurns first others c d mid later
-same_turns service k [] [] last more at mid later to then c d t u e f none nor = record { replies_are = refl; cost_is = t.0 ∙ sym u.0; mid_is = t.1 ∙ sym u.1 }
-same_turns service k [] (s ∷ ss) last more at mid later to then c d t u e f none nor =
+same_turns formats service k [] [] last more at mid later to then c d t u e f none nor = record { replies_are = refl; cost_is = t.0 ∙ sym u.0; mid_is = t.1 ∙ sym u.1 }
+same_turns formats service k [] (s ∷ ss) last more at mid later to then c d t u e f none nor =
     let few : want s ≡ 0 = omega (arith, nor) in
-    absurd (ends_at_once service k last more ss at mid later to then s c d t u e f few)
-same_turns service k (r ∷ rs) [] last more at mid later to then c d t u e f none nor =
+    absurd (ends_at_once formats service k last more ss at mid later to then s c d t u e f few)
+same_turns formats service k (r ∷ rs) [] last more at mid later to then c d t u e f none nor =
     let few : want r ≡ 0 = omega (arith, none) in
-    absurd (ends_at_once service k more last rs at later mid then to r d c u t f e few)
-same_turns service zero (r ∷ rs) (s ∷ ss) last more at mid later to then c d t u e f none nor = absurd (not_none r rs last mid to e)
-same_turns service (suc k) (r ∷ rs) (s ∷ ss) last more at mid later to then c d t u e f none nor =
+    absurd (ends_at_once formats service k more last rs at later mid then to r d c u t f e few)
+same_turns formats service zero (r ∷ rs) (s ∷ ss) last more at mid later to then c d t u e f none nor = absurd (not_none r rs last mid to e)
+same_turns formats service (suc k) (r ∷ rs) (s ∷ ss) last more at mid later to then c d t u e f none nor =
     let none_r : want r ≡ 0 = omega (arith, none) in
     let none_s : want s ≡ 0 = omega (arith, nor) in
     let none_rs : wants rs ≡ 0 = omega (arith, none) in
     let none_ss : wants ss ≡ 0 = omega (arith, nor) in
-    let one = one_turn service at t.2 u.2 r s t.0 u.0 t.3 u.3 none_r none_s in
-    let rest = same_turns service k rs ss last more t.2 mid later to then t.1 u.1 t.4 (subst (λ a. Turns service a ss u.1 later) (sym one.to_is) u.4)
+    let one = one_turn formats service at t.2 u.2 r s t.0 u.0 t.3 u.3 none_r none_s in
+    let rest = same_turns formats service k rs ss last more t.2 mid later to then t.1 u.1 t.4 (subst (λ a. Turns formats service a ss u.1 later) (sym one.to_is) u.4)
     (ends_less k r rs last mid to e) (ends_less k s ss more later then f) none_rs none_ss in
     record {
       replies_are = one_more r s rs ss one.reply_is rest.replies_are;
@@ -206,12 +211,12 @@ same_turns service (suc k) (r ∷ rs) (s ∷ ss) last more at mid later to then 
     }
 
 pub answers_once : AnswersOnce
-answers_once service most at to then replies others c d one other none nor =
+answers_once formats service most at to then replies others c d one other none nor =
     let all : wants replies ≡ wants one.first + wants one.last = ap wants one.all ∙ wants_then one.first one.last in
     let each : wants others ≡ wants other.first + wants other.last = ap wants other.all ∙ wants_then other.first other.last in
     let few : wants one.first ≡ 0 = omega (arith, all, none) in
     let less : wants other.first ≡ 0 = omega (arith, each, nor) in
-    let same = same_turns service most one.first other.first one.last other.last at one.mid other.mid to then c d one.turns other.turns one.ends other.ends
+    let same = same_turns formats service most one.first other.first one.last other.last at one.mid other.mid to then c d one.turns other.turns one.ends other.ends
     few less in
     let kept = ends_keep most one.first one.last one.mid to one.ends in
     let left = ends_keep most other.first other.last other.mid then other.ends in

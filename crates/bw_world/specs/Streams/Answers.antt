@@ -1,5 +1,6 @@
 -- How a stream was answered, and where that leaves the code.
 use Rattle.std.specs.Prelude.{◌≡◌, ◌+◌, ℕ, List, Option, Some}
+use Rattle.bw_format.specs.declared.format.Format.{Format}
 use Rattle.bw_lang.specs.declared.service.Service.{Service}
 use Rattle.bw_model.specs.Runs.{At}
 use Rattle.bw_out.specs.declared.outside.Channel.{Ghosts}
@@ -33,9 +34,9 @@ pub record IsAt (place : Place) (at : At) : Type 0 where
   pub bytes : AreLeft place.taken place.left at.bytes
   pub keys : place.keys ≡ Some at.keys
 
--- For each place of a model stream at which the code stood, the stream was answered so, and the code stands behind it
--- now. So a further call goes on from there.
-abbrev pub Answers : Service → ℕ → Place → Place → StreamEnd → Type 0
-Answers service most old new end =
+-- For each place of a model stream at which the code stood, the stream was answered so with these formats, and the code
+-- stands behind it now. So a further call goes on from there.
+abbrev pub Answers : List Format → Service → ℕ → Place → Place → StreamEnd → Type 0
+Answers formats service most old new end =
     (at : At) → IsAt old at → (to : At) × (cost : ℕ) × IsAt new to × (new.steps ≡ old.steps + cost)
-    × Course service most at to old.held new.held new.taken cost end
+    × Course formats service most at to old.held new.held new.taken cost end

@@ -1,6 +1,7 @@
 -- How a stream was answered.
 use Rattle.std.specs.Prelude.{◌≡◌, ◌≤◌, ◌<◌, ℕ, List, [], ◌∷◌, ◌++◌, length, Option, Some}
 use Rattle.std.specs.Io.KnownBytes.{Appends}
+use Rattle.bw_format.specs.declared.format.Format.{Format}
 use Rattle.bw_http.specs.Messages.{IsShort}
 use Rattle.bw_http.specs.Replies.{bytes_of}
 use Rattle.bw_http.specs.declared.replies.Reply.{Reply}
@@ -29,14 +30,14 @@ pub record IsBroken (service : Service) (held now : Option (List ℕ)) (replies 
   pub part : front ++ back ≡ bytes_by service last
   pub holds : Appends held now (answer_of service earlier ++ front)
 
--- How at most so many messages were answered: from there to there, by what was held and what is held now, with these bytes
+-- How at most so many messages were answered, with these formats of fields: from there to there, by what was held and what is held now, with these bytes
 -- taken and not used, at this cost. By one run, whose answer was appended; before a read fault by the messages before it,
 -- and no further one is whole in what was taken; before a write fault by a run of as many messages as there are replies, of
 -- which the last was appended in a first part.
-abbrev pub Course : Service → ℕ → At → At → Option (List ℕ) → Option (List ℕ) → List ℕ → ℕ → StreamEnd → Type 0
-Course service most at to held now taken cost (Ended count) =
-    (replies : List Reply) × Run service most at replies cost to × Appends held now (answer_of service replies) × (count ≡ wants replies)
-Course service most at to held now taken cost ReadFault =
-    (replies : List Reply) × Turns service at replies cost to × (length replies < most) × Appends held now (answer_of service replies) × IsShort taken
-Course service most at to held now taken cost WriteFault =
-    (replies : List Reply) × Run service (length replies) at replies cost to × (length replies ≤ most) × IsBroken service held now replies
+abbrev pub Course : List Format → Service → ℕ → At → At → Option (List ℕ) → Option (List ℕ) → List ℕ → ℕ → StreamEnd → Type 0
+Course formats service most at to held now taken cost (Ended count) =
+    (replies : List Reply) × Run formats service most at replies cost to × Appends held now (answer_of service replies) × (count ≡ wants replies)
+Course formats service most at to held now taken cost ReadFault =
+    (replies : List Reply) × Turns formats service at replies cost to × (length replies < most) × Appends held now (answer_of service replies) × IsShort taken
+Course formats service most at to held now taken cost WriteFault =
+    (replies : List Reply) × Run formats service (length replies) at replies cost to × (length replies ≤ most) × IsBroken service held now replies

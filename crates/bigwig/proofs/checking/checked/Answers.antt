@@ -6,11 +6,12 @@ use Rattle.bigwig.proofs.checking.checked.Goals as goal
 pub returns-in-Ok-check-clause-answers : goal.returns-in-Ok-check-clause-answers
 returns-in-Ok-check-clause-answers g c =
     let kept = c.in-Ok-check.ensures.kept in
-    let same : ruled_by c.in-Ok-check.checked ≡ record { service = c.args.typed.service; schema = c.args.schema } =
-    λ i. record { service = (kept.0 i).service; schema = kept.1 i } in
+    let same : ruled_by (record { checked = c.in-Ok-check.checked; formats = c.args.formats })
+    ≡ record { service = c.args.typed.service; schema = c.args.schema; formats = c.args.formats } =
+    λ i. record { service = (kept.0 i).service; schema = kept.1 i; formats = c.args.formats } in
     (same, c.in-Ok-check.ensures.accepted)
 
 pub returns-clause-answers : goal.returns-clause-answers
 returns-clause-answers g c =
-    refused_why c.args.typed.service c.args.schema _ c.in-Err.fault c.check_stop.result
+    refused_why c.args.typed.service c.args.schema c.args.formats _ c.in-Err.fault c.check_stop.result
     (c.as_slice.ensures ∙ c.in-Ok.ensures) c.check_stop.ensures c.in-Err.ensures.fault

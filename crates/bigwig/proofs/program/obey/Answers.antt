@@ -1,6 +1,6 @@
 use Rattle.bigwig.specs.Asked.{work}
 use Rattle.bigwig.specs.Outcomes.{outside}
-use Rattle.bigwig.specs.declared.command.Command.TheVariants.{Check, Replay, Valid, Make}
+use Rattle.bigwig.specs.declared.command.Command.TheVariants.{Check, Replay, Valid, Make, Light}
 use Rattle.bigwig.proofs.Endings.{of_command, speaks_comes, replies_comes}
 use Rattle.bigwig.proofs.Sending.{made_speaks}
 use Rattle.bigwig.proofs.program.obey.Goals as goal
@@ -14,7 +14,7 @@ returns-in-Check-clause-comes g c =
 pub returns-in-Replay-clause-comes : goal.returns-in-Replay-clause-comes
 returns-in-Replay-clause-comes g c =
     of_command _ _ _ _ _ _ c.in-Replay.is
-    (replies_comes _ (λ disk. work disk (Replay c.in-Replay.service c.in-Replay.requests c.in-Replay.judging c.in-Replay.most)) _ _ _ _ _ _ _ _
+    (replies_comes _ (λ disk. work disk (Replay c.in-Replay.service c.in-Replay.requests c.in-Replay.judging c.in-Replay.formats c.in-Replay.most)) _ _ _ _ _ _ _ _
     (outside (g.W.Channel.held c.args.out.now) (g.K.Keys.coming c.args.keys.now) (g.D.Door.asked c.args.door.now) (g.D.Door.coming c.args.door.now)
     (g.D.Door.returned c.args.door.now) (g.F.Files.unread c.args.files.now) c.args.steps.now) c.replay_command.ensures.comes)
 
@@ -33,3 +33,9 @@ returns-in-Make-clause-comes g c =
     (outside (g.W.Channel.held c.args.out.now) (g.K.Keys.coming c.args.keys.now) (g.D.Door.asked c.args.door.now) (g.D.Door.coming c.args.door.now)
     (g.D.Door.returned c.args.door.now) (g.F.Files.unread c.args.files.now) c.args.steps.now) _
     (made_speaks _ c.in-Make.count _ _ _ c.make_command.ensures.comes))
+
+pub returns-in-Light-clause-comes : goal.returns-in-Light-clause-comes
+returns-in-Light-clause-comes g c =
+    of_command _ _ _ _ _ _ c.in-Light.is (speaks_comes _ (λ disk. work disk (Light c.in-Light.formats c.in-Light.texts)) _ _ _
+    (outside (g.W.Channel.held c.args.out.now) (g.K.Keys.coming c.args.keys.now) (g.D.Door.asked c.args.door.now) (g.D.Door.coming c.args.door.now)
+    (g.D.Door.returned c.args.door.now) (g.F.Files.unread c.args.files.now) c.args.steps.now) _ c.light_command.ensures.comes)

@@ -10,16 +10,18 @@ use Rattle.bigwig.proofs.replaying.replay_command.Goals as goal
 pub returns-in-Ok-clause-comes : goal.returns-in-Ok-clause-comes
 returns-in-Ok-clause-comes g c =
     let named = c.args.judging.now.schema in
-    replies_found _ _ c.args.service.now named c.args.requests.now _ c.args.most (ruled_by c.in-Ok.checked) _ _ _ _ _ _ _ _ c.in-Ok.ensures.told
+    let form = c.args.formats.now in
+    replies_found _ _ c.args.service.now named form c.args.requests.now _ c.args.most (ruled_by c.in-Ok.served) _ _ _ _ _ _ _ _ c.in-Ok.ensures.told
     c.as_str-in-Ok.ensures.text
-    (by_name _ (λ disk name. (accepted_file disk name named).gives (ruled_by c.in-Ok.checked)) _ _ c.as_str.ensures.text c.in-Ok.ensures.answers)
+    (by_name _ (λ disk name. (accepted_file disk name named form).gives (ruled_by c.in-Ok.served)) _ _ c.as_str.ensures.text c.in-Ok.ensures.answers)
     c.replay_file.ensures.comes
 
 pub returns-in-Err-clause-comes : goal.returns-in-Err-clause-comes
 returns-in-Err-clause-comes g c =
     let named = c.args.judging.now.schema in
+    let form = c.args.formats.now in
     speaks_replies _ _ _ _ _ _ _ _
-    (stopped_speaks _ (λ disk. work disk (Replay c.args.service.now c.args.requests.now c.args.judging.now c.args.most)) c.in-Err.stop _ _ _
-    (told_first _ (λ disk. accepted_file disk c.args.service.now named) (λ disk. replayed disk c.args.requests.now c.args.most) c.in-Err.stop
+    (stopped_speaks _ (λ disk. work disk (Replay c.args.service.now c.args.requests.now c.args.judging.now form c.args.most)) c.in-Err.stop _ _ _
+    (told_first _ (λ disk. accepted_file disk c.args.service.now named form) (λ disk. replayed disk c.args.requests.now c.args.most) c.in-Err.stop
     (by_name _ (λ disk name.
-    IsStop (accepted_file disk name named) c.in-Err.stop) _ _ c.as_str.ensures.text c.in-Err.ensures.answers)) c.report.ensures.reported)
+    IsStop (accepted_file disk name named form) c.in-Err.stop) _ _ c.as_str.ensures.text c.in-Err.ensures.answers)) c.report.ensures.reported)

@@ -6,7 +6,7 @@ use Rattle.bigwig.proofs.serving.serve_links.Goals as goal
 
 pub links-init : goal.links-init
 links-init g c = record {
-  served = served_none _ (outside None (g.K.Keys.coming c.args.keys.now) (g.D.Door.asked c.args.door.now) (g.D.Door.coming c.args.door.now)
+  served = served_none c.args.formats.now _ (outside None (g.K.Keys.coming c.args.keys.now) (g.D.Door.asked c.args.door.now) (g.D.Door.coming c.args.door.now)
       (g.D.Door.returned c.args.door.now) None c.args.steps.now);
   quiet = refl;
   asked = refl;
@@ -15,7 +15,7 @@ links-init g c = record {
 
 pub returns-in-Err-clause-serves : goal.returns-in-Err-clause-serves
 returns-in-Err-clause-serves g c =
-    over_fault c.links.turn _ _ _
+    over_fault c.args.formats.now c.links.turn _ _ _
     (outside None (g.K.Keys.coming c.args.keys.now) (g.D.Door.asked c.args.door.now) (g.D.Door.coming c.args.door.now)
     (g.D.Door.returned c.args.door.now) None c.args.steps.now)
     (outside None (g.K.Keys.coming c.links.keys) (g.D.Door.asked c.links.door) (g.D.Door.coming c.links.door)
@@ -26,7 +26,7 @@ returns-in-Err-clause-serves g c =
 
 pub returns-in-Ok-None-clause-serves : goal.returns-in-Ok-None-clause-serves
 returns-in-Ok-None-clause-serves g c =
-    over_none g.D.Link.Channel.left g.D.Link.Channel.held c.links.turn _ _ _
+    over_none c.args.formats.now g.D.Link.Channel.left g.D.Link.Channel.held c.links.turn _ _ _
     (outside None (g.K.Keys.coming c.args.keys.now) (g.D.Door.asked c.args.door.now) (g.D.Door.coming c.args.door.now)
     (g.D.Door.returned c.args.door.now) None c.args.steps.now)
     (outside None (g.K.Keys.coming c.links.keys) (g.D.Door.asked c.links.door) (g.D.Door.coming c.links.door)
@@ -37,7 +37,7 @@ returns-in-Ok-None-clause-serves g c =
 
 pub returns-clause-serves : goal.returns-clause-serves
 returns-clause-serves g c =
-    over_most c.links.turn _ _ _
+    over_most c.args.formats.now c.links.turn _ _ _
     (outside None (g.K.Keys.coming c.args.keys.now) (g.D.Door.asked c.args.door.now) (g.D.Door.coming c.args.door.now)
     (g.D.Door.returned c.args.door.now) None c.args.steps.now)
     (outside None (g.K.Keys.coming c.links.keys) (g.D.Door.asked c.links.door) (g.D.Door.coming c.links.door)
@@ -51,7 +51,7 @@ links-preserved g c =
     let after = c.answer-end.new.link in
     let fresh = of_link (λ l. (ch.read_faults l ≡ 0) × (ch.write_faults l ≡ 0)) c.in-Ok-Some.field-0 link c.in-Ok-Some.field-0-is c.in-Ok-Some.ensures.fresh in
     record {
-      served = served_more ch.left ch.held c.links.turn _ c.links.world c.answer-end.new.world
+      served = served_more c.args.formats.now ch.left ch.held c.links.turn _ c.links.world c.answer-end.new.world
           (outside None (g.K.Keys.coming c.args.keys.now) (g.D.Door.asked c.args.door.now) (g.D.Door.coming c.args.door.now)
           (g.D.Door.returned c.args.door.now) None c.args.steps.now)
           (outside None (g.K.Keys.coming c.links.keys) (g.D.Door.asked c.links.door) (g.D.Door.coming c.links.door)

@@ -5,7 +5,7 @@ use Rattle.bigwig.proofs.serving.serve_links.Given as goal
 
 abbrev pub invariant-links : goal.invariant-links
 invariant-links g l = record {
-  served : HasServed l.turn l.fn.world l.world
+  served : HasServed l.formats l.turn l.fn.world l.world
       (outside None (g.K.Keys.coming l.fn.keys) (g.D.Door.asked l.fn.door) (g.D.Door.coming l.fn.door) (g.D.Door.returned l.fn.door) None l.fn.steps)
       (outside None (g.K.Keys.coming l.keys) (g.D.Door.asked l.door) (g.D.Door.coming l.door) (g.D.Door.returned l.door) None l.steps);
   quiet : g.D.Door.faults l.door ≡ g.D.Door.faults l.fn.door;

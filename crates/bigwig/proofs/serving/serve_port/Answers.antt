@@ -18,7 +18,7 @@ returns-in-Err-print_serving-clause-comes g c ruled u v is =
 
 pub returns-in-Ok-print_serving-clause-comes : goal.returns-in-Ok-print_serving-clause-comes
 returns-in-Ok-print_serving-clause-comes g c ruled u v is =
-    serving_comes ruled c.args.world.now c.args.port c.args.most
+    serving_comes ruled c.args.world.now c.args.formats.now c.args.port c.args.most
     (outside (g.W.Channel.held c.args.out.now) (g.K.Keys.coming c.args.keys.now) (g.D.Door.asked c.args.door.now) (g.D.Door.coming c.args.door.now)
     (g.D.Door.returned c.args.door.now) u c.args.steps.now)
     (outside (g.W.Channel.held c.print_serving.new.out) (g.K.Keys.coming c.serve_links.new.keys) (g.D.Door.asked c.serve_links.new.door)

@@ -10,4 +10,4 @@ returns c =
     same_line _ (rows_of f) (c.get_str.ensures ∙ first_value-rows f (codes "command")) (c.get_str-2.ensures ∙ first_value-rows f (codes "first"))
     (c.get_str-3.ensures ∙ first_value-rows f (codes "second")) (c.get_str-4.ensures ∙ first_value-rows f (codes "schema"))
     (c.get_str-5.ensures ∙ first_value-rows f (codes "workers")) (c.get_str-6.ensures ∙ first_value-rows f (codes "limit"))
-    (c.get_str-7.ensures ∙ first_value-rows f (codes "port"))
+    (c.get_str-7.ensures ∙ first_value-rows f (codes "port")) (c.get_str-8.ensures ∙ first_value-rows f (codes "formats"))

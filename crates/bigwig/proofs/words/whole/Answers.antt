@@ -13,4 +13,5 @@ returns c =
     let e4 = c.in_ok-c-4.ensures ∙ ap (λ (a : App). with_rule a (option_rule (codes "schema"))) e3 in
     let e5 = c.in_ok-c-5.ensures ∙ ap (λ (a : App). with_rule a (option_rule (codes "workers"))) e4 in
     let e6 = c.in_ok-c-6.ensures ∙ ap (λ (a : App). with_rule a (option_rule (codes "limit"))) e5 in
-    IfOk-weaker c.with_option-4.result _ _ (λ r h. h ∙ ap (λ (a : App). with_rule a (option_rule (codes "port"))) e6) c.with_option-4.ensures
+    let e7 = c.in_ok-c-7.ensures ∙ ap (λ (a : App). with_rule a (option_rule (codes "port"))) e6 in
+    IfOk-weaker c.with_option-5.result _ _ (λ r h. h ∙ ap (λ (a : App). with_rule a (option_rule (codes "formats"))) e7) c.with_option-5.ensures

@@ -18,6 +18,9 @@ returns-in-Repeated g c = rw c.in-Repeated.is c.write_field-in-Repeated.ensures
 pub returns-in-FieldTooLong : goal.returns-in-FieldTooLong
 returns-in-FieldTooLong g c = rw c.in-FieldTooLong.is c.write_field-in-FieldTooLong.ensures
 
+pub returns-in-Format : goal.returns-in-Format
+returns-in-Format g c = rw c.in-Format.is c.write_field-in-Format.ensures
+
 pub returns-in-Method : goal.returns-in-Method
 returns-in-Method g c = rw c.in-Method.is c.write_allowed.ensures
 

@@ -2,6 +2,7 @@
 -- It only follows the steps of the code: nothing is promised by it.
 use Rattle.std.specs.Prelude.{◌≡◌, ◌⊎◌, ◌≤◌, ◌+◌, ℕ, List, [], ◌∷◌, length, ⊤}
 use Rattle.std.specs.Io.KnownBytes.{Appends}
+use Rattle.bw_format.specs.declared.format.Format.{Format}
 use Rattle.bw_http.specs.Messages.{IsShort}
 use Rattle.bw_http.specs.Replies.{IsReply}
 use Rattle.bw_http.specs.declared.replies.Reply.{Reply}
@@ -36,14 +37,14 @@ without_request outcomes.ReadFault = takens.ReadFault
 without_request outcomes.Memory = takens.Answered replies.Memory
 
 -- a message was taken, and nothing sent yet
-abbrev pub Taking : Service → At → At → Place → Place → Taken → Type 0
-Taking service at to old new takens.End = Stops at [] to × (new.steps ≡ old.steps)
-Taking service at to old new takens.ReadFault = (to ≡ at) × IsShort new.taken × (new.steps ≡ old.steps)
-Taking service at to old new (takens.Refused reply) = Stops at (reply ∷ []) to × (new.steps ≡ old.steps)
-Taking service at to old new (takens.Answered reply) = (cost : ℕ) × Turn service at reply cost to × (new.steps ≡ old.steps + cost)
+abbrev pub Taking : List Format → Service → At → At → Place → Place → Taken → Type 0
+Taking formats service at to old new takens.End = Stops at [] to × (new.steps ≡ old.steps)
+Taking formats service at to old new takens.ReadFault = (to ≡ at) × IsShort new.taken × (new.steps ≡ old.steps)
+Taking formats service at to old new (takens.Refused reply) = Stops at (reply ∷ []) to × (new.steps ≡ old.steps)
+Taking formats service at to old new (takens.Answered reply) = (cost : ℕ) × Turn formats service at reply cost to × (new.steps ≡ old.steps + cost)
 
-abbrev pub Takes : Service → Place → Place → Taken → Type 0
-Takes service old new taken = (at : At) → IsAt old at → (to : At) × IsAt new to × Taking service at to old new taken
+abbrev pub Takes : List Format → Service → Place → Place → Taken → Type 0
+Takes formats service old new taken = (at : At) → IsAt old at → (to : At) × IsAt new to × Taking formats service at to old new taken
 
 -- the reply can be written, and a refusal is no want of memory
 abbrev pub AreFit : Service → Taken → Type 0
@@ -52,16 +53,16 @@ AreFit service (takens.Answered reply) = IsReply (with_names [] (field_names ser
 AreFit service taken = ⊤
 
 -- one message was handled, or none follows
-abbrev pub Going : Service → At → At → Place → Place → Next → Type 0
-Going service at to old new (nexts.Answered count) =
-    (reply : Reply) × (cost : ℕ) × Turn service at reply cost to × (new.steps ≡ old.steps + cost)
+abbrev pub Going : List Format → Service → At → At → Place → Place → Next → Type 0
+Going formats service at to old new (nexts.Answered count) =
+    (reply : Reply) × (cost : ℕ) × Turn formats service at reply cost to × (new.steps ≡ old.steps + cost)
     × Appends old.held new.held (bytes_by service reply) × (count ≡ want reply)
-Going service at to old new nexts.Ended =
+Going formats service at to old new nexts.Ended =
     (replies : List Reply) × Stops at replies to × (new.steps ≡ old.steps) × Appends old.held new.held (answer_of service replies)
     × (wants replies ≡ 0)
-Going service at to old new nexts.ReadFault = (to ≡ at) × IsShort new.taken × (new.steps ≡ old.steps) × (new.held ≡ old.held)
-Going service at to old new nexts.WriteFault =
-    (reply : Reply) × (cost : ℕ) × (Turn service at reply cost to ⊎ ((cost ≡ 0) × Stops at (reply ∷ []) to)) × (new.steps ≡ old.steps + cost)
+Going formats service at to old new nexts.ReadFault = (to ≡ at) × IsShort new.taken × (new.steps ≡ old.steps) × (new.held ≡ old.held)
+Going formats service at to old new nexts.WriteFault =
+    (reply : Reply) × (cost : ℕ) × (Turn formats service at reply cost to ⊎ ((cost ≡ 0) × Stops at (reply ∷ []) to)) × (new.steps ≡ old.steps + cost)
     × AppendsPart old.held new.held (bytes_by service reply)
 
 -- a message gives one want at most
@@ -69,11 +70,11 @@ abbrev pub IsFew : Next → Type 0
 IsFew (nexts.Answered count) = count ≤ 1
 IsFew next = ⊤
 
-abbrev pub Goes : Service → Place → Place → Next → Type 0
-Goes service old new next = (at : At) → IsAt old at → (to : At) × IsAt new to × Going service at to old new next
+abbrev pub Goes : List Format → Service → Place → Place → Next → Type 0
+Goes formats service old new next = (at : At) → IsAt old at → (to : At) × IsAt new to × Going formats service at to old new next
 
 -- a stream of which so many messages were handled, and so many of the replies are wants
-abbrev pub Stands : Service → ℕ → ℕ → Place → Place → Type 0
-Stands service n count old new = (at : At) → IsAt old at → (to : At) × IsAt new to
-    × ((replies : List Reply) × (cost : ℕ) × Turns service at replies cost to × (length replies ≡ n) × (new.steps ≡ old.steps + cost)
+abbrev pub Stands : List Format → Service → ℕ → ℕ → Place → Place → Type 0
+Stands formats service n count old new = (at : At) → IsAt old at → (to : At) × IsAt new to
+    × ((replies : List Reply) × (cost : ℕ) × Turns formats service at replies cost to × (length replies ≡ n) × (new.steps ≡ old.steps + cost)
     × Appends old.held new.held (answer_of service replies) × (count ≡ wants replies))

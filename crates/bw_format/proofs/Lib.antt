@@ -1,0 +1,16 @@
+pub mod Again
+pub mod Complete
+pub mod Ended
+pub mod Left
+pub mod LightLaws
+pub mod Lists
+pub mod ReadLaws
+pub mod Runs
+pub mod Shifts
+pub mod Sound
+pub mod Texts
+pub mod Usable
+pub mod Written
+pub mod FileLaws
+pub mod OneAnswer
+pub mod SomeAnswer

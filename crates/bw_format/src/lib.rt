@@ -1,0 +1,17 @@
+//! The formats of fields: patterns that a field's text has to match.
+#![tactic(auto)]
+
+pub mod file;
+pub mod format;
+mod frame;
+pub mod laws;
+pub mod light;
+pub mod limits;
+mod line;
+pub mod pattern;
+mod reader;
+
+pub use file::{FormatFault, read_formats};
+pub use format::{Format, Formats};
+pub use light::Light;
+pub use pattern::{Class, Member, Members, Node, Pattern};

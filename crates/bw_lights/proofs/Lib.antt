@@ -1,0 +1,4 @@
+pub mod OneLights
+pub mod Parted
+pub mod Printed
+pub mod SomeLights
