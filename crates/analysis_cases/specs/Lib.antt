@@ -1,2 +1,2 @@
-pub mod CellLaws
 pub mod Cells
+pub mod Lawful

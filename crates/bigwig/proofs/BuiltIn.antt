@@ -3,12 +3,11 @@ use Rattle.std.proofs.Common.{◌≡◌, ◌≤◌, ◌∙◌, ℕ, true, List, 
 use Rattle.std.specs.Prelude.{nat_lt}
 use Rattle.std.specs.List.{list_all}
 use Rattle.std.specs.Str.{IsAscii, IsUtf8}
-use Rattle.std.proofs.lemmas.Bool.{ltb-true, leb-true}
+use Rattle.std.proofs.lemmas.Bool.{and_parts, ltb-true, leb-true}
 use Rattle.std.proofs.lemmas.Str.{IsUtf8-from_ascii}
 use Rattle.std.proofs.lemmas.Str.Ascii.{IsAscii-nil, IsAscii-cons}
 use Rattle.bw_schema.proofs.SchemaLaws.{one_schema, not_both}
 use Rattle.bw_schema.proofs.Schemas.{short_step, read_is}
-use Rattle.bw_schema.proofs.Spelled.{both}
 use Rattle.bw_schema.specs.BuiltIn.{built_in_root, built_in_rules}
 use Rattle.bw_schema.specs.Steps.Reading.{read_said, line_with, names_line, rare_line}
 use Rattle.bw_schema.specs.Words.{said}
@@ -20,7 +19,7 @@ short = leb-true _ _ refl
 
 ascii : (s : List ℕ) → list_all (λ c. nat_lt c 128) s ≡ true → IsAscii s
 ascii [] h = IsAscii-nil
-ascii (c ∷ s) h = let k = both (nat_lt c 128) (list_all (λ b. nat_lt b 128) s) h in IsAscii-cons c s (ltb-true c 128 k.0) (ascii s k.1)
+ascii (c ∷ s) h = let k = and_parts (nat_lt c 128) (list_all (λ b. nat_lt b 128) s) h in IsAscii-cons c s (ltb-true c 128 k.0) (ascii s k.1)
 
 utf8 : IsUtf8 BUILT_IN.now
 utf8 = IsUtf8-from_ascii BUILT_IN.now (ascii BUILT_IN.now refl)

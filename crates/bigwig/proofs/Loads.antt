@@ -1,28 +1,5 @@
 -- Services that are loaded, and why others aren't.
-use Rattle.std.proofs.Common.{
-  Vec,
-  Global,
-  ◌≡◌,
-  ◌≢◌,
-  ◌<◌,
-  ◌≤◌,
-  ◌⊎◌,
-  ℕ,
-  List,
-  inl,
-  inr,
-  subst,
-  refl,
-  Some,
-  Result,
-  Ok,
-  Err,
-  IfOk,
-  IfErr,
-  take,
-  length,
-  arith,
-}
+use Rattle.std.proofs.Common.{Vec, Global, ◌≡◌, ◌≢◌, ◌<◌, ◌≤◌, ◌⊎◌, ℕ, List, inl, inr, subst, refl, Some, Result, Ok, Err, IfOk, IfErr, take, length, arith}
 use Rattle.bw_lang.specs.declared.service.Service.{Service}
 use Rattle.bw_lang.specs.declared.text.Memory.{Memory}
 use Rattle.bw_lang.specs.Service.Reads.{Reads}

@@ -45,7 +45,7 @@ IsSent old new request n =
     → let next = step old.service m request 0 in (n ≡ page_length next.reply) × StandsFor new next.world
 
 -- the five lines of a made service of so many pages and bytes, whose pages have so many bytes
-abbrev pub lines_of : ℕ → ℕ → ℕ → List ℕ
+abbrev pub lines_of : (count bytes sent : ℕ) → List ℕ
 lines_of count bytes sent =
     line (codes "made " ++ decimal count) ++ (line (codes "bytes " ++ decimal bytes) ++ (line (codes "accepted")
     ++ (line (codes "turns " ++ decimal count) ++ line (codes "sent " ++ decimal sent))))

@@ -13,6 +13,6 @@ abbrev pub number_in : ℕ → ℕ → List ℕ → Option ℕ
 number_in least most t = cond (is_number t && nat_le least (digits_value 10 t) && nat_le (digits_value 10 t) most) (Some (digits_value 10 t)) None
 
 -- the number of an option, and another where the option isn't there
-abbrev pub number_or : ℕ → ℕ → ℕ → Option (List ℕ) → Option ℕ
+abbrev pub number_or : (least most other : ℕ) → Option (List ℕ) → Option ℕ
 number_or least most other None = Some other
 number_or least most other (Some t) = number_in least most t

@@ -15,7 +15,7 @@ use Rattle.bw_flow.specs.declared.point.Point.{Point}
 use Rattle.bw_flow.specs.Steps.{Step}
 use Rattle.bw_flow.specs.View.{act, seen}
 use Rattle.bw_solve.specs.Sets.{IsSet}
-use Rattle.bw_solve.specs.SetLaws.{merge_set}
+use Rattle.bw_solve.specs.Lawful.SetLaws.{merge_set}
 use Rattle.bw_analyse.specs.declared.abstracts.Abstract.{Abstract}
 use Rattle.bw_analyse.specs.declared.facts.Facts.{Facts}
 use Rattle.bw_analyse.specs.Abstracts.{plugged_by}

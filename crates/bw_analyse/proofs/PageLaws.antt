@@ -2,6 +2,7 @@
 use Rattle.std.proofs.Common.{◌≡◌, ℕ, zero, suc, ◌+◌, List, [], ◌∷◌, map, Option, Some, None, refl, sym, ap, ◌∙◌, arith}
 use Rattle.std.specs.Prelude.{slice_get}
 use Rattle.bw_lang.specs.declared.service.Service.{Service}
+use Rattle.bw_lang.specs.Service.Term.{Term}
 use Rattle.bw_flow.specs.Steps.{Step}
 use Rattle.bw_sum.specs.declared.summary.Summary.{Summary}
 use Rattle.bw_analyse.specs.declared.abstracts.Abstract.{Abstract}
@@ -29,6 +30,22 @@ placed_none f p (x ∷ xs) (suc i) e = placed_none f (p + 1) xs i e
 -- the summary of the page of a point
 abbrev made : Service → (ℕ → List Abstract) → Placed → Option Summary
 made service f x = summary_at service (names_at service f x) (page_of x.step.act)
+
+-- a show and an exit have a summary of their page
+pub has_summary : (service : Service) (facts : Facts) (p : ℕ) → AreFacts service facts → HasPage service p → shown_fact facts p ≡ None → ⊥
+has_summary service facts p are (x, at, page) none = by_page (page_of x.act) refl
+  where
+    names : List ℕ → Abstract
+    names = names_at service (rows_of facts) (record { place = p; step = x })
+
+    shown : shown_fact facts p ≡ summary_at service names (page_of x.act)
+    shown =
+        ap (λ xs. joined_option (slice_get xs p)) are.pages
+        ∙ ap joined_option (placed_get (made service (rows_of facts)) 0 (flow_of service) p p x (omega arith) at)
+
+    by_page : (o : Option Term) → page_of x.act ≡ o → ⊥
+    by_page None e = page e
+    by_page (Some t) e = let d : summary_at service names (Some t) ≡ None = sym (ap (summary_at service names) e) ∙ sym shown ∙ none in absurd (cc)
 
 -- a point whose page has a summary is a show or an exit
 pub has_page : (service : Service) (facts : Facts) (p : ℕ) (s : Summary) → AreFacts service facts → shown_fact facts p ≡ Some s → HasPage service p

@@ -5,11 +5,11 @@ use Rattle.std.specs.Ordering.{nat_cmp}
 use Rattle.std.proofs.lemmas.Map.Lookups.{CmpEqualImpliesEq, exact_unsigned, exact_pairs}
 use Rattle.bw_faults.proofs.Lists.{set_equal, merge_nothing}
 use Rattle.bw_solve.specs.Sets.{IsSet, has, merge}
-use Rattle.bw_solve.specs.SetLaws.{merge_has, merge_set}
+use Rattle.bw_solve.specs.Lawful.SetLaws.{merge_has, merge_set}
 use Rattle.bw_sum.specs.Edges.{edge_cmp, edges_at}
 use Rattle.bw_sum.specs.Labels.{pair_cmp}
 use Rattle.bw_sum.specs.Summaries.{plugged, plugged_text}
-use Rattle.bw_sum.specs.SummaryLaws.{edge_cmp_total}
+use Rattle.bw_sum.specs.Lawful.SummaryLaws.{edge_cmp_total}
 use Rattle.bw_analyse.specs.declared.abstracts.Abstract.{Abstract}
 use Rattle.bw_analyse.specs.declared.abstracts.Abstract.TheVariants.{Nothing, Str, Html}
 use Rattle.bw_analyse.specs.Abstracts.{plugged_by}

@@ -13,7 +13,7 @@ use Rattle.bw_analyse.specs.declared.arrows.Arrow.{Arrow}
 use Rattle.bw_analyse.specs.Abstracts.{both, least_of}
 use Rattle.bw_analyse.specs.Known.{of_literal}
 use Rattle.bw_analyse.specs.Rounds.{left_by, left_at, added_by, join_some, joined, next_local, next_shared, Placed, placed, next_row, empty, round, arrows_to}
-use Rattle.bw_analyse.specs.SystemLaws.{get_below, IsPlaced, all_placed}
+use Rattle.bw_analyse.specs.Lawful.SystemLaws.{get_below, IsPlaced, all_placed}
 
 module _ (service : Service) (flow : List Step) (f g : ℕ → List Abstract) (same : (c : ℕ) → c < length flow + 1 → f c ≡ g c) where
   left_same : (w : List ℕ) (a : Arrow) (o : Option Step) → slice_get flow a.from ≡ o → left_at service flow f w a o ≡ left_at service flow g w a o

@@ -70,7 +70,7 @@ impl Abstract {
 
 impl Lattice for Abstract {
     ghost use Rattle.bw_analyse.specs.Abstracts.{AreAlike, is_below, both, size_of, rank_of};
-    ghost use Rattle.bw_analyse.specs.AbstractLaws.{abstracts_lattice};
+    ghost use Rattle.bw_analyse.specs.Lawful.AbstractLaws.{abstracts_lattice};
 
     ghost alike = { AreAlike };
 

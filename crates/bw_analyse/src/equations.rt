@@ -50,7 +50,7 @@ impl System for Equations<'_, '_> {
     ghost use Rattle.bw_analyse.specs.Least.{flow_of, rows};
     ghost use Rattle.bw_analyse.specs.Readers.{readers_of};
     ghost use Rattle.bw_analyse.specs.Rounds.{empty, round};
-    ghost use Rattle.bw_analyse.specs.TypedSystem.{typed_system};
+    ghost use Rattle.bw_analyse.specs.Lawful.TypedSystem.{typed_system};
 
     ghost cells = { λ s. rows s.ground.now.typed.now.service };
 

@@ -75,11 +75,14 @@ pub fn page_graph(
     ensures { IfOk result (λ s. s ≡ page_graph typed.now.service facts.now point) }
 {
     let name = StrSet::Of(Set::of(alloc, facts.title())?);
-    match (flow.point(point), facts.shown(point)) {
-        (Some(place), Some(document)) => match &place.what {
-            What::Exit { .. } => exited(alloc, typed, &name, document),
-            _ => shown(alloc, typed, &name, document),
-        },
-        _ => Err(Memory),
+    let Some(place) = flow.point(point) else {
+        unreachable!()
+    };
+    let Some(document) = facts.shown(point) else {
+        unreachable!()
+    };
+    match &place.what {
+        What::Exit { .. } => exited(alloc, typed, &name, document),
+        _ => shown(alloc, typed, &name, document),
     }
 }

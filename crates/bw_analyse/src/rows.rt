@@ -61,9 +61,9 @@ impl Row {
 
 impl Lattice for Row {
     ghost use Rattle.bw_analyse.specs.Abstracts.{AreAlike, is_below, both, size_of, rank_of};
-    ghost use Rattle.bw_analyse.specs.AbstractLaws.{abstracts_lattice};
+    ghost use Rattle.bw_analyse.specs.Lawful.AbstractLaws.{abstracts_lattice};
     ghost use Rattle.bw_analyse.specs.Rows.{EachAlike, each_below, each_join, all_sizes};
-    ghost use Rattle.bw_analyse.specs.RowLaws.{rows_lattice};
+    ghost use Rattle.bw_analyse.specs.Lawful.RowLaws.{rows_lattice};
 
     ghost alike = { EachAlike AreAlike };
 

@@ -2,7 +2,7 @@
 use Rattle.std.proofs.Common.{◌≡◌, ◌⊎◌, inl, inr, List, [], sym, ◌∙◌, subst}
 use Rattle.std.proofs.lemmas.Bool.{false≢true, or_cases, or_left, or_right}
 use Rattle.bw_solve.specs.Sets.{has, merge}
-use Rattle.bw_solve.specs.SetLaws.{merge_has, merge_set}
+use Rattle.bw_solve.specs.Lawful.SetLaws.{merge_has, merge_set}
 use Rattle.bw_faults.specs.declared.fault.Fault.{Fault}
 use Rattle.bw_faults.specs.Lists.{Lists}
 use Rattle.bw_faults.specs.Order.{fault_cmp, fault_total}

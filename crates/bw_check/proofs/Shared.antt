@@ -43,6 +43,8 @@ use Rattle.bw_schema.proofs.needs.Formulas.TheLaws.TheKnot as needs
 use Rattle.bw_schema.proofs.rules.ValueLists.TheSendSync as values
 use Rattle.bw_schema.specs.contracts.needs.Formulas as Formulas
 use Rattle.bw_schema.specs.contracts.schema.Schema as Schema
+use Rattle.bw_shape.specs.contracts.basis.Basis as Basis
+use Rattle.bw_shape.specs.contracts.items.TemplateItems as TemplateItems
 use Rattle.bw_strings.proofs.literals.Literals.TheSendSync as literals
 use Rattle.bw_types.proofs.tables.Tables.TheSendSync as tables
 use Rattle.bw_types.specs.contracts.typed.Typed as Typed
@@ -118,8 +120,14 @@ schema_sync = search (names.the_sync, words.the_sync, values.the_sync, formulas_
 
 -- ---- what every piece is judged by
 
+template_items_sync : (ℓ : NamedLft) → IsSync (TemplateItems.the_row ℓ)
+template_items_sync ℓ = search (items_sync, names.the_sync, crosses, sendable) depth 40 fits 20000
+
+basis_sync : (ℓ : NamedLft) → IsSync (Basis.the_row ℓ)
+basis_sync ℓ = search (typed_sync, literals.the_sync, template_items_sync, schema_sync, sendable) depth 40 fits 20000
+
 bench_sync : (ℓ : NamedLft) → IsSync (Bench.the_row ℓ)
-bench_sync ℓ = search (typed_sync, flow_sync, facts.the_sync, literals.the_sync, schema_sync, sendable) depth 40 fits 20000
+bench_sync ℓ = search (basis_sync, flow_sync, facts.the_sync, sendable) depth 40 fits 20000
 
 -- a borrow for this lifetime, under any name
 abbrev during : Lft → NamedLft

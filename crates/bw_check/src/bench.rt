@@ -9,7 +9,6 @@ ghost use Rattle.bw_flow.specs.Layout.{plan_of};
 ghost use Rattle.bw_flow.specs.View.{seen};
 ghost use Rattle.bw_solve.specs.Sets.{merge};
 ghost use Rattle.bw_shape.specs.Outlines.{IsPageGraph, IsShape};
-ghost use Rattle.bw_strings.specs.Literals.{literals_of};
 ghost use Rattle.bw_check.specs.Faults.{IsPageFault, IsReceivedFault};
 
 use crate::laws::{pages_are_graphs, received_have_numbers};
@@ -17,26 +16,20 @@ use bw_analyse::{Facts, page_graph};
 use bw_faults::Faults;
 use bw_fields::judge_fields;
 use bw_flow::{Flow, Point, PointId, What};
-use bw_judge::judge;
+use bw_judge::judge_by;
 use bw_lang::Memory;
 use bw_out::Pulse;
-use bw_schema::Schema;
-use bw_shape::{Outline, shape};
-use bw_strings::Literals;
+use bw_shape::{Basis, Outline, shape_by};
 use bw_sum::Summary;
-use bw_types::Typed;
 use std::alloc::Global;
 
 /// What every piece is judged by.
 #[derive(Clone, Copy)]
 pub struct Bench<'a> {
-    pub typed: &'a Typed,
+    pub basis: &'a Basis<'a>,
     pub flow: &'a Flow,
     pub facts: &'a Facts,
-    pub literals: &'a Literals,
-    pub schema: &'a Schema,
-    ghost lowered: { flow.now ≡ plan_of typed.now.service },
-    ghost collected: { literals.now ≡ literals_of typed.now.service },
+    ghost lowered: { flow.now ≡ plan_of basis.now.typed.now.service },
 }
 
 /// All faults of both.
@@ -61,15 +54,16 @@ fn judge_received(
     place: PointId,
     point: &Point,
 ) -> Result<Faults, Memory>
-    requires point { slice_get (flow_of bench.typed.now.service) place ≡ Some (seen point.now) }
-    requires page { IsPageGraph bench.typed.now.service (page_graph bench.typed.now.service bench.facts.now place) }
-    requires shape { IsShape bench.typed.now.service (page_graph bench.typed.now.service bench.facts.now place) bench.schema.now outline.now }
-    ensures { IfOk result (Lists (IsReceivedFault bench.entry.typed.now.service bench.entry.facts.now place (seen point.now))) }
+    requires point { slice_get (flow_of bench.basis.now.typed.now.service) place ≡ Some (seen point.now) }
+    requires page { IsPageGraph bench.basis.now.typed.now.service (page_graph bench.basis.now.typed.now.service bench.facts.now place) }
+    requires shape { IsShape bench.basis.now.typed.now.service (page_graph bench.basis.now.typed.now.service bench.facts.now place)
+        bench.basis.now.schema.now outline.now }
+    ensures { IfOk result (Lists (IsReceivedFault bench.entry.basis.now.typed.now.service bench.entry.facts.now place (seen point.now))) }
 {
-    received_have_numbers(bench.typed);
+    received_have_numbers(bench.basis.typed);
     match &point.what {
         What::Show { receives, .. } => {
-            judge_fields(alloc, outline, bench.typed, receives, point.number)
+            judge_fields(alloc, outline, bench.basis.typed, receives, point.number)
         }
         _ => Ok(Faults::new(alloc)),
     }
@@ -85,23 +79,15 @@ fn judge_outline(
     place: PointId,
     point: &Point,
 ) -> Result<Faults, Memory>
-    requires graph { page.now ≡ page_graph bench.typed.now.service bench.facts.now place }
-    requires known { IsPageGraph bench.typed.now.service page.now }
-    requires shape { IsShape bench.typed.now.service page.now bench.schema.now outline.now }
-    requires page { HasPage bench.typed.now.service place }
-    requires point { slice_get (flow_of bench.typed.now.service) place ≡ Some (seen point.now) }
-    ensures { IfOk result (Lists (IsPageFault bench.entry.typed.now.service bench.entry.schema.now bench.entry.facts.now place)) }
+    requires graph { page.now ≡ page_graph bench.basis.now.typed.now.service bench.facts.now place }
+    requires known { IsPageGraph bench.basis.now.typed.now.service page.now }
+    requires shape { IsShape bench.basis.now.typed.now.service page.now bench.basis.now.schema.now outline.now }
+    requires page { HasPage bench.basis.now.typed.now.service place }
+    requires point { slice_get (flow_of bench.basis.now.typed.now.service) place ≡ Some (seen point.now) }
+    ensures { IfOk result (Lists (IsPageFault bench.entry.basis.now.typed.now.service bench.entry.basis.now.schema.now bench.entry.facts.now place)) }
 {
     let faults = judge_received(alloc, bench, outline, place, point)?;
-    match judge(
-        alloc,
-        outline,
-        page,
-        bench.typed,
-        bench.literals,
-        bench.schema,
-        point.number,
-    ) {
+    match judge_by(alloc, bench.basis, outline, page, point.number) {
         Ok(elements) => joined(faults, elements),
         Err(Memory) => {
             drop(faults);
@@ -117,13 +103,13 @@ fn judge_page(
     place: PointId,
     point: &Point,
 ) -> Result<Faults, Memory>
-    requires facts { AreFacts bench.typed.now.service bench.facts.now }
-    requires page { HasPage bench.typed.now.service place }
-    requires point { slice_get (flow_of bench.typed.now.service) place ≡ Some (seen point.now) }
-    ensures { IfOk result (Lists (IsPageFault bench.entry.typed.now.service bench.entry.schema.now bench.entry.facts.now place)) }
+    requires facts { AreFacts bench.basis.now.typed.now.service bench.facts.now }
+    requires page { HasPage bench.basis.now.typed.now.service place }
+    requires point { slice_get (flow_of bench.basis.now.typed.now.service) place ≡ Some (seen point.now) }
+    ensures { IfOk result (Lists (IsPageFault bench.entry.basis.now.typed.now.service bench.entry.basis.now.schema.now bench.entry.facts.now place)) }
 {
-    pages_are_graphs(bench.typed);
-    let page = page_graph(alloc, bench.typed, bench.flow, bench.facts, place)?;
+    pages_are_graphs(bench.basis.typed);
+    let page = page_graph(alloc, bench.basis.typed, bench.flow, bench.facts, place)?;
     let faults = judge_graph(alloc, bench, &page, place, point);
     drop(page);
     faults
@@ -137,13 +123,13 @@ fn judge_graph(
     place: PointId,
     point: &Point,
 ) -> Result<Faults, Memory>
-    requires graph { page.now ≡ page_graph bench.typed.now.service bench.facts.now place }
-    requires known { IsPageGraph bench.typed.now.service page.now }
-    requires page { HasPage bench.typed.now.service place }
-    requires point { slice_get (flow_of bench.typed.now.service) place ≡ Some (seen point.now) }
-    ensures { IfOk result (Lists (IsPageFault bench.entry.typed.now.service bench.entry.schema.now bench.entry.facts.now place)) }
+    requires graph { page.now ≡ page_graph bench.basis.now.typed.now.service bench.facts.now place }
+    requires known { IsPageGraph bench.basis.now.typed.now.service page.now }
+    requires page { HasPage bench.basis.now.typed.now.service place }
+    requires point { slice_get (flow_of bench.basis.now.typed.now.service) place ≡ Some (seen point.now) }
+    ensures { IfOk result (Lists (IsPageFault bench.entry.basis.now.typed.now.service bench.entry.basis.now.schema.now bench.entry.facts.now place)) }
 {
-    let outline = shape(alloc, page, bench.typed, bench.literals, bench.schema)?;
+    let outline = shape_by(alloc, page, bench.basis)?;
     let faults = judge_outline(alloc, bench, page, &outline, place, point);
     drop(outline);
     faults
@@ -157,9 +143,9 @@ pub fn judge_piece<P: Pulse>(
     number: u32,
     place: PointId,
 ) -> Result<Faults, Memory>
-    requires facts { AreFacts bench.typed.now.service bench.facts.now }
-    requires page { HasPage bench.typed.now.service place }
-    ensures { IfOk result (Lists (IsPageFault bench.entry.typed.now.service bench.entry.schema.now bench.entry.facts.now place)) }
+    requires facts { AreFacts bench.basis.now.typed.now.service bench.facts.now }
+    requires page { HasPage bench.basis.now.typed.now.service place }
+    ensures { IfOk result (Lists (IsPageFault bench.entry.basis.now.typed.now.service bench.entry.basis.now.schema.now bench.entry.facts.now place)) }
 {
     pulse.at(number);
     match bench.flow.point(place) {

@@ -20,6 +20,7 @@ use bw_flow::{Flow, FlowFault, lower};
 use bw_lang::Memory;
 use bw_out::Pulse;
 use bw_schema::Schema;
+use bw_shape::{Basis, Wrappers};
 use bw_strings::Literals;
 use bw_types::Typed;
 use std::alloc::Global;
@@ -33,14 +34,14 @@ fn faults_by<R: Threads + Sync, P: Pulse>(
     workers: u32,
     pulse: &P,
 ) -> Result<Faults, Memory>
-    requires facts { AreFacts bench.typed.now.service bench.facts.now }
-    ensures { IfOk result (Lists (IsServiceFault bench.entry.typed.now.service bench.entry.schema.now bench.entry.facts.now)) }
+    requires facts { AreFacts bench.basis.now.typed.now.service bench.facts.now }
+    ensures { IfOk result (Lists (IsServiceFault bench.entry.basis.now.typed.now.service bench.entry.basis.now.schema.now bench.entry.facts.now)) }
 {
     let pieces = pieces_of(alloc, bench.flow)?;
     let pages = judge_pieces(rt, alloc, bench, pulse, pieces.as_slice(), workers);
     drop(pieces);
     match pages {
-        Ok(faults) => match gap_faults(alloc, bench.typed, bench.flow, bench.facts) {
+        Ok(faults) => match gap_faults(alloc, bench.basis.typed, bench.flow, bench.facts) {
             Ok(gaps) => joined(faults, gaps),
             Err(Memory) => {
                 drop(faults);
@@ -51,7 +52,7 @@ fn faults_by<R: Threads + Sync, P: Pulse>(
     }
 }
 
-/// All faults of a service by a schema, in their order.
+/// All faults of a service by a schema, in their order. What each of its pages is judged by is made once.
 fn faults_of<R: Threads + Sync, P: Pulse>(
     rt: &R,
     alloc: Global,
@@ -67,16 +68,20 @@ fn faults_of<R: Threads + Sync, P: Pulse>(
     ensures { IfOk result (Lists (IsServiceFault typed.now.service schema.now facts.now)) }
 {
     let literals = Literals::of(alloc, typed.service())?;
-    let bench = Bench {
+    let wrappers = Wrappers::of(alloc, typed)?;
+    let templates = wrappers.behind(typed);
+    let basis = Basis {
         typed,
-        flow,
-        facts,
         literals: &literals,
+        templates: &templates,
         schema,
     };
-    let faults = faults_by(rt, alloc, bench, workers, pulse);
-    drop(literals);
-    faults
+    let bench = Bench {
+        basis: &basis,
+        flow,
+        facts,
+    };
+    faults_by(rt, alloc, bench, workers, pulse)
 }
 
 /// The flow of a service, or that it has too many points.

@@ -44,9 +44,9 @@ fn judge_in_turn<P: Pulse>(
     first: u32,
     pieces: &[PointId],
 ) -> Result<Faults, Memory>
-    requires facts { AreFacts bench.typed.now.service bench.facts.now }
-    requires pages { All (HasPage bench.typed.now.service) pieces.now }
-    ensures { IfOk result (Lists (IsFaultOfSome bench.entry.typed.now.service bench.entry.schema.now bench.entry.facts.now pieces.now)) }
+    requires facts { AreFacts bench.basis.now.typed.now.service bench.facts.now }
+    requires pages { All (HasPage bench.basis.now.typed.now.service) pieces.now }
+    ensures { IfOk result (Lists (IsFaultOfSome bench.entry.basis.now.typed.now.service bench.entry.basis.now.schema.now bench.entry.facts.now pieces.now)) }
 {
     let mut faults = Faults::new(alloc);
     let mut number = first;
@@ -82,9 +82,9 @@ pub fn judge_pieces<R: Threads + Sync, P: Pulse>(
     pieces: &[PointId],
     workers: u32,
 ) -> Result<Faults, Memory>
-    requires facts { AreFacts bench.typed.now.service bench.facts.now }
-    requires pages { All (HasPage bench.typed.now.service) pieces.now }
-    ensures { IfOk result (Lists (IsFaultOfSome bench.entry.typed.now.service bench.entry.schema.now bench.entry.facts.now pieces.now)) }
+    requires facts { AreFacts bench.basis.now.typed.now.service bench.facts.now }
+    requires pages { All (HasPage bench.basis.now.typed.now.service) pieces.now }
+    ensures { IfOk result (Lists (IsFaultOfSome bench.entry.basis.now.typed.now.service bench.entry.basis.now.schema.now bench.entry.facts.now pieces.now)) }
 {
     let size = dealt(pieces.len(), workers);
     let lists = map_chunks(
@@ -93,9 +93,10 @@ pub fn judge_pieces<R: Threads + Sync, P: Pulse>(
         pieces,
         size,
         &|start: usize, part: &[PointId]| -> Result<Faults, Memory>
-            requires facts { AreFacts bench.typed.now.service bench.facts.now }
-            requires pages { All (HasPage bench.typed.now.service) part.now }
-            ensures { IfOk result (Lists (IsFaultOfSome bench.entry.typed.now.service bench.entry.schema.now bench.entry.facts.now part.now)) }
+            requires facts { AreFacts bench.basis.now.typed.now.service bench.facts.now }
+            requires pages { All (HasPage bench.basis.now.typed.now.service) part.now }
+            ensures { IfOk result (Lists
+                (IsFaultOfSome bench.entry.basis.now.typed.now.service bench.entry.basis.now.schema.now bench.entry.facts.now part.now)) }
         { judge_in_turn(alloc, bench, pulse, numbered(start), part) },
     )?;
     let mut faults = Faults::new(alloc);

@@ -25,7 +25,8 @@ use Rattle.bw_cover.specs.Facts.{Facts, is_shared, template_known, look}
 use Rattle.bw_cover.specs.Kinds.{IsOf, LocalsAreOf, CellsAreOf, SharedAreOf, summary_of, Shows, GapsAreThere, CheckedIsAccepted, Agree, PlacesFit}
 use Rattle.bw_cover.specs.Least.{with_cells}
 use Rattle.bw_cover.specs.Spots.{Spot, statement, Scoped, Pages, EachPoint}
-use Rattle.bw_cover.proofs.Names.{among-added, some_is, beside-cons}
+use Rattle.bw_lang.proofs.Options.{some_is}
+use Rattle.bw_cover.proofs.Names.{among-added, beside-cons}
 use Rattle.bw_cover.proofs.Rising.{below_refl}
 use Rattle.bw_cover.proofs.Solved.{least_obeys}
 use Rattle.bw_cover.proofs.Typed.{typed_known}

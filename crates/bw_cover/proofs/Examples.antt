@@ -12,8 +12,8 @@ use Rattle.bw_cover.specs.Facts.{keeps, takes, look, received_by, Leads}
 use Rattle.bw_types.specs.Scopes.{is_among}
 use Rattle.bw_cover.specs.Spots.{Spot, statement}
 use Rattle.bw_cover.specs.Examples.{rows_service, rows_known, shown_of, cell, rows_facts, RowsAreAccepted}
-use Rattle.bw_cover.proofs.Names.{same_self, some_is}
-use Rattle.bw_types.proofs.Seek.{same_is}
+use Rattle.bw_lang.proofs.Options.{some_is}
+use Rattle.bw_lang.proofs.SameNames.{same_is, same_self}
 use Rattle.bw_cover.proofs.Rising.{below_refl, below_nothing}
 
 own_is : (w : List ℕ) (b : Bool) (a : Abstract) → (if b then Some (cell w) else None) ≡ Some a → Below a (cell w)

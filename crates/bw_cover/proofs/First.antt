@@ -14,8 +14,8 @@ use Rattle.bw_cover.specs.Abstracts.{covers, Below}
 use Rattle.bw_cover.specs.Covered.{CoversShared}
 use Rattle.bw_cover.specs.Facts.{Facts, literal_known}
 use Rattle.bw_cover.proofs.Locals.{none_some}
-use Rattle.bw_cover.proofs.Names.{same_self, beside-cons}
-use Rattle.bw_types.proofs.Seek.{same_is}
+use Rattle.bw_cover.proofs.Names.{beside-cons}
+use Rattle.bw_lang.proofs.SameNames.{same_is, same_self}
 use Rattle.bw_cover.proofs.Values.{covers_below}
 use Rattle.bw_cover.proofs.Lookups.{template_given}
 

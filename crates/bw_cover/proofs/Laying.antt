@@ -16,8 +16,8 @@ use Rattle.bw_cover.specs.Abstracts.{EachPair, IsNotLacked, IsPlug}
 use Rattle.bw_cover.specs.Facts.{keeps, Facts, look, Edge, edge, EachLeads, IsPoint, Apart, Laid}
 use Rattle.bw_types.specs.Scopes.{is_among}
 use Rattle.bw_cover.specs.Spots.{Spot, statement, meeting, out, starts, edges, Scoped, Pages, EachPoint, Solves, HasNoGapFault, IsKinded}
-use Rattle.bw_cover.proofs.Names.{same_self, among-added}
-use Rattle.bw_types.proofs.Seek.{same_is}
+use Rattle.bw_cover.proofs.Names.{among-added}
+use Rattle.bw_lang.proofs.SameNames.{same_is, same_self}
 
 -- ---- names that differ
 

@@ -19,8 +19,8 @@ use Rattle.bw_cover.specs.Kinds.{IsOf, GapsAreThere, Agree, LiteralsAreOf}
 use Rattle.bw_cover.specs.Least.{Cells, with_cells, join, join_if, added, joined_local, joined_shared, joined_literals, rounds, IsLeast}
 use Rattle.bw_cover.specs.LeastKinds.{AreKinded, TypedStep, EachTyped}
 use Rattle.bw_cover.specs.Facts.{literal_known}
-use Rattle.bw_cover.proofs.Names.{some_is}
-use Rattle.bw_types.proofs.Seek.{same_is}
+use Rattle.bw_lang.proofs.Options.{some_is}
+use Rattle.bw_lang.proofs.SameNames.{same_is}
 use Rattle.bw_cover.proofs.Checked.{shared_names, typed_at}
 use Rattle.bw_lang.specs.declared.stmt.Kind.TheVariants as kinds
 

@@ -1,5 +1,5 @@
 -- In a typed service each literal has the kind of its variable.
-use Rattle.bw_cover.proofs.Names.{some_is}
+use Rattle.bw_lang.proofs.Options.{some_is}
 use Rattle.std.proofs.Common.{◌≡◌, ℕ, suc, List, [], ◌∷◌, Some, refl, sym, ap, ◌∙◌, subst, arith}
 use Rattle.std.specs.Prelude.{slice_get}
 use Rattle.std.specs.List.{All, AllByRecursion}

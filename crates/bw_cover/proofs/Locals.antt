@@ -16,8 +16,8 @@ use Rattle.bw_cover.specs.Abstracts.{Abstract, Nothing, Strings, Html, covers, B
 use Rattle.bw_cover.specs.Facts.{What, Facts, is_shared, received_by, receives_by, own, left, Leads}
 use Rattle.bw_types.specs.Scopes.{is_among}
 use Rattle.bw_cover.specs.Covered.{CoversLocals, CoversShared}
-use Rattle.bw_cover.proofs.Names.{same_sym, beside-replaced, beside-added, some-replaced}
-use Rattle.bw_types.proofs.Seek.{same_is}
+use Rattle.bw_cover.proofs.Names.{beside-replaced, beside-added, some-replaced}
+use Rattle.bw_lang.proofs.SameNames.{same_is, same_sym}
 use Rattle.bw_cover.proofs.Values.{covers_below}
 
 pub none_some : {A : Type 0} (o : Option A) (v : A) → o ≡ None → o ≡ Some v → ⊥

@@ -1,36 +1,18 @@
 -- Values by their names, where values are stored, added and dropped.
-use Rattle.std.proofs.Common.{map, ◌≡◌, ℕ, Bool, true, false, cond, List, [], ◌∷◌, ◌++◌, Option, Some, None, refl, sym, ap, ◌∙◌, subst}
+use Rattle.std.proofs.Common.{map, ◌≡◌, ℕ, Bool, true, false, cond, List, [], ◌∷◌, ◌++◌, Option, Some, None, refl, sym, ap, ◌∙◌}
 use Rattle.std.specs.Prelude.{◌||◌, not, if◌then◌else◌, option_map, find, is_some}
 use Rattle.std.specs.List.{list_any}
 use Rattle.std.specs.Option.{option_or}
 use Rattle.std.proofs.lemmas.Bool.{false≢true}
 use Rattle.std.proofs.lemmas.List.Folds.{list_any-append}
-use Rattle.std.proofs.lemmas.Slice.Eq.{bytes_eq-Decides}
 use Rattle.bw_lang.specs.Service.Code.{Code, done, declare, assign, if_then, if_else, while_loop, block, for_each, show, exit}
 use Rattle.bw_lang.specs.Table.Names.{same, beside}
 use Rattle.bw_meaning.specs.Statements.{declared}
 use Rattle.bw_meaning.specs.Values.{Value, Values, replaced, without}
 use Rattle.bw_types.specs.Scopes.{is_among}
-use Rattle.bw_types.proofs.Seek.{same_is}
+use Rattle.bw_lang.proofs.SameNames.{same_is, same_sym}
 use Rattle.bw_cover.specs.Facts.{Apart, after}
 use Rattle.std.proofs.Math.Bool.{or-false, or_assoc}
-
--- ---- equal names
-
-pub same_self : (a : List ℕ) → same a a ≡ true
-same_self a = (bytes_eq-Decides a a).1 refl
-
-is_true : (b c : Bool) → (b ≡ true → c ≡ true) → (c ≡ true → b ≡ true) → b ≡ c
-is_true true c f g = sym (f refl)
-is_true false true f g = g refl
-is_true false false f g = refl
-
-pub same_sym : (a b : List ℕ) → same a b ≡ same b a
-same_sym a b = is_true (same a b) (same b a) (λ h. subst (λ x. same x a ≡ true) (same_is a b h) (same_self a))
-    (λ h. subst (λ x. same x b ≡ true) (same_is b a h) (same_self b))
-
-pub some_is : {A : Type 0} (a b : A) → Some a ≡ Some b → a ≡ b
-some_is a b e = cc
 
 -- ---- what stands beside a name
 

@@ -20,7 +20,8 @@ use Rattle.bw_cover.specs.Facts.{keeps, takes, Facts, look, Leads, IsPoint, Apar
 use Rattle.bw_types.specs.Scopes.{is_among}
 use Rattle.bw_cover.specs.Plugs.{Plug, on_unit, on_value, on_end, plugs_in, value_plugs, begin_plugs, turns_plugs, each_plugs}
 use Rattle.bw_cover.specs.Covered.{CoversLocals, CoversInputs}
-use Rattle.bw_cover.proofs.Names.{same_self, beside-without, some-without, among-after, among-inner}
+use Rattle.bw_lang.proofs.SameNames.{same_self}
+use Rattle.bw_cover.proofs.Names.{beside-without, some-without, among-after, among-inner}
 use Rattle.bw_cover.proofs.Values.{open_append, Given, eval_good, covers_below}
 use Rattle.bw_cover.proofs.Lookups.{looks}
 use Rattle.bw_cover.proofs.Locals.{none_some}

@@ -1,5 +1,5 @@
 -- What is found at the show of a number, by the statements, is made of what the flow's show has.
-use Rattle.std.proofs.Common.{◌≡◌, ◌⊎◌, ℕ, ◌+◌, ◌<◌, ◌≤◌, Bool, true, false, List, [], ◌++◌, slice_get, refl, ap, sym, ◌∙◌}
+use Rattle.std.proofs.Common.{◌≡◌, ◌⊎◌, ℕ, ◌+◌, ◌<◌, ◌≤◌, true, false, List, [], ◌++◌, slice_get, refl, ap, sym, ◌∙◌}
 use Rattle.std.proofs.Common.{inl, inr, arith}
 use Rattle.std.specs.Prelude.{◌==◌, if◌then◌else◌}
 use Rattle.std.proofs.lemmas.Bool.{cases_lt, eq-eqb, ne_eqb}
@@ -12,12 +12,12 @@ use Rattle.bw_lang.specs.Service.Code.{Code, done, declare, assign, if_then, if_
 use Rattle.bw_lang.specs.Service.Term.{Term}
 use Rattle.bw_flow.specs.declared.point.Local.{Local}
 use Rattle.bw_flow.specs.declared.point.Received.{Received}
-use Rattle.bw_flow.specs.Flows.{is_join}
+use Rattle.bw_flow.specs.Flows.{is_join, is_show, fields_of}
 use Rattle.bw_flow.specs.Layout.{receives}
 use Rattle.bw_flow.specs.Numbers.{HasNumbers}
 use Rattle.bw_flow.specs.Scopes.{with_local}
 use Rattle.bw_flow.specs.Stands.{IsAt, Lowered}
-use Rattle.bw_flow.specs.Steps.{Act, Step}
+use Rattle.bw_flow.specs.Steps.{Step}
 use Rattle.bw_flow.specs.Steps as acts
 
 -- what isn't the number of one of the statements
@@ -28,23 +28,6 @@ IsOutside k n count = (k < n) ⊎ (n + count ≤ k)
 less : (k n c m d : ℕ) → n ≤ m → m + d ≤ n + c → IsOutside k n c → IsOutside k m d
 less k n c m d a b (inl h) = inl (omega (arith, h, a))
 less k n c m d a b (inr h) = inr (omega (arith, h, b))
-
--- whether a point is a show, and what it receives
-abbrev is_show : Act → Bool
-is_show (acts.shows e rs) = true
-is_show (acts.sets v e) = false
-is_show (acts.tests e) = false
-is_show (acts.goes_over v e) = false
-is_show (acts.exits e) = false
-is_show acts.joins = false
-
-abbrev fields_in : Act → List Received
-fields_in (acts.shows e rs) = rs
-fields_in (acts.sets v e) = []
-fields_in (acts.tests e) = []
-fields_in (acts.goes_over v e) = []
-fields_in (acts.exits e) = []
-fields_in acts.joins = []
 
 -- ---- what is found at the show of a number
 
@@ -153,7 +136,7 @@ module _ {A : Type 0} (f : List Local → List Receive → List A) where
             let one = same_point _ q low.1 refl g in
             record {
               receives_of = rs;
-              fields_are = ap fields_in (sym is) ∙ ap (λ (z : Step). fields_in z.act) one ∙ ap (λ (z : Step). receives service z.scope rs) (sym one);
+              fields_are = ap fields_of (sym is) ∙ ap (λ (z : Step). fields_of z.act) one ∙ ap (λ (z : Step). receives service z.scope rs) (sym one);
               found_is = (λ i. (if eq-eqb n x.number g i then f sc rs else []) ++ at_show rest (n + 1) sc x.number)
                   ∙ first_alone (f sc rs) _ (outside rest (n + 1) sc x.number (inl (omega (arith, g)))) ∙ ap (λ (z : Step). f z.scope rs) (sym one);
             }

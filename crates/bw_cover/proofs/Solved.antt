@@ -18,7 +18,7 @@ use Rattle.bw_cover.specs.Spots.{Spot, statement, meeting, out, edges}
 use Rattle.bw_cover.specs.Least.{Cells, with_cells, join, join_if, same_spot, added, joined_local, joined_shared, joined_literals, rounds, AreBelow}
 use Rattle.bw_cover.specs.Least.{IsLeast, service_edges, LeastObeys}
 use Rattle.bw_cover.specs.Facts.{literal_known}
-use Rattle.bw_cover.proofs.Names.{same_self}
+use Rattle.bw_lang.proofs.SameNames.{same_self}
 use Rattle.bw_cover.proofs.Rising.{below_refl, below_trans, join_left, join_right, received_more, receives_more, known_more}
 
 spot_itself : (p : Spot) → same_spot p p ≡ true

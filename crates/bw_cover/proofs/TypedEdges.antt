@@ -22,8 +22,9 @@ use Rattle.bw_cover.specs.Facts.{What, keeps, sets, brings, takes, Edge, edge}
 use Rattle.bw_cover.specs.Least.{service_edges}
 use Rattle.bw_cover.specs.LeastKinds.{Sees, TypedStep, EachTyped}
 use Rattle.bw_cover.specs.Spots.{Spot, statement, meeting, out, starts, edges}
-use Rattle.bw_cover.proofs.Names.{some_is, beside-cons}
-use Rattle.bw_types.proofs.Seek.{same_is}
+use Rattle.bw_lang.proofs.Options.{some_is}
+use Rattle.bw_cover.proofs.Names.{beside-cons}
+use Rattle.bw_lang.proofs.SameNames.{same_is}
 use Rattle.bw_cover.proofs.Laying.{Distinct, distinct_append, declared_local}
 use Rattle.bw_lang.specs.declared.stmt.Kind.TheVariants as kinds
 

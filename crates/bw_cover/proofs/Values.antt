@@ -1,6 +1,7 @@
 -- The value of an expression is covered by what is known of it, and each of its plugs has an open gap.
 use Rattle.std.proofs.Common.{◌≡◌, ℕ, zero, suc, ◌≤◌, Bool, true, false, List, [], ◌∷◌, ◌++◌, Result, Ok, Err, refl}
 use Rattle.std.specs.Prelude.{◌||◌, not, pos, if◌then◌else◌, option_map, find, map, is_some, nat_lt, length, slice_get, unwrap_or}
+use Rattle.bw_lang.proofs.SameNames.{same_self}
 use Rattle.bw_lang.specs.declared.expr.Fun.{Fun}
 use Rattle.bw_lang.specs.declared.expr.Op.{Op}
 use Rattle.bw_lang.specs.declared.expr.Op.TheVariants.{Or, And, Eq, Ne, Lt, Le, Gt, Ge, Add, Sub, Mul, Div, Rem}
@@ -26,7 +27,6 @@ use Rattle.bw_cover.specs.Abstracts.{Abstract, Nothing, Strings, Html, any, is_g
 use Rattle.bw_cover.specs.Abstracts.{known, known_filled, EachPair, EachFilling, IsNotLacked, IsPlug}
 use Rattle.bw_cover.specs.Plugs.{Plug, on_unit, on_value, plugs_in, plugs_by}
 use Rattle.bw_cover.specs.Covered.{AreOpen}
-use Rattle.bw_cover.proofs.Names.{same_self}
 use Rattle.std.specs.Prelude as std
 use Rattle.bw_lang.specs.declared.expr.Fun.TheVariants as funs
 use Rattle.bw_lang.specs.Document.Documents as doc

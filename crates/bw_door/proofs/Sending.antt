@@ -1,25 +1,6 @@
 -- Writes, and what they leave to be sent.
-use Rattle.std.proofs.Common.{
-  ℕ,
-  ◌+◌,
-  ◌-◌,
-  List,
-  ◌++◌,
-  length,
-  take,
-  drop,
-  Option,
-  None,
-  Some,
-  sym,
-  ap,
-  subst,
-  ◌∙◌,
-  append_assoc,
-  take-append-drop,
-  drop-drop,
-  length-drop,
-}
+use Rattle.std.proofs.Common.{ℕ, ◌+◌, ◌-◌, List, ◌++◌, length, take, drop, Option, None, Some, sym, ap, subst, ◌∙◌, append_assoc, take-append-drop, drop-drop}
+use Rattle.std.proofs.Common.{length-drop}
 use Rattle.std.proofs.Math.Seq.{take-length}
 use Rattle.std.specs.Io.KnownBytes.{Appends, Keeps}
 use Rattle.bw_door.specs.Flows.{sent_to}

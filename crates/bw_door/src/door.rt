@@ -89,6 +89,11 @@ impl<R: Net + Clock + Wait + Copy, W: Settles> PortDoor<R, W> {
         self.error
     }
 
+    /// Whether a client is due, so that `next` hands out its link without waiting for a message.
+    pub fn is_due(&self) -> bool {
+        self.crowd.is_due() && self.crowd.kept() < self.desk.limits.kept
+    }
+
     /// Sends what is left of replies, as their clients take it, and lets nobody in. It is called once no more links are
     /// asked for, and takes no longer than a reply may.
     ///

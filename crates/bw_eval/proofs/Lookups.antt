@@ -1,32 +1,6 @@
 -- Looking names up.
-use Rattle.std.proofs.Common.{
-  ◌≡◌,
-  ℕ,
-  zero,
-  suc,
-  ◌+◌,
-  ◌<◌,
-  ◌≤◌,
-  Bool,
-  true,
-  false,
-  cond,
-  subst,
-  arith,
-  List,
-  [],
-  ◌∷◌,
-  length,
-  get_or,
-  take,
-  map,
-  Option,
-  Some,
-  refl,
-  ap,
-  sym,
-  ◌∙◌,
-}
+use Rattle.std.proofs.Common.{◌≡◌, ℕ, zero, suc, ◌+◌, ◌<◌, ◌≤◌, Bool, true, false, cond, subst, arith, List, [], ◌∷◌, length, get_or, take, map, Option, Some}
+use Rattle.std.proofs.Common.{refl, ap, sym, ◌∙◌}
 use Rattle.std.proofs.lemmas.List.Sums.{sum_by-cons}
 use Rattle.std.specs.Prelude.{find, option_map}
 use Rattle.bw_lang.specs.declared.service.Template.{Template}

@@ -1,15 +1,11 @@
 -- Values that a session of a service may have.
-use Rattle.std.specs.Prelude.{ℕ, ◌≤◌, List, length}
+use Rattle.std.specs.Prelude.{ℕ, List}
 use Rattle.std.specs.List.{All}
 use Rattle.bw_lang.specs.declared.service.Template.{Template}
 use Rattle.bw_doc.specs.Operations.{IsOf}
 use Rattle.bw_eval.specs.declared.value.Value.{Value}
 use Rattle.bw_eval.specs.declared.value.Value.TheVariants.{Int, Bool, Str, Html, Strs}
-use Rattle.bw_lang.specs.declared.limits.TheConstants.{MAX_STRING_BYTES}
-
--- a string has at most 16,384 bytes
-abbrev pub IsShort : List ℕ → Type 0
-IsShort s = length s ≤ MAX_STRING_BYTES
+use Rattle.bw_typed.specs.ShortStrings.{IsShort}
 
 -- a string, and each one of a list, is short, and a document is of the service with these templates
 abbrev pub IsSound : List Template → Value → Type 0

@@ -7,7 +7,8 @@ ghost use Rattle.bw_meaning.specs.Values as meaning;
 ghost use Rattle.std.specs.Prelude.{List};
 ghost use Rattle.bw_eval.specs.Bases.{IsDocument};
 ghost use Rattle.bw_eval.specs.Evaluations.{HasMemory};
-ghost use Rattle.bw_eval.specs.Sound.{IsShort, IsSound};
+ghost use Rattle.bw_eval.specs.Sound.{IsSound};
+ghost use Rattle.bw_typed.specs.ShortStrings.{IsShort};
 ghost use Rattle.bw_eval.specs.View.{document, value, resulted, plugged, turn_fault};
 
 use crate::value::Value;

@@ -6,7 +6,8 @@ ghost use Rattle.bw_meaning.specs.Numbers as spec_numbers;
 ghost use Rattle.bw_meaning.specs.Operators as spec;
 ghost use Rattle.bw_eval.specs.View.{value, resulted};
 ghost use Rattle.bw_eval.specs.Evaluations.{HasMemory};
-ghost use Rattle.bw_eval.specs.Sound.{IsShort, IsSound};
+ghost use Rattle.bw_eval.specs.Sound.{IsSound};
+ghost use Rattle.bw_typed.specs.ShortStrings.{IsShort};
 ghost use Rattle.bw_lang.specs.declared.service.Template.{Template};
 
 use crate::value::Value;

@@ -1,38 +1,6 @@
 -- Sorted lists without doubles.
-use Rattle.std.proofs.Common.{
-  ◌≡◌,
-  ◌⊎◌,
-  inl,
-  inr,
-  ℕ,
-  zero,
-  suc,
-  ◌<◌,
-  ◌≤◌,
-  Bool,
-  true,
-  false,
-  ◌||◌,
-  List,
-  [],
-  ◌∷◌,
-  ◌++◌,
-  length,
-  append_assoc,
-  get_or,
-  Option,
-  Some,
-  None,
-  Ok,
-  Err,
-  refl,
-  sym,
-  ap,
-  ◌∙◌,
-  subst,
-  arith,
-  add-one,
-}
+use Rattle.std.proofs.Common.{◌≡◌, ◌⊎◌, inl, inr, ℕ, zero, suc, ◌<◌, ◌≤◌, Bool, true, false, ◌||◌, List, [], ◌∷◌, ◌++◌, length, append_assoc, get_or, Option}
+use Rattle.std.proofs.Common.{Some, None, Ok, Err, refl, sym, ap, ◌∙◌, subst, arith, add-one}
 use Rattle.std.proofs.Math.Bool.{or-false, or_assoc}
 use Rattle.std.proofs.lemmas.Bool.{false≢true, cases_Bool, or_left}
 use Rattle.std.specs.declared.cmp.Ordering.{Ordering}
@@ -46,7 +14,7 @@ use Rattle.std.specs.List.Sorted.{IsBinarySearchResult, IsSortedBy}
 use Rattle.std.proofs.lemmas.Cmp.{tied_itself, ranked}
 use Rattle.std.proofs.lemmas.List.Sorted.{searchable_from_sorted}
 use Rattle.bw_solve.specs.Sets.{IsSet, has, merge}
-use Rattle.bw_solve.specs.SetLaws.{above_lacks, has_congr, merge_has, merge_set}
+use Rattle.bw_solve.specs.Lawful.SetLaws.{above_lacks, has_congr, merge_has, merge_set}
 use Rattle.bw_solve.proofs.Search.{found}
 use Rattle.bw_faults.specs.declared.fault.Fault.{Fault}
 use Rattle.bw_faults.specs.Order.{group, template_rank, fault_cmp, fault_total}

@@ -1,5 +1,5 @@
 -- The statements of a block, one after the other.
-use Rattle.std.proofs.Common.{◌≡◌, ℕ, ◌+◌, ◌<◌, ◌≤◌, List, [], ◌∷◌, ◌++◌, length, get_or, take, refl, ap, sym, ◌∙◌, arith, Some, None}
+use Rattle.std.proofs.Common.{◌≡◌, ℕ, zero, suc, ◌+◌, ◌<◌, ◌≤◌, List, [], ◌∷◌, ◌++◌, length, get_or, take, refl, ap, sym, ◌∙◌, arith, Some, None}
 use Rattle.std.proofs.lemmas.List.{take_more}
 use denote.Param.Weighed.{at_most}
 use Rattle.bw_lang.specs.declared.stmt.Block.TheDeep.{deep-Stmt}
@@ -43,3 +43,22 @@ points_more xs i x e h = ap points (take_more xs i x h) ∙ joined (take i xs) (
     joined : (l : List Session) (y : Session) → points (l ++ y ∷ []) ≡ points l + count y.body
     joined [] y = omega arith
     joined (z ∷ l) y = omega (arith, joined l y)
+
+-- what was counted so far and the next are within the whole
+count_take : (xs : List Stmt) (i : ℕ) → count (code (take i xs)) ≤ count (code xs)
+count_take [] zero = omega arith
+count_take [] (suc i) = omega arith
+count_take (x ∷ xs) zero = omega arith
+count_take (x ∷ xs) (suc i) = omega (arith, count_before x (code (take i xs)), count_before x (code xs), count_take xs i)
+
+pub count_upto : (xs : List Stmt) (i : ℕ) (x : Stmt) → x ≡ get_or xs i x → i < length xs → count (code (take i xs)) + count (before x done) ≤ count (code xs)
+count_upto xs i x e h = omega (arith, count_more xs i x e h, count_take xs (i + 1))
+
+points_take : (xs : List Session) (i : ℕ) → points (take i xs) ≤ points xs
+points_take [] zero = omega arith
+points_take [] (suc i) = omega arith
+points_take (x ∷ xs) zero = omega arith
+points_take (x ∷ xs) (suc i) = omega (arith, points_take xs i)
+
+pub points_upto : (xs : List Session) (i : ℕ) (x : Session) → x ≡ get_or xs i x → i < length xs → points (take i xs) + count x.body ≤ points xs
+points_upto xs i x e h = omega (arith, points_more xs i x e h, points_take xs (i + 1))

@@ -8,8 +8,9 @@ use Rattle.bw_lang.specs.Service.Code.{Code, done, declare, assign, if_then, if_
 use Rattle.bw_lang.specs.Service.CodeView.{before, code}
 use Rattle.bw_lang.specs.declared.service.Service.{Service}
 use Rattle.bw_flow.specs.declared.point.Local.{Local}
-use Rattle.bw_flow.specs.Layout.{count, enter, after, steps, session_steps, session_firsts}
-use Rattle.bw_flow.specs.Drawing.{Drawn, with_code, with_block, first_of}
+use Rattle.bw_flow.specs.Layout.{count, points, enter, after, step, steps, session_steps, session_firsts}
+use Rattle.bw_flow.specs.Steps.{Act}
+use Rattle.bw_flow.specs.Drawing.{Drawn, with_code, with_block, with_statement, first_of}
 use Rattle.bw_flow.proofs.Layouts.{first_of_is, length_steps, size_before, after_before, steps_before}
 use Rattle.bw_flow.proofs.Codes.{count_before}
 
@@ -140,3 +141,63 @@ goes_next service x y z fs gs xs i out first s e h goes ef ez eg =
           ∙ ap (λ l. y.steps ++ session_steps service l y.number p out) (sym at) ∙ goes.points;
       outside = ap (λ (w : Drawn). w.scope) ez ∙ goes.outside;
     }
+
+-- ---- room for what comes
+
+-- the next statement has room where the whole block has
+pub room_for : (service : Service) (x y : Drawn) (xs : List Stmt) (i d q end most : ℕ) (s : Stmt) → s ≡ get_or xs i s → i < length xs
+    → Comes service x y xs i d q end → end ≤ most → length y.steps + count (before s done) ≤ most
+room_for service x y xs i d q end most s e h comes within =
+    let c = code (drop (i + 1) xs) in omega (arith, within, comes.many, ap count (code_at xs i s e h), count_before s c)
+
+count_drop : (xs : List Stmt) (i : ℕ) → count (code (drop i xs)) ≤ count (code xs)
+count_drop [] zero = omega arith
+count_drop [] (suc i) = omega arith
+count_drop (x ∷ xs) zero = omega arith
+count_drop (x ∷ xs) (suc i) = omega (arith, count_drop xs i, count_before x (code xs))
+
+-- the points only become more
+pub rises : (service : Service) (x y : Drawn) (xs : List Stmt) (i d q end : ℕ) → Comes service x y xs i d q end → end ≡ length x.steps + count (code xs)
+    → length x.steps ≤ length y.steps
+rises service x y xs i d q end comes e = omega (arith, comes.many, e, count_drop xs i)
+
+sessions_length : (service : Service) (ss : List Session) (n p out : ℕ) → length (session_steps service ss n p out) ≡ points ss
+sessions_length service [] n p out = refl
+sessions_length service (s ∷ ss) n p out =
+    let front = steps service s.body n [] 0 p out in
+    let more = session_steps service ss (n + numbered s.body) (p + count s.body) out in
+    omega (
+      arith,
+      length-append front more,
+      length_steps service s.body n [] 0 p out,
+      sessions_length service ss (n + numbered s.body) (p + count s.body) out,
+    )
+
+-- and the next session where all have
+pub session_room : (service : Service) (x y : Drawn) (fs : List ℕ) (xs : List Session) (i out most : ℕ) (s : Session) → s ≡ get_or xs i s → i < length xs
+    → Goes service x y fs xs i out → length x.steps + points xs ≤ most → length y.steps + count s.body ≤ most
+session_room service x y fs xs i out most s e h goes within =
+    let a : suc i ≡ i + 1 = omega arith in
+    let at : drop i xs ≡ s ∷ drop (i + 1) xs = drop-cons xs i s h ∙ (λ j. sym e j ∷ drop (a j) xs) in
+    let left = session_steps service (drop i xs) y.number (length y.steps) out in
+    let all = session_steps service xs x.number (length x.steps) out in
+    omega (
+      arith,
+      within,
+      ap length goes.points,
+      length-append y.steps left,
+      length-append x.steps all,
+      sessions_length service (drop i xs) y.number (length y.steps) out,
+      sessions_length service xs x.number (length x.steps) out,
+      ap points at,
+    )
+
+-- a block adds its points, and so does its head before it
+pub block_length : (service : Service) (x : Drawn) (c : Code) (d q : ℕ) → length (with_block service x c d q).steps ≡ length x.steps + count c
+unfolding with_code
+block_length service x c d q =
+    let new = steps service c x.number x.scope d (length x.steps) q in
+    omega (arith, length-append x.steps new, length_steps service c x.number x.scope d (length x.steps) q)
+
+pub head_length : (x : Drawn) (d : ℕ) (a : Act) (next : List ℕ) → length (with_statement x d a next).steps ≡ length x.steps + 1
+head_length x d a next = length-append x.steps (step x.number x.scope d a next ∷ [])

@@ -15,7 +15,7 @@ use Rattle.bw_lang.specs.Table.Names.{same, beside}
 use Rattle.bw_lang.specs.Service.Order.{declarations_of}
 use Rattle.bw_lang.specs.Service.Sorted.{shared_of}
 use Rattle.bw_lang.specs.Service.Term.{Term, int, truth, string, name, nothing, paren, not, neg, binary, call, plug, Fillings, no_more, filling}
-use Rattle.bw_types.proofs.Seek.{same_is}
+use Rattle.bw_lang.proofs.SameNames.{same_is}
 use Rattle.bw_types.specs.Scopes.{Scope, no_locals, name_of, declared_names, shared_kind, variable_kind, template_kind, name_kind, with_local}
 use Rattle.bw_types.specs.Typing.{HasKind, AreTyped, IsNew, IsTypedService}
 use Rattle.bw_flow.proofs.Parts.{either}

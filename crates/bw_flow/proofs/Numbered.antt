@@ -7,10 +7,10 @@ use Rattle.bw_lang.specs.Service.Code.{Code, done, declare, assign, if_then, if_
 use Rattle.bw_lang.specs.declared.service.Service.{Service}
 use Rattle.bw_flow.proofs.Parts.{either}
 use Rattle.bw_flow.specs.declared.point.Local.{Local}
-use Rattle.bw_flow.specs.Flows.{is_join}
+use Rattle.bw_flow.specs.Flows.{is_join, is_show}
 use Rattle.bw_flow.specs.Layout.{count, enter, step, steps, points, session_steps}
 use Rattle.bw_flow.specs.Scopes.{with_local}
-use Rattle.bw_flow.specs.Steps.{joins, Step}
+use Rattle.bw_flow.specs.Steps.{Act, sets, tests, goes_over, shows, exits, joins, Step}
 use Rattle.bw_flow.specs.Numbers.{numbers_of, numbers_from, StatementsInOrder, AllHaveNumbers}
 use Rattle.bw_flow.proofs.Parts.{sizes, sizes_are}
 
@@ -140,6 +140,15 @@ same_place (z ∷ xs) n k (suc p) (suc q) x y h a b i j e =
         is_join y.act ≡ false → x.number ≡ y.number → p ≡ q) → p ≡ q
     by (inl service) skip past = skip (sym (numbers_skip z xs service) ∙ h) a b i j e
     by (inr service) skip past = let r = first_taken z xs n k h service in past r.0 r.2 a b i j e
+
+-- a show is no place where the branches of an `if` meet
+pub no_join : (a : Act) → is_show a ≡ true → is_join a ≡ false
+no_join (sets w e) h = refl
+no_join (tests e) h = refl
+no_join (goes_over w e) h = refl
+no_join (shows e rs) h = refl
+no_join (exits e) h = refl
+no_join joins h = cc
 
 pub all_have_numbers : AllHaveNumbers
 all_have_numbers service p q x y a b i j e =

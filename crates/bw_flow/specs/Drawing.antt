@@ -38,6 +38,6 @@ abbrev pub with_block : Service → Drawn → Code → ℕ → ℕ → Drawn
 with_block service d c inside q = record (with_code service d c inside q) { scope = d.scope }
 
 -- the place where something of so many points from place p on begins, with q behind it
-abbrev pub first_of : ℕ → ℕ → ℕ → ℕ
+abbrev pub first_of : (points place behind : ℕ) → ℕ
 first_of zero p q = q
 first_of (suc n) p q = p

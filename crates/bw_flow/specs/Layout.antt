@@ -70,7 +70,7 @@ step n scope d act next = record { number = n; scope = scope; inside = d; act = 
 
 -- The points of statements, from place p on, of which the first has number n, this scope in front of it and d foreachs
 -- around it. At the end they lead to place q.
-abbrev pub steps : Service → Code → ℕ → List Local → ℕ → ℕ → ℕ → List Step
+abbrev pub steps : Service → Code → (number : ℕ) → (scope : List Local) → (around place next : ℕ) → List Step
 steps service done n scope d p q = []
 steps service (declare k w e rest) n scope d p q =
     step n scope d (sets w e) (enter rest (p + 1) q ∷ []) ∷ steps service rest (n + 1) (with_local scope w k) d (p + 1) q
@@ -105,7 +105,7 @@ steps service (exit e rest) n scope d p q = step n scope d (exits e) [] ∷ step
 
 -- The points of sessions, from place p on, the first of number n. A body ends in `exit`; what would follow behind its end
 -- is the place `out`, at which no point stands.
-abbrev pub session_steps : Service → List Session → ℕ → ℕ → ℕ → List Step
+abbrev pub session_steps : Service → List Session → (number place out : ℕ) → List Step
 session_steps service [] n p out = []
 session_steps service (s ∷ ss) n p out = steps service s.body n [] 0 p out ++ session_steps service ss (n + numbered s.body) (p + count s.body) out
 

@@ -30,7 +30,7 @@ abbrev pub AllHaveNumbers : Type 0
 AllHaveNumbers = (service : Service) → HasNumbers (plan_of service).steps
 
 -- at this place stands the point of statement k, which is one of so many
-abbrev pub IsFound : List Step → ℕ → ℕ → ℕ → Type 0
+abbrev pub IsFound : (flow : List Step) → (number count place : ℕ) → Type 0
 IsFound flow k count p = (x : Step) × IsAt flow p x × (x.number ≡ k) × (is_join x.act ≡ false) × (1 ≤ k) × (k ≤ count)
 
 -- the place that `find` answers for a statement's number: its point's, for each number that a statement has

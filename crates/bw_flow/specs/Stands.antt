@@ -15,7 +15,7 @@ IsAt flow p x = slice_get flow p ≡ Some x
 
 -- The flow stands for the statements, of which the first has number n, this scope in front of it and d foreachs around
 -- it, from place p to place q. It says nothing of how the places are chosen.
-abbrev pub Lowered : Service → List Step → Code → ℕ → List Local → ℕ → ℕ → ℕ → Type 0
+abbrev pub Lowered : Service → (flow : List Step) → Code → (number : ℕ) → (scope : List Local) → (around place next : ℕ) → Type 0
 Lowered service flow done n scope d p q = p ≡ q
 Lowered service flow (declare k w e rest) n scope d p q =
     (r : ℕ) × IsAt flow p (step n scope d (sets w e) (r ∷ [])) × Lowered service flow rest (n + 1) (with_local scope w k) d r q

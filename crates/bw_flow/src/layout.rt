@@ -1,11 +1,12 @@
 //! The points of sessions, blocks and statements, one behind the other.
-ghost use Rattle.std.specs.Prelude.{◌≡◌, ◌++◌, IfOk, OnOk, [], length};
+ghost use Rattle.std.specs.Prelude.{◌≡◌, ◌+◌, ◌≤◌, ◌++◌, IfOk, OnOk, [], length};
 ghost use Rattle.bw_lang.specs.Service.Code.{done};
 ghost use Rattle.bw_lang.specs.Service.CodeView.{before};
-ghost use Rattle.bw_flow.specs.Layout.{session_firsts, session_steps};
+ghost use Rattle.bw_flow.specs.Layout.{count, points, session_firsts, session_steps};
 ghost use Rattle.bw_flow.specs.Drawing.{with_code, with_block};
+ghost use Rattle.bw_flow.specs.declared.lowering.TheConstants.{MAX_POINTS};
 
-use crate::counting::{begins, block_points, stmt_points, sum};
+use crate::counting::{begins, block_points, stmt_points};
 use crate::draft::Draft;
 use crate::point::PointId;
 use bw_lang::{Block, Memory, Session, Stmt};
@@ -20,14 +21,15 @@ impl Draft {
         sessions: &[Session],
         out: PointId,
     ) -> Result<Vec<PointId>, Memory>
-        requires { self.old.scope ≡ [] }
+        requires scope { self.old.scope ≡ [] }
+        requires room { length self.old.steps + points sessions.now ≤ MAX_POINTS }
         ensures firsts { IfOk result (λ f. f.items ≡ session_firsts sessions.now (length self.old.steps) out) }
         ensures steps { OnOk result (self.new.steps ≡ self.old.steps
             ++ session_steps typed.now.service sessions.now self.old.number (length self.old.steps) out) }
     {
         let mut firsts = Vec::new(self.alloc());
         for session in sessions {
-            let first = begins(block_points(&session.body)?, self.len(), out);
+            let first = begins(block_points(&session.body), self.len(), out);
             self.block(typed, &session.body, 0, out)?;
             firsts.push(first)?;
         }
@@ -44,12 +46,14 @@ impl Draft {
         inside: u32,
         next: PointId,
     ) -> Result<(), Memory>
+        requires room { length self.old.steps + count block.now ≤ MAX_POINTS }
+        requires inside { inside ≤ length self.old.steps }
         ensures { OnOk result (self.new ≡ with_block typed.now.service self.old block.now inside next) }
     {
         let depth = self.depth();
-        let end = sum(self.len(), block_points(block)?)?;
+        let end = self.len() + block_points(block);
         for stmt in block.as_slice() {
-            let behind = sum(self.len(), stmt_points(stmt)?)?;
+            let behind = self.len() + stmt_points(stmt);
             let later = end.saturating_sub(behind);
             self.statement(typed, stmt, inside, begins(later, behind, next))?;
         }
@@ -66,6 +70,8 @@ impl Draft {
         inside: u32,
         next: PointId,
     ) -> Result<(), Memory>
+        requires room { length self.old.steps + count (before stmt.now done) ≤ MAX_POINTS }
+        requires inside { inside ≤ length self.old.steps }
         ensures { OnOk result (self.new ≡ with_code typed.now.service self.old (before stmt.now done) inside next) }
     {
         match stmt {

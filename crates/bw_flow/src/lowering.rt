@@ -7,6 +7,7 @@ ghost use Rattle.bw_flow.specs.declared.lowering.TheConstants.{MAX_POINTS};
 use crate::counting::session_points;
 use crate::draft::Draft;
 use crate::flow::Flow;
+use crate::laws::points_are_few;
 use crate::point::PointId;
 use bw_lang::Memory;
 use bw_types::Typed;
@@ -40,8 +41,9 @@ pub fn lower(alloc: Global, typed: &Typed) -> Result<Flow, FlowFault>
     ensures ok { IfOk result (λ f. (f ≡ plan_of typed.now.service) × points typed.now.service.sessions ≤ MAX_POINTS) }
     ensures fault { IfErr result (λ e. IsFlowFault e (points typed.now.service.sessions)) }
 {
+    points_are_few();
     let sessions = typed.service().sessions.as_slice();
-    let total = session_points(sessions)?;
+    let total = session_points(sessions);
     if total > MAX_POINTS {
         return Err(FlowFault::TooMany(total as u64));
     }

@@ -1,14 +1,15 @@
 //! The points of each sort of statement.
-ghost use Rattle.std.specs.Prelude.{◌≡◌, ◌+◌, IfOk, OnOk, [], ◌∷◌, length};
+ghost use Rattle.std.specs.Prelude.{◌≡◌, ◌+◌, ◌<◌, ◌≤◌, IfOk, OnOk, [], ◌∷◌, length};
 ghost use Rattle.bw_lang.specs.Service.TermView.{term};
 ghost use Rattle.bw_lang.specs.declared.stmt.Kind.TheVariants.{Str};
 ghost use Rattle.bw_flow.specs.Scopes.{target_kind, with_local};
 ghost use Rattle.bw_flow.specs.Steps.{sets, tests, goes_over, shows, exits};
 ghost use Rattle.bw_flow.specs.Layout.{count, receives, received};
 ghost use Rattle.bw_flow.specs.Drawing.{with_statement, first_of};
+ghost use Rattle.bw_flow.specs.declared.lowering.TheConstants.{MAX_POINTS};
 
-use crate::counting::{begins, block_points, sum};
-use crate::draft::{Draft, number_behind};
+use crate::counting::{begins, block_points};
+use crate::draft::Draft;
 use crate::point::{PointId, PointIds, Received, Receiveds, What};
 use bw_lang::{Block, Expr, Kind, Memory, Name, Receive, Receives};
 use bw_types::Typed;
@@ -37,6 +38,7 @@ impl Draft {
         inside: u32,
         next: PointId,
     ) -> Result<(), Memory>
+        requires { length self.old.steps < MAX_POINTS }
         ensures { OnOk result (self.new ≡ record (with_statement self.old inside (sets name.now (term value.now)) (next ∷ []))
             { scope = with_local self.old.scope name.now kind }) }
     {
@@ -52,6 +54,7 @@ impl Draft {
         inside: u32,
         next: PointId,
     ) -> Result<(), Memory>
+        requires { length self.old.steps < MAX_POINTS }
         ensures { OnOk result (self.new ≡ with_statement self.old inside (sets name.now (term value.now)) (next ∷ [])) }
     {
         let what = What::Assign {
@@ -63,15 +66,16 @@ impl Draft {
 
     /// The point of the test of an `if` without else.
     pub fn if_head(&mut self, test: &Expr, yes: &Block, inside: u32) -> Result<Fork, Memory>
+        requires { length self.old.steps + 2 + count yes.now ≤ MAX_POINTS }
         ensures number { IfOk result (λ f. f.number ≡ self.old.number) }
         ensures join { IfOk result (λ f. f.join ≡ length self.old.steps + 1 + count yes.now) }
         ensures point { IfOk result (λ f. self.new ≡ with_statement self.old inside (tests (term test.now))
             (first_of (count yes.now) (length self.old.steps + 1) f.join ∷ f.join ∷ [])) }
     {
         let number = self.number();
-        let one = sum(self.len(), 1)?;
-        let points = block_points(yes)?;
-        let join = PointId::of(sum(one, points)?);
+        let one = self.len() + 1;
+        let points = block_points(yes);
+        let join = PointId::of(one + points);
         let next = PointIds::two(self.alloc(), begins(points, one, join), join)?;
         self.push(inside, What::Test { test: test.copy()? }, next)?;
         Ok(Fork { number, join })
@@ -85,17 +89,18 @@ impl Draft {
         no: &Block,
         inside: u32,
     ) -> Result<Fork, Memory>
+        requires { length self.old.steps + 2 + count yes.now + count no.now ≤ MAX_POINTS }
         ensures number { IfOk result (λ f. f.number ≡ self.old.number) }
         ensures join { IfOk result (λ f. f.join ≡ length self.old.steps + 1 + count yes.now + count no.now) }
         ensures point { IfOk result (λ f. self.new ≡ with_statement self.old inside (tests (term test.now))
             (first_of (count yes.now) (length self.old.steps + 1) f.join ∷ first_of (count no.now) (length self.old.steps + 1 + count yes.now) f.join ∷ [])) }
     {
         let number = self.number();
-        let one = sum(self.len(), 1)?;
-        let yes = block_points(yes)?;
-        let other = sum(one, yes)?;
-        let no = block_points(no)?;
-        let join = PointId::of(sum(other, no)?);
+        let one = self.len() + 1;
+        let yes = block_points(yes);
+        let other = one + yes;
+        let no = block_points(no);
+        let join = PointId::of(other + no);
         let next = PointIds::two(
             self.alloc(),
             begins(yes, one, join),
@@ -113,6 +118,7 @@ impl Draft {
         inside: u32,
         next: PointId,
     ) -> Result<PointId, Memory>
+        requires { length self.old.steps + 1 + count body.now ≤ MAX_POINTS }
         ensures head { IfOk result (λ h. h ≡ length self.old.steps) }
         ensures point { OnOk result (self.new ≡ with_statement self.old inside (tests (term test.now))
             (first_of (count body.now) (length self.old.steps + 1) (length self.old.steps) ∷ next ∷ [])) }
@@ -132,6 +138,8 @@ impl Draft {
         inside: u32,
         next: PointId,
     ) -> Result<Foreach, Memory>
+        requires room { length self.old.steps + 1 + count body.now ≤ MAX_POINTS }
+        requires inside { inside ≤ length self.old.steps }
         ensures head { IfOk result (λ r. r.head ≡ length self.old.steps) }
         ensures inside { IfOk result (λ r. r.inside ≡ inside + 1) }
         ensures point { OnOk result (self.new ≡ record (with_statement self.old inside (goes_over name.now (term value.now))
@@ -145,16 +153,19 @@ impl Draft {
         };
         self.push(inside, each, next)?;
         self.declare(name, Kind::Str)?;
-        let inside = number_behind(inside)?;
-        Ok(Foreach { head, inside })
+        Ok(Foreach {
+            head,
+            inside: inside + 1,
+        })
     }
 
     /// Where the next point leads if it is the head of a loop: into its body, whose end leads back to it, or past it.
     fn into_or_past(&self, body: &Block, next: PointId) -> Result<PointIds, Memory>
+        requires { length self.now.steps + 1 + count body.now ≤ MAX_POINTS }
         ensures { IfOk result (λ p. p ≡ first_of (count body.now) (length self.now.steps + 1) (length self.now.steps) ∷ next ∷ []) }
     {
         let head = self.len();
-        let first = begins(block_points(body)?, sum(head, 1)?, PointId::of(head));
+        let first = begins(block_points(body), head + 1, PointId::of(head));
         PointIds::two(self.alloc(), first, next)
     }
 
@@ -167,6 +178,7 @@ impl Draft {
         inside: u32,
         next: PointId,
     ) -> Result<(), Memory>
+        requires { length self.old.steps < MAX_POINTS }
         ensures { OnOk result (self.new ≡ with_statement self.old inside (shows (term page.now) (receives typed.now.service self.old.scope list.now))
             (next ∷ [])) }
     {
@@ -179,6 +191,7 @@ impl Draft {
 
     /// The point of an exit.
     pub fn exit(&mut self, page: &Expr, inside: u32) -> Result<(), Memory>
+        requires { length self.old.steps < MAX_POINTS }
         ensures { OnOk result (self.new ≡ with_statement self.old inside (exits (term page.now)) []) }
     {
         let next = PointIds::none(self.alloc());

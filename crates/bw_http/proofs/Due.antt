@@ -6,20 +6,8 @@ use Rattle.std.proofs.lemmas.Str.{IsUtf8-from_ascii}
 use Rattle.std.proofs.lemmas.Str.Ascii.{IsAscii-nil, IsAscii-cons}
 use Rattle.httparse.proofs.GrammarLemmas.{request_unique}
 use Rattle.bw_http.specs.declared.request.ReadOutcome.{ReadOutcome}
-use Rattle.bw_http.specs.declared.request.ReadOutcome.TheVariants.{
-  End,
-  BadHead,
-  Truncated,
-  HeadTooLong,
-  NoHost,
-  Coding,
-  BadLength,
-  LengthRequired,
-  BodyTooLong,
-  Media,
-  ReadFault,
-  Memory,
-}
+use Rattle.bw_http.specs.declared.request.ReadOutcome.TheVariants.{End, BadHead, Truncated, HeadTooLong, NoHost, Coding, BadLength, LengthRequired, BodyTooLong}
+use Rattle.bw_http.specs.declared.request.ReadOutcome.TheVariants.{Media, ReadFault, Memory}
 use Rattle.bw_http.specs.declared.decide.Decision.TheVariants.{Body}
 use Rattle.bw_http.specs.declared.request.Request.{Request}
 use Rattle.bw_http.specs.Heads.{line_count, BeginsWith, IsTooLong}

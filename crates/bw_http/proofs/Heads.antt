@@ -1,34 +1,6 @@
 -- Heads within the limits: their lines, and a head at the front of more bytes.
-use Rattle.std.proofs.Common.{
-  ◌≡◌,
-  ◌≢◌,
-  ℕ,
-  ◌+◌,
-  ◌-◌,
-  ◌≤◌,
-  Bool,
-  true,
-  false,
-  cond,
-  List,
-  [],
-  ◌∷◌,
-  ◌++◌,
-  length,
-  take,
-  drop,
-  refl,
-  sym,
-  ap,
-  ◌∙◌,
-  subst,
-  suc,
-  arith,
-  append_assoc,
-  append-nil,
-  codes,
-  IsTrue,
-}
+use Rattle.std.proofs.Common.{◌≡◌, ◌≢◌, ℕ, ◌+◌, ◌-◌, ◌≤◌, Bool, true, false, cond, List, [], ◌∷◌, ◌++◌, length, take, drop, refl, sym, ap, ◌∙◌, subst, suc}
+use Rattle.std.proofs.Common.{arith, append_assoc, append-nil, codes, IsTrue}
 use Rattle.std.proofs.lemmas.List.{drop_at, take-append-drop, length-take-le, length-take, length-map}
 use Rattle.std.proofs.lemmas.List.Elements.{All-head, All-tail}
 use Rattle.std.proofs.lemmas.List.Sums.{sum_by-append}
@@ -36,27 +8,8 @@ use Rattle.std.proofs.Math.Seq.{take-append-add}
 use Rattle.std.proofs.lemmas.Bool.{false≢true, ne_eqb}
 use Rattle.std.specs.List.{count_by, prefix_len, flat_map}
 use Rattle.std.specs.Prelude.{All}
-use Rattle.httparse.specs.Grammar.{
-  is_token_byte,
-  is_uri_byte,
-  is_value_byte,
-  AllPass,
-  LineEnd,
-  crlf,
-  lf,
-  print_end,
-  print_blank,
-  print_version,
-  Field,
-  print_field,
-  print_section,
-  IsField,
-  RequestHead,
-  IsRequestHead,
-  print_request,
-  ReadsRequest,
-  NeverHasRequest,
-}
+use Rattle.httparse.specs.Grammar.{is_token_byte, is_uri_byte, is_value_byte, AllPass, LineEnd, crlf, lf, print_end, print_blank, print_version, Field}
+use Rattle.httparse.specs.Grammar.{print_field, print_section, IsField, RequestHead, IsRequestHead, print_request, ReadsRequest, NeverHasRequest}
 use Rattle.httparse.specs.Pieces.{is_newline, Stops}
 use Rattle.httparse.specs.Spans.{IsRequestWithin, IsRequestOf, header_bytes, name_and_value}
 use Rattle.httparse.specs.declared.spans.HeaderSpan.{HeaderSpan}

@@ -1,46 +1,6 @@
 -- The digits of numbers and keys, and where a path is cut.
-use Rattle.std.proofs.Common.{
-  ◌≡◌,
-  ◌≢◌,
-  ℕ,
-  zero,
-  suc,
-  ◌+◌,
-  ◌*◌,
-  ◌/◌,
-  ◌%◌,
-  ◌^◌,
-  ◌<◌,
-  Bool,
-  true,
-  false,
-  List,
-  [],
-  ◌∷◌,
-  ◌++◌,
-  length,
-  take,
-  drop,
-  get_or,
-  refl,
-  sym,
-  ap,
-  ◌∙◌,
-  subst,
-  arith,
-  codes,
-  decimal,
-  ◌&&◌,
-  slice_index,
-  Result,
-  Ok,
-  Err,
-  Option,
-  Some,
-  None,
-  MatchOption,
-  Bor,
-}
+use Rattle.std.proofs.Common.{◌≡◌, ◌≢◌, ℕ, zero, suc, ◌+◌, ◌*◌, ◌/◌, ◌%◌, ◌^◌, ◌<◌, Bool, true, false, List, [], ◌∷◌, ◌++◌, length, take, drop, get_or, refl}
+use Rattle.std.proofs.Common.{sym, ap, ◌∙◌, subst, arith, codes, decimal, ◌&&◌, slice_index, Result, Ok, Err, Option, Some, None, MatchOption, Bor}
 use Rattle.std.proofs.lemmas.List.{nil_from_length, take_more, take_all, length-take-le, length-append, append_cancel_left}
 use Rattle.std.proofs.lemmas.List.Folds.{list_all-append}
 use Rattle.std.proofs.lemmas.List.Sums.{AllPass-from_list_all}

@@ -5,20 +5,8 @@ use Rattle.std.proofs.lemmas.Bool.Decides.{nat_tests}
 use Rattle.httparse.specs.Grammar.{RequestHead}
 use Rattle.httparse.specs.Spans.{name_and_value}
 use Rattle.bw_http.specs.declared.request.ReadOutcome.{ReadOutcome}
-use Rattle.bw_http.specs.declared.request.ReadOutcome.TheVariants.{
-  End,
-  BadHead,
-  Truncated,
-  HeadTooLong,
-  NoHost,
-  Coding,
-  BadLength,
-  LengthRequired,
-  BodyTooLong,
-  Media,
-  ReadFault,
-  Memory,
-}
+use Rattle.bw_http.specs.declared.request.ReadOutcome.TheVariants.{End, BadHead, Truncated, HeadTooLong, NoHost, Coding, BadLength, LengthRequired, BodyTooLong}
+use Rattle.bw_http.specs.declared.request.ReadOutcome.TheVariants.{Media, ReadFault, Memory}
 use Rattle.bw_http.specs.declared.decide.Decision.{Decision}
 use Rattle.bw_http.specs.declared.decide.Decision.TheVariants.{Refused, Body}
 use Rattle.bw_http.specs.declared.request.Method.{Method}

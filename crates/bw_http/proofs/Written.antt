@@ -1,32 +1,6 @@
 -- The bytes of replies, piece by piece.
-use Rattle.std.proofs.Common.{
-  ◌≡◌,
-  ℕ,
-  zero,
-  suc,
-  ◌+◌,
-  ◌<◌,
-  Bool,
-  true,
-  false,
-  cond,
-  not,
-  List,
-  [],
-  ◌∷◌,
-  ◌++◌,
-  length,
-  map,
-  take,
-  drop,
-  refl,
-  sym,
-  ap,
-  ◌∙◌,
-  arith,
-  codes,
-  append_assoc,
-}
+use Rattle.std.proofs.Common.{◌≡◌, ℕ, zero, suc, ◌+◌, ◌<◌, Bool, true, false, cond, not, List, [], ◌∷◌, ◌++◌, length, map, take, drop, refl, sym, ap, ◌∙◌}
+use Rattle.std.proofs.Common.{arith, codes, append_assoc}
 use Rattle.std.proofs.lemmas.List.{length-append, length-map}
 use Rattle.std.proofs.lemmas.Bool.Decides.{nat_tests}
 use Rattle.std.specs.List.{position_or_len}

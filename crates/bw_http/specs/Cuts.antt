@@ -4,20 +4,8 @@ use Rattle.std.specs.declared.option.Option.{Option}
 use Rattle.httparse.specs.Grammar.{RequestHead, NeverHasRequest}
 use Rattle.bw_http.specs.declared.request.Request.{Request}
 use Rattle.bw_http.specs.declared.request.ReadOutcome.{ReadOutcome}
-use Rattle.bw_http.specs.declared.request.ReadOutcome.TheVariants.{
-  End,
-  BadHead,
-  Truncated,
-  HeadTooLong,
-  NoHost,
-  Coding,
-  BadLength,
-  LengthRequired,
-  BodyTooLong,
-  Media,
-  ReadFault,
-  Memory,
-}
+use Rattle.bw_http.specs.declared.request.ReadOutcome.TheVariants.{End, BadHead, Truncated, HeadTooLong, NoHost, Coding, BadLength, LengthRequired, BodyTooLong}
+use Rattle.bw_http.specs.declared.request.ReadOutcome.TheVariants.{Media, ReadFault, Memory}
 use Rattle.bw_http.specs.Heads.{IsTooLong}
 use Rattle.bw_http.specs.Messages.{IsMessage, IsDenied, IsShort, IsRequest}
 

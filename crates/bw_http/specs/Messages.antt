@@ -6,20 +6,8 @@ use Rattle.httparse.specs.Grammar.{RequestHead, print_request, NeverHasRequest}
 use Rattle.httparse.specs.Spans.{IsWithin, span_bytes}
 use Rattle.bw_http.specs.declared.request.Request.{Request}
 use Rattle.bw_http.specs.declared.request.ReadOutcome.{ReadOutcome}
-use Rattle.bw_http.specs.declared.request.ReadOutcome.TheVariants.{
-  End,
-  BadHead,
-  Truncated,
-  HeadTooLong,
-  NoHost,
-  Coding,
-  BadLength,
-  LengthRequired,
-  BodyTooLong,
-  Media,
-  ReadFault,
-  Memory,
-}
+use Rattle.bw_http.specs.declared.request.ReadOutcome.TheVariants.{End, BadHead, Truncated, HeadTooLong, NoHost, Coding, BadLength, LengthRequired, BodyTooLong}
+use Rattle.bw_http.specs.declared.request.ReadOutcome.TheVariants.{Media, ReadFault, Memory}
 use Rattle.bw_http.specs.declared.decide.Decision.TheVariants.{Refused, Body}
 use Rattle.bw_http.specs.declared.reading.Parts.{Parts}
 use Rattle.bw_http.specs.declared.reading.Lack.{Lack}

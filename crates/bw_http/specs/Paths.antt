@@ -1,30 +1,6 @@
 -- Targets, and the paths that they lead to.
-use Rattle.std.specs.Prelude.{
-  ◌≡◌,
-  ◌≢◌,
-  ℕ,
-  ◌/◌,
-  ◌%◌,
-  ◌^◌,
-  ◌<◌,
-  ◌≤◌,
-  zero,
-  suc,
-  Bool,
-  ◌==◌,
-  ◌||◌,
-  cond,
-  List,
-  [],
-  ◌∷◌,
-  ◌++◌,
-  length,
-  take,
-  drop,
-  codes,
-  decimal,
-  ⊤,
-}
+use Rattle.std.specs.Prelude.{◌≡◌, ◌≢◌, ℕ, ◌/◌, ◌%◌, ◌^◌, ◌<◌, ◌≤◌, zero, suc, Bool, ◌==◌, ◌||◌, cond, List, [], ◌∷◌, ◌++◌, length, take, drop, codes, decimal}
+use Rattle.std.specs.Prelude.{⊤}
 use Rattle.std.specs.List.{position_or_len}
 use Rattle.std.specs.Str.{byte}
 use Rattle.std.specs.Char.{digit_char}
@@ -98,7 +74,7 @@ abbrev pub is_key_digit : ℕ → Bool
 is_key_digit b = is_digit b || is_between (byte "a") (byte "f") b
 
 -- the bytes spell the turn of this number, key and turn, and those of no turn
-abbrev pub SpellsTurn : List ℕ → ℕ → ℕ → ℕ → Type 0
+abbrev pub SpellsTurn : (bytes : List ℕ) → (number key turn : ℕ) → Type 0
 SpellsTurn bytes number key turn = IsPath bytes (Turn number key turn)
 
 abbrev pub SpellsNoTurn : List ℕ → Type 0

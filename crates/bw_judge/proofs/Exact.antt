@@ -12,7 +12,7 @@ use Rattle.bw_sum.specs.Graph.{Graph}
 use Rattle.bw_shape.specs.Shape.{Reached, Top, Gives, tagged, wordy}
 use Rattle.bw_shape.specs.Columns.{AreKnown, top_column}
 use Rattle.bw_shape.specs.Nodes.Templates.{template_at}
-use Rattle.bw_schema.specs.Words.{is_blank}
+use Rattle.bw_lang.specs.Text.Bytes.{is_blank_text}
 use Rattle.bw_shape.specs.Tests.{gives, tag_column}
 use Rattle.bw_shape.proofs.Nodes.Bools.{and_parts, and_both, not_true}
 use Rattle.bw_shape.proofs.Links.{led_sound, named}
@@ -32,8 +32,8 @@ top_by : {nodes : List Node} {G : Graph} (fits : Fits nodes G) (tags : List (Lis
     → gives tags (node_at nodes n) known c t ≡ true → TopOf tags c
 unfolding TopOf
 top_by fits tags n c known k none h = absurd (false≢true h)
-top_by fits tags n c known k (text s r) h = elim (or_cases ((0 == c) && not (is_blank s)) _ h) [
-  | inl it ↦ (wordy, eqb-true 0 c (and_parts (0 == c) (not (is_blank s)) it).0)
+top_by fits tags n c known k (text s r) h = elim (or_cases ((0 == c) && not (is_blank_text s)) _ h) [
+  | inl it ↦ (wordy, eqb-true 0 c (and_parts (0 == c) (not (is_blank_text s)) it).0)
   | inr it ↦ top_by fits tags n c known k r it
 ]
 top_by {nodes = nodes} fits tags n c known k (gap g r) h =

@@ -9,7 +9,8 @@ use Rattle.bw_lang.specs.Document.Forest.{Forest, none, text, gap, element}
 use Rattle.bw_lang.specs.Document.Documents.{append}
 use Rattle.bw_lang.specs.Table.Names.{same}
 use Rattle.bw_schema.specs.declared.rules.Rule.{Rule}
-use Rattle.bw_schema.specs.Words.{is_among, is_blank}
+use Rattle.bw_lang.specs.Text.Bytes.{is_blank_text}
+use Rattle.bw_schema.specs.Words.{is_among}
 use Rattle.bw_schema.specs.Rules.{allows, permits, rule_of}
 use Rattle.bw_schema.specs.Validity.{on_fixed, each_fixed, is_fixed, has_fixed, each_child, each_text, holds, Obeys, Follows, EveryElement, is_bare, is_rooted}
 use Rattle.bw_schema.proofs.ValidLaws.{valid_closed}
@@ -92,13 +93,13 @@ child_by p (said l r) h = child_by p r (λ x k. h x (shape.after_gap k))
 child_by p (led {d = d} {e = e} l i r) h = child_append p e d (child_by p i (λ x k. h x (shape.led l k))) (child_by p r (λ x k. h x (shape.after_gap k)))
 
 pub text_by : {templates : ℕ → Forest} {G : Graph} {n : ℕ} {t d : Forest} → Fills templates G n t d
-    → (Gives templates G n t wordy → ⊥) → each_text is_blank d ≡ true
+    → (Gives templates G n t wordy → ⊥) → each_text is_blank_text d ≡ true
 text_by end h = refl
-text_by (words {s = s} r) h = and_both _ _ (sure (is_blank s) (λ e. h (shape.text_here e))) (text_by r (λ k. h (shape.after_text k)))
+text_by (words {s = s} r) h = and_both _ _ (sure (is_blank_text s) (λ e. h (shape.text_here e))) (text_by r (λ k. h (shape.after_text k)))
 text_by (inside q i r) h = text_by r (λ k. h (shape.after_element k))
 text_by (left l r) h = text_by r (λ k. h (shape.after_gap k))
-text_by (said {s = s} l r) h = and_both _ _ (sure (is_blank s) (λ e. h (shape.said l e))) (text_by r (λ k. h (shape.after_gap k)))
-text_by (led {d = d} {e = e} l i r) h = text_append is_blank e d (text_by i (λ k. h (shape.led l k))) (text_by r (λ k. h (shape.after_gap k)))
+text_by (said {s = s} l r) h = and_both _ _ (sure (is_blank_text s) (λ e. h (shape.said l e))) (text_by r (λ k. h (shape.after_gap k)))
+text_by (led {d = d} {e = e} l i r) h = text_append is_blank_text e d (text_by i (λ k. h (shape.led l k))) (text_by r (λ k. h (shape.after_gap k)))
 
 -- nothing that an element of template n may break
 abbrev Unbroken : (ℕ → Forest) → Graph → List Rule → ℕ → List ℕ → List Attr → Forest → Type 0

@@ -75,7 +75,7 @@ pub data Breaks (templates : ℕ → Forest) (G : Graph) (n : ℕ) (r : Rule) (t
   need : (Sure templates G n attrs inner true r.needs → ⊥) → Breaks templates G n r tag attrs inner 7 tag
 
 -- that fault at a place of a template
-abbrev pub fault_in : ℕ → ℕ → ℕ → ℕ → List ℕ → Fault
+abbrev pub fault_in : (point number template place : ℕ) → (detail : List ℕ) → Fault
 fault_in point number n place detail = record { number = number; point = point; template = Some n; place = place; detail = detail }
 
 -- the faults of the page graph of a point

@@ -20,6 +20,15 @@ pub struct Spot {
     pub place: u32,
 }
 
+/// What an element may have in it by its rule, where the element stands, and the tags of the page by their numbers.
+#[derive(Drop)]
+pub(crate) struct Allowed<'a> {
+    pub tags: &'a Tags,
+    pub has: &'a Words,
+    pub text: bool,
+    pub spot: Spot,
+}
+
 /// The fault of that number at a spot.
 fn fault_at(alloc: Global, number: u8, spot: Spot, detail: &str) -> Result<Fault, Memory>
     ensures { IfOk result (λ f. f ≡ content.fault_at spot number detail.now) }
@@ -56,19 +65,21 @@ pub(crate) fn add_if(
 /// Adds the fault of a tag that may stand in the element and isn't allowed.
 fn judge_tag(
     alloc: Global,
-    tags: &Tags,
-    has: &Words,
+    allowed: &Allowed<'_>,
     is_given: bool,
     number: usize,
-    spot: Spot,
     faults: &mut Faults,
 ) -> Result<(), Memory>
-    requires { number < length tags.now }
-    ensures { OnOk result
-        (Adds (When (is_given && content.is_bad_tag has.now tags.now number) (content.tag_fault spot tags.now number)) faults.old faults.new) }
+    requires { number < length allowed.now.tags.now }
+    ensures { OnOk result (Adds
+        (When (is_given && content.is_bad_tag allowed.now.has.now allowed.now.tags.now number) (content.tag_fault allowed.now.spot allowed.now.tags.now number))
+        faults.old faults.new) }
 {
-    match tags.name(number) {
-        Some(tag) => add_if(alloc, is_given && !is_among(has, tag), 4, spot, tag, faults),
+    match allowed.tags.name(number) {
+        Some(tag) => {
+            let is_bad = is_given && !is_among(allowed.has, tag);
+            add_if(alloc, is_bad, 4, allowed.spot, tag, faults)
+        }
         None => Ok(()),
     }
 }
@@ -91,46 +102,36 @@ fn given(
 /// Adds the faults of the columns of what may stand in an element.
 fn judge_columns(
     alloc: Global,
-    tags: &Tags,
-    has: &Words,
-    text: bool,
+    allowed: &Allowed<'_>,
     given: &Row,
-    spot: Spot,
     faults: &mut Faults,
 ) -> Result<(), Memory>
-    ensures { OnOk result (Adds (content.OfContent spot has.now text tags.now (flag given.now) (length tags.now)) faults.old faults.new) }
+    ensures { OnOk result (Adds
+        (content.OfContent allowed.now.spot allowed.now.has.now allowed.now.text allowed.now.tags.now (flag given.now) (length allowed.now.tags.now))
+        faults.old faults.new) }
 {
-    add_if(alloc, given.has(0) && !text, 5, spot, "text", faults)?;
-    for number in 0..tags.len() {
-        judge_tag(
-            alloc,
-            tags,
-            has,
-            given.has(number + 1),
-            number,
-            spot,
-            faults,
-        )?;
+    let is_wrong = given.has(0) && !allowed.text;
+    add_if(alloc, is_wrong, 5, allowed.spot, "text", faults)?;
+    for number in 0..allowed.tags.len() {
+        judge_tag(alloc, allowed, given.has(number + 1), number, faults)?;
     }
     Ok(())
 }
 
 /// Adds the faults of what may stand in an element, by the table of what its templates may have at their tops.
-pub fn judge_content(
+pub(crate) fn judge_content(
     alloc: Global,
-    tags: &Tags,
+    allowed: &Allowed<'_>,
     node: &Node,
     tops: &Table,
-    has: &Words,
-    text: bool,
     items: &Items,
-    spot: Spot,
     faults: &mut Faults,
 ) -> Result<(), Memory>
-    ensures { OnOk result
-        (Adds (content.OfContent spot has.now text tags.now (λ c. gives tags.now node.now (λ m. at tops.now m c) c items.now) (length tags.now))
+    ensures { OnOk result (Adds
+        (content.OfContent allowed.now.spot allowed.now.has.now allowed.now.text allowed.now.tags.now
+        (λ c. gives allowed.now.tags.now node.now (λ m. at tops.now m c) c items.now) (length allowed.now.tags.now))
         faults.old faults.new) }
 {
-    let given = given(alloc, tags, node, tops, items)?;
-    judge_columns(alloc, tags, has, text, &given, spot, faults)
+    let given = given(alloc, allowed.tags, node, tops, items)?;
+    judge_columns(alloc, allowed, &given, faults)
 }

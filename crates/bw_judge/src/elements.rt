@@ -10,7 +10,7 @@ ghost use Rattle.bw_judge.specs.Content as content;
 ghost use Rattle.bw_judge.specs.Found as found;
 
 use crate::attributes::{judge_attrs, judge_must};
-use crate::content::{Spot, add_if, judge_content};
+use crate::content::{Allowed, Spot, add_if, judge_content};
 use crate::scene::Scene;
 use bw_faults::Faults;
 use bw_lang::{Element, Item, Items, Memory};
@@ -31,9 +31,13 @@ impl<'a> Scene<'a> {
             (Adds (content.OfContent spot rule.now.has rule.now.text self.now.tags
             (λ c. gives self.now.tags self.now.node (λ m. at self.now.tops m c) c items.now) (length self.now.tags)) faults.old faults.new) }
     {
-        judge_content(
-            alloc, self.tags, self.node, self.tops, &rule.has, rule.text, items, spot, faults,
-        )
+        let allowed = Allowed {
+            tags: self.tags,
+            has: &rule.has,
+            text: rule.text,
+            spot,
+        };
+        judge_content(alloc, &allowed, self.node, self.tops, items, faults)
     }
 }
 

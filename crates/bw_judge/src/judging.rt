@@ -22,11 +22,9 @@ use crate::content::{Spot, add_if};
 use crate::elements::judge_items;
 use crate::scene::Scene;
 use bw_faults::Faults;
-use bw_lang::laws::readable_is_small;
-use bw_lang::wrappers::{exit_wrapper, show_wrapper};
 use bw_lang::{Element, Item, Items, Memory, Name};
 use bw_schema::Schema;
-use bw_shape::{Node, Outline, Saying, Sayings, TemplateItems};
+use bw_shape::{Basis, Node, Outline, Saying, Sayings, Wrappers};
 use bw_strings::Literals;
 use bw_sum::Summary;
 use bw_types::Typed;
@@ -74,25 +72,24 @@ fn said_of(said: &[Sayings], n: usize) -> &[Saying]
 }
 
 /// Adds the faults of the elements of a template.
-fn judge_template<'a>(
+fn judge_template(
     alloc: Global,
-    outline: &'a Outline,
-    templates: &TemplateItems,
-    literals: &'a Literals,
-    schema: &Schema,
+    basis: &Basis<'_>,
+    outline: &Outline,
     point: u32,
     n: u32,
     faults: &mut Faults,
 ) -> Result<(), Memory>
-    requires n { n < length templates.now }
-    requires nodes { length outline.now.graphed.nodes.items ≡ length templates.now }
-    requires said { length outline.now.graphed.said.items ≡ length templates.now }
-    requires small { elements (template_at templates.now n) < 2 ^ 32 }
-    ensures { OnOk result (Adds (page.OfOutline templates.now literals.now outline.now schema.now point n) faults.old faults.new) }
+    requires n { n < length basis.now.templates.now }
+    requires nodes { length outline.now.graphed.nodes.items ≡ length basis.now.templates.now }
+    requires said { length outline.now.graphed.said.items ≡ length basis.now.templates.now }
+    requires small { elements (template_at basis.now.templates.now n) < 2 ^ 32 }
+    ensures { OnOk result (Adds
+        (page.OfOutline basis.now.templates.now basis.now.literals.now outline.now basis.now.schema.now point n) faults.old faults.new) }
 {
     let scene = Scene {
         tags: &outline.tables.tags,
-        literals,
+        literals: basis.literals,
         tops: &outline.tables.tops,
         miss: &outline.tables.miss,
         cross: &outline.tables.cross,
@@ -108,9 +105,9 @@ fn judge_template<'a>(
     judge_items(
         alloc,
         &scene,
-        schema.elements(),
+        basis.schema.elements(),
         spot,
-        templates.at(n as usize),
+        basis.templates.at(n as usize),
         faults,
     )?;
     Ok(())
@@ -119,24 +116,21 @@ fn judge_template<'a>(
 /// Adds the faults of the elements of some templates.
 fn judge_templates(
     alloc: Global,
+    basis: &Basis<'_>,
     outline: &Outline,
-    templates: &TemplateItems,
-    literals: &Literals,
-    schema: &Schema,
     point: u32,
     order: &[u32],
     faults: &mut Faults,
 ) -> Result<(), Memory>
-    requires order { All (λ n. n < length templates.now) order.now }
-    requires nodes { length outline.now.graphed.nodes.items ≡ length templates.now }
-    requires said { length outline.now.graphed.said.items ≡ length templates.now }
-    requires small { (n : ℕ) → elements (template_at templates.now n) < 2 ^ 32 }
-    ensures { OnOk result (Adds (OfSome (page.OfOutline templates.now literals.now outline.now schema.now point) order.now) faults.old faults.new) }
+    requires order { All (λ n. n < length basis.now.templates.now) order.now }
+    requires nodes { length outline.now.graphed.nodes.items ≡ length basis.now.templates.now }
+    requires said { length outline.now.graphed.said.items ≡ length basis.now.templates.now }
+    requires small { (n : ℕ) → elements (template_at basis.now.templates.now n) < 2 ^ 32 }
+    ensures { OnOk result (Adds
+        (OfSome (page.OfOutline basis.now.templates.now basis.now.literals.now outline.now basis.now.schema.now point) order.now) faults.old faults.new) }
 {
     for n in order {
-        judge_template(
-            alloc, outline, templates, literals, schema, point, *n, faults,
-        )?;
+        judge_template(alloc, basis, outline, point, *n, faults)?;
     }
     Ok(())
 }
@@ -144,34 +138,24 @@ fn judge_templates(
 /// The faults of the root and of the elements of all templates of the outline, in their order.
 fn judge_all(
     alloc: Global,
+    basis: &Basis<'_>,
     outline: &Outline,
-    templates: &TemplateItems,
-    literals: &Literals,
-    schema: &Schema,
     root: u32,
     point: u32,
 ) -> Result<Faults, Memory>
-    requires root { root < length templates.now }
-    requires order { All (λ n. n < length templates.now) outline.now.tables.order.items }
-    requires nodes { length outline.now.graphed.nodes.items ≡ length templates.now }
-    requires said { length outline.now.graphed.said.items ≡ length templates.now }
-    requires small { (n : ℕ) → elements (template_at templates.now n) < 2 ^ 32 }
-    ensures { IfOk result (λ l. Lists (page.OfAll templates.now literals.now outline.now schema.now root point) l) }
+    requires root { root < length basis.now.templates.now }
+    requires order { All (λ n. n < length basis.now.templates.now) outline.now.tables.order.items }
+    requires nodes { length outline.now.graphed.nodes.items ≡ length basis.now.templates.now }
+    requires said { length outline.now.graphed.said.items ≡ length basis.now.templates.now }
+    requires small { (n : ℕ) → elements (template_at basis.now.templates.now n) < 2 ^ 32 }
+    ensures { IfOk result (λ l. Lists (page.OfAll basis.now.templates.now basis.now.literals.now outline.now basis.now.schema.now root point) l) }
 {
     let mut faults = Faults::new(alloc);
     let order = outline.tables.order.as_slice();
-    let items = templates.at(root as usize);
-    judge_root(alloc, schema.root(), root, point, items, &mut faults)?;
-    judge_templates(
-        alloc,
-        outline,
-        templates,
-        literals,
-        schema,
-        point,
-        order,
-        &mut faults,
-    )?;
+    let items = basis.templates.at(root as usize);
+    let wanted = basis.schema.root();
+    judge_root(alloc, wanted, root, point, items, &mut faults)?;
+    judge_templates(alloc, basis, outline, point, order, &mut faults)?;
     // This call tells that the list is in order.
     let _sorted = faults.as_slice();
     Ok(faults)
@@ -185,12 +169,31 @@ fn root_of(page: &Summary) -> u32
     page.roots.as_slice()[0].number()
 }
 
-/// The faults 1 to 7 of a page graph by a schema, in their order, at the show or exit of this number. `literals` are those
-/// of the service, and the outline is what `shape` gives for the same page graph, service and schema.
+/// The faults 1 to 7 of a page graph by the schema, in their order, at the show or exit of this number. The outline is what
+/// `shape` gives for the same page graph, service and schema.
 ///
 /// Where there is no fault, every document that the page graph unfolds to is valid by the schema when its gaps are closed.
-pub fn judge(
+pub fn judge_by(
     alloc: Global,
+    basis: &Basis<'_>,
+    outline: &Outline,
+    page: &Summary,
+    point: u32,
+) -> Result<Faults, Memory>
+    requires page { IsPageGraph basis.now.typed.now.service page.now }
+    requires shape { IsShape basis.now.typed.now.service page.now basis.now.schema.now outline.now }
+    ensures exact { IfOk result (λ l. Lists (IsFault (template_items basis.now.typed.now.service)
+        (graph (literals_of basis.now.typed.now.service) page.now) (root_of page.now) basis.now.schema.now point) l) }
+    ensures sound { IfOk result (λ l. l ≡ [] → (d : Forest) → Unfolds (template_items basis.now.typed.now.service)
+        (graph (literals_of basis.now.typed.now.service) page.now) (root_of page.now) d → Valid basis.now.schema.now (close d)) }
+{
+    judge_all(alloc, basis, outline, root_of(page), point)
+}
+
+/// The faults 1 to 7 of a page graph by a schema, as `judge_by` answers them, where the wrappers are made for this page
+/// alone. `literals` are those of the service, and the outline is what `shape` gives for the same page graph, service and
+/// schema.
+pub fn judge(
     outline: &Outline,
     page: &Summary,
     typed: &Typed,
@@ -206,18 +209,14 @@ pub fn judge(
     ensures sound { IfOk result (λ l. l ≡ [] → (d : Forest)
         → Unfolds (template_items typed.now.service) (graph (literals_of typed.now.service) page.now) (root_of page.now) d → Valid schema.now (close d)) }
 {
-    readable_is_small();
-    let service = typed.service();
-    let show = show_wrapper(alloc, &service.gaps)?;
-    let exit = exit_wrapper(alloc, &service.gaps)?;
-    let templates = TemplateItems::of(service, &show, &exit);
-    judge_all(
-        alloc,
-        outline,
-        &templates,
+    let alloc = *outline.pairs.allocator();
+    let wrappers = Wrappers::of(alloc, typed)?;
+    let templates = wrappers.behind(typed);
+    let basis = Basis {
+        typed,
         literals,
+        templates: &templates,
         schema,
-        root_of(page),
-        point,
-    )
+    };
+    judge_by(alloc, &basis, outline, page, point)
 }

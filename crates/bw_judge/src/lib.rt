@@ -10,4 +10,4 @@ mod misses;
 mod scene;
 mod sureness;
 
-pub use judging::judge;
+pub use judging::{judge, judge_by};

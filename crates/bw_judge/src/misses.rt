@@ -9,6 +9,14 @@ ghost use Rattle.bw_shape.specs.Tests as test;
 use bw_lang::{Item, Items};
 use bw_shape::{Node, Table, Tags};
 
+/// Two tags that some formula orders, by their numbers, with the column of their pair.
+#[derive(Clone, Copy)]
+pub struct OrderedTags {
+    pub first: usize,
+    pub second: usize,
+    pub column: usize,
+}
+
 fn item_misses(tags: &Tags, node: &Node, known: &Table, column: usize, item: &Item) -> bool
     ensures { result ≡ test.misses tags.now node.now (λ m. at known.now m column) column (before item.now none) }
 {
@@ -59,20 +67,18 @@ pub fn items_cross(
     node: &Node,
     tops: &Table,
     known: &Table,
-    column: usize,
-    first: usize,
-    second: usize,
+    pair: OrderedTags,
     items: &Items,
 ) -> bool
-    requires { (first < 2 ^ 32) × (second < 2 ^ 32) }
-    ensures { result ≡ test.crosses tags.now node.now (at tops.now) (λ m. at known.now m column) (suc first, suc second) items.now }
+    requires { (pair.first < 2 ^ 32) × (pair.second < 2 ^ 32) }
+    ensures { result ≡ test.crosses tags.now node.now (at tops.now) (λ m. at known.now m pair.column) (suc pair.first, suc pair.second) items.now }
 {
     let mut is_seen = false;
     let mut is_crossed = false;
     for item in items.as_slice() {
-        let opens = item_opens(node, known, column, item);
-        let gives_second = item_gives(tags, node, tops, second, item);
-        let gives_first = item_gives(tags, node, tops, first, item);
+        let opens = item_opens(node, known, pair.column, item);
+        let gives_second = item_gives(tags, node, tops, pair.second, item);
+        let gives_first = item_gives(tags, node, tops, pair.first, item);
         is_crossed = is_crossed || opens || (is_seen && gives_second);
         is_seen = is_seen || gives_first;
     }

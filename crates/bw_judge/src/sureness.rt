@@ -3,7 +3,7 @@ ghost use Rattle.std.specs.Prelude.{◌≡◌, ◌^◌, ◌<◌, suc, not};
 ghost use Rattle.bw_shape.specs.Formulas.{pair_number};
 ghost use Rattle.bw_judge.specs.Sure as spec;
 
-use crate::misses::{items_cross, items_miss};
+use crate::misses::{OrderedTags, items_cross, items_miss};
 use crate::scene::Scene;
 use bw_lang::{Attrs, Items, Name, Words};
 use bw_schema::{Formula, Formulas};
@@ -53,9 +53,12 @@ impl<'a> Scene<'a> {
         let first = self.tags.number(before);
         let second = self.tags.number(tag);
         let column = pair_number(self.pairs, first, second);
-        items_cross(
-            self.tags, self.node, self.tops, self.cross, column, first, second, items,
-        )
+        let pair = OrderedTags {
+            first,
+            second,
+            column,
+        };
+        items_cross(self.tags, self.node, self.tops, self.cross, pair, items)
     }
 
     #[cycle(sure)]

@@ -7,6 +7,9 @@ use Rattle.bw_lang.specs.Table.Options.{◌>>=◌, where_some}
 pub some_is : {A : Type 0} (x y : A) → Some x ≡ Some y → x ≡ y
 some_is x y e = cc
 
+pub none_some : {A : Type 0} (x : A) → None ≡ Some x → ⊥
+none_some x h = cc
+
 -- ---- where something was found, each step found something
 
 pub bind_some : {A B : Type 0} (o : Option A) (f : A → Option B) (y : B) → (o >>= f) ≡ Some y → (x : A) × (o ≡ Some x) × (f x ≡ Some y)

@@ -8,3 +8,10 @@ pub fn is_blank(byte: u8) -> bool
 {
     b" \t\r\n".contains(&byte)
 }
+
+/// Whether a text has spaces, tabs, carriage returns and line feeds alone.
+pub fn is_blank_text(text: &str) -> bool
+    ensures { result ≡ spec.is_blank_text text.now }
+{
+    text.as_bytes().iter().all(|byte| is_blank(*byte))
+}

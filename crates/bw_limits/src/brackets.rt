@@ -19,8 +19,8 @@ fn is_closing(sign: &[u8]) -> bool
     matches!(sign, b"}" | b")" | b"]")
 }
 
-/// How many brackets are open behind the lexeme, where so many are in front of it.
-fn depth_behind(depth: u64, lexeme: &Lexeme) -> u64
+/// How many brackets are open behind the lexeme, where so many are in front of it. One that closes none changes nothing.
+pub fn depth_behind(depth: u64, lexeme: &Lexeme) -> u64
     requires { depth < 2 ^ 64 - 1 }
     ensures { result ≡ spec.depth_behind depth lexeme.now }
 {
@@ -53,8 +53,8 @@ fn deepest(lexemes: &[Lexeme]) -> u64
     deepest.max(depth)
 }
 
-/// Whether the lexeme ends a stretch.
-fn ends_stretch(lexeme: &Lexeme) -> bool
+/// Whether the lexeme ends a stretch: `;`, `{` or `}`.
+pub fn ends_stretch(lexeme: &Lexeme) -> bool
     ensures { result ≡ spec.ends_stretch lexeme.now }
 {
     match lexeme {

@@ -11,5 +11,5 @@ mod lengths;
 mod locals;
 mod passing;
 
-pub use brackets::too_deep;
+pub use brackets::{depth_behind, ends_stretch, too_deep};
 pub use declarations::too_many;

@@ -7,7 +7,8 @@ use Rattle.std.specs.Str.{IsUtf8}
 use Rattle.std.proofs.lemmas.Bool.Decides.{nat_tests}
 use Rattle.std.proofs.lemmas.List.Elements.{All-nil, All-cons}
 use Rattle.std.proofs.lemmas.Str.{IsUtf8-append}
-use Rattle.bw_page.specs.Bytes.{is_digit}
+use Rattle.bw_lang.specs.Text.Bytes.{is_digit}
+use Rattle.bw_read.proofs.Back.{digit_below}
 use Rattle.bw_read.proofs.Utf8.{class_utf8, ascii_codes}
 
 glyph_digit : (d : ℕ) → d < 10 → is_digit (digit_glyph false d) ≡ true
@@ -55,9 +56,6 @@ decimal_digits n = onto_digits 64 n [] (All-nil (λ x. is_digit x ≡ true))
 pub decimal_short : (n : ℕ) → length (decimal n) ≤ 64
 unfolding digits
 decimal_short n = onto_length 64 n []
-
-pub digit_below : (c : ℕ) → is_digit c ≡ true → c < 128
-digit_below c h = grind (arith, nat_tests)
 
 decimal_text : (n : ℕ) → IsUtf8 (decimal n)
 decimal_text n = class_utf8 is_digit digit_below (decimal n) (decimal_digits n)

@@ -1,45 +1,38 @@
 -- The pages of a service read back.
-use Rattle.std.proofs.Common.{◌≡◌, ◌≤◌, ◌<◌, ◌⊎◌, ℕ, zero, suc, true, List, [], ◌∷◌, ◌++◌, length, refl, subst, inl, inr, arith}
-use Rattle.std.specs.Prelude.{codes}
+use Rattle.std.proofs.Common.{◌≡◌, ◌≤◌, ◌⊎◌, ℕ, zero, suc, true, List, [], ◌∷◌, length, subst, inl, inr, arith}
 use Rattle.std.specs.Coded.{Coded-set}
 use Rattle.std.specs.Fmt.{decimal}
 use Rattle.std.specs.List.{AllPass, AllByRecursion, Contains}
-use Rattle.std.specs.Str.{IsUtf8}
 use Rattle.std.proofs.Math.Logic.{∥∥₁_elim, ∥∥₁_map}
 use Rattle.std.proofs.lemmas.Bool.Decides.{nat_tests}
 use Rattle.std.proofs.lemmas.List.Elements.{All-weaker}
 use Rattle.std.proofs.lemmas.List.Sums.{AllPass-from_list_all}
-use Rattle.std.proofs.lemmas.Str.{IsUtf8-append}
 use Rattle.bw_http.specs.declared.request.Path.TheVariants as paths
 use Rattle.bw_http.specs.Paths.{hex_digits, is_key_digit, spelling}
 use Rattle.bw_http.proofs.Spellings.{key_digits}
 use Rattle.bw_lang.proofs.Bounds.{nest_bounds}
-use Rattle.bw_lang.specs.declared.measure.Measure.{Measure}
 use Rattle.bw_lang.specs.declared.service.Service.{Service}
 use Rattle.bw_lang.specs.Document.Forest.{Forest}
-use Rattle.bw_lang.specs.Document.Measures.{IsDocument}
-use Rattle.bw_lang.specs.Document.Measures.{IsDocument as document}
 use Rattle.bw_lang.specs.Document.Print.{print, joined}
 use Rattle.bw_lang.specs.Encoding.ForestEncoding.{encoded_forest}
 use Rattle.bw_lang.specs.Service.Reads.{Reads}
 use Rattle.bw_meaning.specs.Values.{Document}
 use Rattle.bw_model.specs.Sessions.{Live}
-use Rattle.bw_page.specs.Bytes.{is_word_byte, is_digit, is_hex_digit}
+use Rattle.bw_lang.specs.Text.Bytes.{is_word_byte}
+use Rattle.bw_page.specs.Bytes.{is_hex_digit}
 use Rattle.bw_page.specs.Laws.{turn_target}
 use Rattle.bw_page.specs.Pages.{show_page, exit_page}
 use Rattle.bw_page.proofs.Sizes.{turn_length, exit_length}
-use Rattle.bw_read.specs.Made.{IsMade}
-use Rattle.bw_read.specs.Made.{IsMade as making}
 use Rattle.bw_read.specs.Pages.{IsPage}
-use Rattle.bw_read.proofs.Back.{shown_reads_back, last_reads_back, made_is_markup}
+use Rattle.bw_read.proofs.Back.{shown_reads_back, last_reads_back, made_is_markup, made_document, word_below, target_utf8}
 use Rattle.bw_read.proofs.Decided.{one_page, page_or_none}
-use Rattle.bw_read.proofs.Utf8.{class_utf8, ascii_codes}
+use Rattle.bw_read.proofs.Utf8.{class_utf8}
 use Rattle.bw_typed.proofs.ShortReadable.{readable_has_short_names}
 use Rattle.bw_typed.proofs.Utf8.{sessions_are_utf8}
 use Rattle.bw_made.specs.Made.{IsPageOf, IsItemsOf, IsTextOutcome}
 use Rattle.bw_made.specs.Pages.{PagesAreShown, ShownPagesReadBack, LastPagesReadBack, WaitingIsMade}
 use Rattle.bw_made.specs.Worlds.{IsTextTalk}
-use Rattle.bw_made.proofs.Decimals.{digit_below, decimal_digits, decimal_short}
+use Rattle.bw_made.proofs.Decimals.{decimal_digits, decimal_short}
 use Rattle.bw_made.proofs.Templates.{made_by_reading, name_is_word}
 use Rattle.bw_made.proofs.Whole.{constants_of}
 use Rattle.bw_made.proofs.Worlds.{now_comes}
@@ -54,29 +47,7 @@ hex_is key =
     All-weaker (λ x. is_key_digit x ≡ true) (λ x. is_hex_digit x ≡ true) key_is_hex (hex_digits 16 key)
     (AllPass-from_list_all is_key_digit (hex_digits 16 key) (key_digits key).1)
 
-word_below : (c : ℕ) → is_word_byte c ≡ true → c < 128
-word_below c h = grind (arith, nat_tests)
-
-hex_below : (c : ℕ) → is_hex_digit c ≡ true → c < 128
-hex_below c h = grind (arith, nat_tests)
-
-target_text : (number key turn : List ℕ) → AllPass is_digit number → AllPass is_hex_digit key → AllPass is_digit turn → IsUtf8 (turn_target number key turn)
-target_text number key turn hn hk ht =
-    let n = class_utf8 is_digit digit_below number hn in
-    let k = class_utf8 is_hex_digit hex_below key hk in
-    let t = class_utf8 is_digit digit_below turn ht in
-    let last = IsUtf8-append (codes "/") turn (ascii_codes (codes "/") refl) t in
-    let keyed = IsUtf8-append key (codes "/" ++ turn) k last in
-    let dashed = IsUtf8-append (codes "-") (key ++ (codes "/" ++ turn)) (ascii_codes (codes "-") refl) keyed in
-    let numbered = IsUtf8-append number (codes "-" ++ (key ++ (codes "/" ++ turn))) n dashed in
-    IsUtf8-append (codes "/s/") (number ++ (codes "-" ++ (key ++ (codes "/" ++ turn)))) (ascii_codes (codes "/s/") refl) numbered
-
 -- ---- pages
-
-made_document : (d : Forest) (m : Measure) → IsMade d m → IsDocument d m
-made_document _ _ (making.constant names bytes t h) = document.constant t
-made_document _ _ (making.plug b a m n g p q) = document.plug b a m n g (made_document b m p) (made_document a n q)
-made_document _ _ (making.fill b m g s u p) = document.fill b m g s (made_document b m p)
 
 title_short : (bytes : List ℕ) (service : Service) → Reads bytes service → length service.name ≤ 64
 title_short bytes service r = (readable_has_short_names service ∣ (bytes, r) ∣₁).own
@@ -107,7 +78,7 @@ shown_back bytes service d number key turn r p =
     let word = name_is_word bytes service r in
     let size = turn_length service.name n k t d.tree word (decimal_digits number) (hex_is key) (key_digits key).0 (decimal_digits turn) in
     shown_reads_back service.name (turn_target n k t) d.tree (class_utf8 is_word_byte word_below service.name word)
-    (target_text n k t (decimal_digits number) (hex_is key) (decimal_digits turn)) (made_is_markup d.tree d.measure made)
+    (target_utf8 n k t (decimal_digits number) (hex_is key) (decimal_digits turn)) (made_is_markup d.tree d.measure made)
     (omega (arith, nest_bounds d.tree d.measure (made_document d.tree d.measure made), p.document.within.nest))
     (omega (arith, size, title_short bytes service r, decimal_short number, decimal_short turn, p.short))
 

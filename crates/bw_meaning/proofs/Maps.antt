@@ -3,18 +3,15 @@ use Rattle.std.proofs.Common.{◌≡◌, ℕ, Bool, true, false, cond, List, [],
 use Rattle.std.specs.Prelude.{if◌then◌else◌, find, not, IsPermutation}
 use Rattle.std.specs.List.{list_any, IsDistinct}
 use Rattle.std.specs.Option.{option_map, option_or}
-use Rattle.std.specs.Cmp.Lexicographic.{same_text}
 use Rattle.std.specs.Map.{lookup}
 use Rattle.std.proofs.lemmas.Cmp.{nat_list_eq_equiv}
 use Rattle.std.proofs.lemmas.List.Sorted.{Contains-permutation, IsPermutation-map, IsPermutation-sym, sum_by-IsPermutation}
 use Rattle.std.proofs.lemmas.Map.Keys.{IsDistinct-IsPermutation}
 use Rattle.std.proofs.lemmas.Map.Views.{Contains-from_lookup, lookup-from_Contains}
+use Rattle.bw_lang.proofs.SameNames.{same_is}
 use Rattle.bw_lang.specs.Table.Names.{same, beside}
 use Rattle.bw_meaning.specs.Values.{Value, Values, names_of, weight, replaced, without}
 use Rattle.bw_meaning.specs.NameLaws.{OrdersAgree, OrdersWeighTheSame, StoringIsOfOneName, DeclaringAddsOneName, LeavingTakesNames}
-
-pub exact : (x y : List ℕ) → same x y ≡ true → x ≡ y
-exact x y e = same_text x y (sym e)
 
 -- ---- the order of names
 
@@ -31,7 +28,7 @@ looked w (p ∷ ps) = picked (same w p.0) p (find (λ x. same w x.0) ps) (lookup
 carried : (a b : Values) (w : List ℕ) (v : Value) → IsDistinct same (names_of b) → IsPermutation a b →
     beside w a ≡ Some v → beside w b ≡ Some v
 carried a b w v d p e =
-    looked w b ∙ lookup-from_Contains nat_list_eq_equiv w v b d (Contains-permutation a b (w, v) p (Contains-from_lookup exact w v a (sym (looked w a) ∙ e)))
+    looked w b ∙ lookup-from_Contains nat_list_eq_equiv w v b d (Contains-permutation a b (w, v) p (Contains-from_lookup same_is w v a (sym (looked w a) ∙ e)))
 
 either_way : (o p : Option Value) → ((v : Value) → o ≡ Some v → p ≡ Some v) → ((v : Value) → p ≡ Some v → o ≡ Some v) → o ≡ p
 either_way None None f g = refl
@@ -76,7 +73,7 @@ storing_is_of_one_name w x v (p ∷ ps) =
     let one = nat_list_eq_equiv in
     beside_if (same w p.0) x ((p.0, v) ∷ ps) (p ∷ replaced w v ps)
     ∙ stored (same x p.0) (same w p.0) (same x w) v p.1 (find (λ y. same x y.0) (replaced w v ps)) (find (λ y. same x y.0) ps) (find (λ y. same w y.0) ps) p.0
-    (λ e. ap (λ y. same y p.0) (exact x w e))
+    (λ e. ap (λ y. same y p.0) (same_is x w e))
     (λ n a b. let h = one.symm w x ∙ one.congr x p.0 w a in let g = one.symm p.0 w ∙ b in let k = one.symm x w in cc)
     (storing_is_of_one_name w x v ps)
 
@@ -111,4 +108,4 @@ pub leaving_takes_names : LeavingTakesNames
 leaving_takes_names names x [] = either_side (list_any (same x) names) None
 leaving_takes_names names x (p ∷ ps) =
     left (list_any (same p.0) names) (same x p.0) (list_any (same x) names) p x (without names ps) ps
-    (λ e. ap (λ y. list_any (same y) names) (sym (exact x p.0 e))) refl (leaving_takes_names names x ps)
+    (λ e. ap (λ y. list_any (same y) names) (sym (same_is x p.0 e))) refl (leaving_takes_names names x ps)

@@ -12,7 +12,8 @@ use Rattle.bw_lang.specs.Table.Names.{same, beside}
 use Rattle.bw_meaning.specs.NameLaws.{Agree}
 use Rattle.bw_meaning.specs.Orders.{of_name, IsReordered, OrdersAreReordered}
 use Rattle.bw_meaning.specs.Values.{Value, Values, names_of, weight, weights, replaced, without}
-use Rattle.bw_meaning.proofs.Maps.{exact, orders_agree}
+use Rattle.bw_lang.proofs.SameNames.{same_is}
+use Rattle.bw_meaning.proofs.Maps.{orders_agree}
 
 -- ---- what a name stands for
 
@@ -67,7 +68,7 @@ of_replaced w x v (p ∷ ps) =
     let one = nat_list_eq_equiv in
     of_either (same w p.0) x ((p.0, v) ∷ ps) (p ∷ replaced w v ps)
     ∙ stored (same x p.0) (same w p.0) (same x w) v p (of_name x (replaced w v ps)) (of_name x ps)
-    (λ e. ap (λ y. same y p.0) (exact x w e))
+    (λ e. ap (λ y. same y p.0) (same_is x w e))
     (λ n a b. let h = one.symm w x ∙ one.congr x p.0 w a in let g = one.symm p.0 w ∙ b in let k = one.symm x w in cc)
     (of_replaced w x v ps)
 
@@ -102,7 +103,7 @@ of_without names x [] = either_side (list_any (same x) names) []
 of_without names x (p ∷ ps) =
     of_kept (list_any (same p.0) names) x p (without names ps)
     ∙ left (list_any (same p.0) names) (same x p.0) (list_any (same x) names) p (of_name x (without names ps)) (of_name x ps)
-    (λ e. ap (λ y. list_any (same y) names) (sym (exact x p.0 e))) (of_without names x ps)
+    (λ e. ap (λ y. list_any (same y) names) (sym (same_is x p.0 e))) (of_without names x ps)
 
 pub without_alike : (names : List (List ℕ)) (a b : Values) → IsReordered a b → IsReordered (without names a) (without names b)
 without_alike names a b h x =
@@ -157,7 +158,7 @@ of_dropped w x (p ∷ ps) =
     let one = nat_list_eq_equiv in
     of_either (same w p.0) x ps (p ∷ dropped w ps)
     ∙ taken_off (same x p.0) (same w p.0) (same x w) p (of_name x (dropped w ps)) (of_name x ps)
-    (λ e. ap (λ y. same y p.0) (exact x w e))
+    (λ e. ap (λ y. same y p.0) (same_is x w e))
     (λ n a b. let h = one.symm w x ∙ one.congr x p.0 w a in let g = one.symm p.0 w ∙ b in let k = one.symm x w in cc)
     (of_dropped w x ps)
 
@@ -210,7 +211,7 @@ one_each (p ∷ ps) d w = found (same w p.0) refl (one_each ps d.1 w)
   where
     found : (b : Bool) → same w p.0 ≡ b → of_name w ps ≡ listed w (beside w ps) →
         cond b (p ∷ of_name w ps) (of_name w ps) ≡ listed w (option_map (λ x. x.1) (cond b (Some p) (find (λ x. same w x.0) ps)))
-    found true e rest = ap (λ l. p ∷ l) (ap (λ y. of_name y ps) (exact w p.0 e) ∙ none_of p.0 ps d.0) ∙ ap (λ y. (y, p.1) ∷ []) (sym (exact w p.0 e))
+    found true e rest = ap (λ l. p ∷ l) (ap (λ y. of_name y ps) (same_is w p.0 e) ∙ none_of p.0 ps d.0) ∙ ap (λ y. (y, p.1) ∷ []) (sym (same_is w p.0 e))
     found false e rest = rest
 
 pub orders_are_reordered : OrdersAreReordered

@@ -127,7 +127,7 @@ abbrev pub after : Code → Outcome
 after body = exec (of_session done) body 1 0 (state locals)
 
 -- the list, made so that it has this measure
-abbrev pub of_measure : ℕ → ℕ → ℕ → Document
+abbrev pub of_measure : (weight depth nest : ℕ) → Document
 of_measure weight depth nest = record { tree = list_items; measure = record { weight = weight; depth = depth; nest = nest } }
 
 -- ---- turns

@@ -3,7 +3,7 @@ use Rattle.std.proofs.Common.{◌≡◌, ℕ, Bool, true, false, cond, List, [],
 use Rattle.std.specs.Prelude.{◌==◌, ◌&&◌, if◌then◌else◌, find}
 use Rattle.std.specs.List.{AllByRecursion}
 use Rattle.std.specs.Option.{option_map}
-use Rattle.std.proofs.lemmas.Bool.{eqb-true, eq-eqb}
+use Rattle.std.proofs.lemmas.Bool.{and_parts, eqb-true, eq-eqb}
 use Rattle.bw_model.specs.Sessions.{Live}
 use Rattle.bw_model.specs.Steps.{is_of, taken_out}
 
@@ -34,15 +34,12 @@ found number key _ _ _ (later l m ls others e h) =
     ap (λ b. cond b (Some l) (find (is_of number key) ls)) e ∙ found number key ls m others h
 
 -- it has the number and the key
-pub both : (a b : Bool) → (a && b) ≡ true → (a ≡ true) × (b ≡ true)
-both true b e = (refl, e)
-both false b e = cc
 
 pub has_number : (number key : ℕ) (l : Live) → is_of number key l ≡ true → l.number ≡ number
-has_number number key l e = eqb-true l.number number (both (l.number == number) (l.key == key) e).0
+has_number number key l e = eqb-true l.number number (and_parts (l.number == number) (l.key == key) e).0
 
 pub has_key : (number key : ℕ) (l : Live) → is_of number key l ≡ true → l.key ≡ key
-has_key number key l e = eqb-true l.key key (both (l.number == number) (l.key == key) e).1
+has_key number key l e = eqb-true l.key key (and_parts (l.number == number) (l.key == key) e).1
 
 pub out_is : (number key : ℕ) (ls : List Live) (m : Live) (others : List Live) → Out number key ls m others → is_of number key m ≡ true
 out_is number key _ _ _ (here l ls e) = e

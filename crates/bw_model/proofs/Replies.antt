@@ -1,7 +1,7 @@
 -- What a live session is replied.
 use Rattle.std.proofs.Common.{◌≡◌, ℕ, Bool, true, false, List, Option, Some, None, refl, sym, ap, ◌∙◌, subst}
 use Rattle.std.specs.Prelude.{◌==◌, ◌&&◌, if◌then◌else◌, find}
-use Rattle.std.proofs.lemmas.Bool.{eqb-true}
+use Rattle.std.proofs.lemmas.Bool.{and_parts, eqb-true}
 use Rattle.bw_http.specs.declared.request.Method.{Method}
 use Rattle.bw_http.specs.declared.request.Method.TheVariants.{Get, Post, Other}
 use Rattle.bw_http.specs.declared.request.Path.{Path}
@@ -13,7 +13,7 @@ use Rattle.bw_model.specs.Laws.{RepliesAreAnswers}
 use Rattle.bw_model.specs.Sessions.{Live, World}
 use Rattle.bw_model.specs.Steps.{is_of, reply_to, Answerer, asks_by, taken_out, on_path_by}
 use Rattle.bw_model.specs.Talks.{said_by, said_at}
-use Rattle.bw_model.proofs.Found.{IsOut, no_session, session, out, found, out_is, both, has_number, has_key}
+use Rattle.bw_model.proofs.Found.{IsOut, no_session, session, out, found, out_is, has_number, has_key}
 
 module _ (ans : Answerer) (service : Service) (w : World) (number key : ℕ) (l : Live) (there : find (is_of number key) w.live ≡ Some l) (form : Form)
     (drawn : ℕ) (said : Said) where
@@ -53,7 +53,7 @@ module _ (ans : Answerer) (service : Service) (w : World) (number key : ℕ) (l 
       either : (b : Bool) → (number == n && key == k) ≡ b → (if b then said_by method form turn w.shared else None) ≡ Some said →
           (on_path_by ans service w method form drawn (paths.Turn n k turn)).reply ≡ reply_to service number key (ans w.first l.talk said).answer
       either true is e =
-          let parts = both (number == n) (key == k) is in
+          let parts = and_parts (number == n) (key == k) is in
           let due = reply_to service number key (ans w.first l.talk said).answer in
           subst (λ x. (on_path_by ans service w method form drawn (paths.Turn x k turn)).reply ≡ due) (eqb-true number n parts.0)
           (subst (λ y. (on_path_by ans service w method form drawn (paths.Turn number y turn)).reply ≡ due) (eqb-true key k parts.1) (by_method method turn e))

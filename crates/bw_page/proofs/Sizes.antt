@@ -1,28 +1,6 @@
 -- How long pages are.
-use Rattle.std.proofs.Common.{
-  ◌≡◌,
-  ℕ,
-  ◌+◌,
-  Bool,
-  true,
-  false,
-  ◌==◌,
-  ◌&&◌,
-  List,
-  [],
-  ◌∷◌,
-  ◌++◌,
-  length,
-  refl,
-  ap,
-  ◌∙◌,
-  codes,
-  arith,
-  length-append,
-  suc,
-  ◌*◌,
-  if◌then◌else◌,
-}
+use Rattle.std.proofs.Common.{◌≡◌, ℕ, ◌+◌, Bool, true, false, ◌==◌, ◌&&◌, List, [], ◌∷◌, ◌++◌, length, refl, ap, ◌∙◌, codes, arith, length-append, suc, ◌*◌}
+use Rattle.std.proofs.Common.{if◌then◌else◌}
 use Rattle.std.specs.List.{AllPass, list_all}
 use Rattle.std.proofs.lemmas.Bool.{eqb-true}
 use Rattle.std.proofs.lemmas.List.Sums.{list_all-from_AllPass}
@@ -33,7 +11,8 @@ use Rattle.bw_lang.specs.Document.Documents.{append, close}
 use Rattle.bw_lang.specs.Template.Markup.{is_void, escaped, escaped_byte}
 use Rattle.bw_lang.specs.Document.Print.{print, printed_attr, printed_attrs, printed_start, printed_end}
 use Rattle.bw_lang.proofs.PrintLaws.{escaped-append, closed_alike}
-use Rattle.bw_page.specs.Bytes.{is_plain, is_word_byte, is_digit, is_hex_digit}
+use Rattle.bw_lang.specs.Text.Bytes.{is_word_byte, is_digit}
+use Rattle.bw_page.specs.Bytes.{is_plain, is_hex_digit}
 use Rattle.bw_lang.specs.Document.Wrappers.{button, attr}
 use Rattle.bw_page.specs.Pages.{show_page, exit_page}
 use Rattle.bw_page.specs.Laws.{ExitLength, ShowLength, TurnLength, turn_target}

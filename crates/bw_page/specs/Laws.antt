@@ -3,7 +3,8 @@ use Rattle.std.specs.Prelude.{◌≡◌, ◌+◌, ℕ, List, ◌++◌, length, c
 use Rattle.std.specs.List.{AllPass}
 use Rattle.bw_lang.specs.Document.Forest.{Forest}
 use Rattle.bw_lang.specs.Document.Print.{print}
-use Rattle.bw_page.specs.Bytes.{is_plain, is_word_byte, is_digit, is_hex_digit}
+use Rattle.bw_lang.specs.Text.Bytes.{is_word_byte, is_digit}
+use Rattle.bw_page.specs.Bytes.{is_plain, is_hex_digit}
 use Rattle.bw_page.specs.Pages.{show_page, exit_page, show_page_at, exit_page_at}
 
 -- a shown page doesn't depend on the numbers of its wrapper's gaps

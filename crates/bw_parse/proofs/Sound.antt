@@ -7,24 +7,8 @@ use Rattle.bw_lang.specs.declared.token.Lexeme.{Lexeme}
 use Rattle.bw_lang.specs.declared.token.Lexeme.TheVariants as lex
 use Rattle.bw_lang.specs.Text.Levels.{left_level, level, Levelled, AreLevelled, IsSome}
 use Rattle.bw_lang.specs.Text.Spelling.{spell, spell_pairs}
-use Rattle.bw_lang.specs.Service.Term.{
-  Term,
-  int,
-  truth,
-  string,
-  name,
-  paren,
-  not,
-  neg,
-  binary,
-  call,
-  plug,
-  nothing,
-  Fillings,
-  no_more,
-  filling,
-  append_fillings,
-}
+use Rattle.bw_lang.specs.Service.Term.{Term, int, truth, string, name, paren, not, neg, binary, call, plug, nothing, Fillings, no_more, filling}
+use Rattle.bw_lang.specs.Service.Term.{append_fillings}
 use Rattle.bw_lang.specs.Text.Words.{op_sign}
 use Rattle.bw_lang.proofs.Terms.{append_fillings_assoc}
 use Rattle.bw_parse.specs.declared.lexemes.Meaning.{Meaning}

@@ -16,19 +16,8 @@ use Rattle.bw_parse.specs.Steps.Fronts.{Read, behind, word, operator, meaning}
 use Rattle.bw_parse.specs.Steps.Expressions.{number_at, expr, more, prefix, plugs, pairs, atom, inside, by_meaning}
 use Rattle.bw_parse.specs.Steps.Expressions.{steps, parse, parse_more, parse_prefix, parse_plugs, parse_pairs, parse_atom, parse_inside, parse_word}
 use Rattle.bw_parse.proofs.Shorter.{expr_shorter, atom_shorter, pairs_shorter, behind_shorter, word_shorter, operator_shorter}
-use Rattle.bw_parse.proofs.Stable.{
-  bind_same,
-  where_same,
-  if_same,
-  stable_expr,
-  stable_more,
-  stable_prefix,
-  stable_plugs,
-  stable_pairs,
-  stable_atom,
-  stable_inside,
-  stable_word,
-}
+use Rattle.bw_parse.proofs.Stable.{bind_same, where_same, if_same, stable_expr, stable_more, stable_prefix, stable_plugs, stable_pairs, stable_atom}
+use Rattle.bw_parse.proofs.Stable.{stable_inside, stable_word}
 
 -- ---- the equations of the parser
 

@@ -1,6 +1,7 @@
 -- Pages that are printed read back.
 use Rattle.std.proofs.Common.{◌≡◌, ◌≤◌, ◌<◌, ℕ, suc, max, true, false, List, [], ◌∷◌, ◌++◌, refl, sym, ap, arith, inl}
 use Rattle.std.specs.Prelude.{IsUtf8, codes}
+use Rattle.std.specs.List.{AllPass}
 use Rattle.std.proofs.lemmas.List.{append-nil}
 use Rattle.std.proofs.lemmas.Bool.Decides.{nat_tests}
 use Rattle.std.proofs.lemmas.Str.{IsUtf8-append}
@@ -18,7 +19,8 @@ use Rattle.bw_lang.specs.Document.Print.{print, joined}
 use Rattle.bw_lang.specs.Document.Wrappers.{attr, page, form, button}
 use Rattle.bw_lang.proofs.Bounds.{nest_bounds}
 use Rattle.bw_lang.proofs.Weights.{nest-append}
-use Rattle.bw_page.specs.Bytes.{is_word_byte, is_digit, is_hex_digit}
+use Rattle.bw_lang.specs.Text.Bytes.{is_word_byte, is_digit}
+use Rattle.bw_page.specs.Bytes.{is_hex_digit}
 use Rattle.bw_page.specs.Laws.{turn_target}
 use Rattle.bw_page.specs.Pages.{show_page, exit_page}
 use Rattle.bw_page.proofs.Sizes.{turn_length, exit_length}
@@ -27,7 +29,7 @@ use Rattle.bw_tmpl.proofs.Back as template
 use Rattle.bw_tmpl.proofs.Keeping.{plug_markup, plug_text_markup, close_markup}
 use Rattle.bw_tmpl.proofs.Made.{reads_markup}
 use Rattle.bw_read.specs.Laws.{ReadsBack, ShownReadsBack, LastReadsBack, MadeIsMarkup, MadeShownReadsBack, MadeLastReadsBack}
-use Rattle.bw_read.specs.Made.{IsMade, IsShown, IsTitle, IsTurn}
+use Rattle.bw_read.specs.Made.{IsMade, IsShown, IsTitle}
 use Rattle.bw_read.specs.Made.{IsMade as making}
 use Rattle.bw_read.specs.Pages.{IsRoot}
 use Rattle.bw_read.proofs.Utf8.{class_utf8, ascii_codes, print_utf8}
@@ -134,7 +136,7 @@ made_is_markup _ _ (making.constant names bytes t h) = reads_markup names 64 byt
 made_is_markup _ _ (making.plug b a m n g p q) = plug_markup g a b (made_is_markup a n q) (made_is_markup b m p)
 made_is_markup _ _ (making.fill b m g s u p) = plug_text_markup g s b u (made_is_markup b m p)
 
-made_document : (d : Forest) (m : Measure) → IsMade d m → IsDocument d m
+pub made_document : (d : Forest) (m : Measure) → IsMade d m → IsDocument d m
 made_document _ _ (making.constant names bytes t h) = document.constant t
 made_document _ _ (making.plug b a m n g p q) = document.plug b a m n g (made_document b m p) (made_document a n q)
 made_document _ _ (making.fill b m g s u p) = document.fill b m g s (made_document b m p)
@@ -145,23 +147,24 @@ shown_markup d h = made_is_markup d h.measure h.made
 shown_nest : (d : Forest) → IsShown d → nest d ≤ 500
 shown_nest d h = omega (arith, nest_bounds d h.measure (made_document d h.measure h.made), h.within.nest)
 
-word_below : (c : ℕ) → is_word_byte c ≡ true → c < 128
+pub word_below : (c : ℕ) → is_word_byte c ≡ true → c < 128
 word_below c h = grind (arith, nat_tests)
 
-digit_below : (c : ℕ) → is_digit c ≡ true → c < 128
+pub digit_below : (c : ℕ) → is_digit c ≡ true → c < 128
 digit_below c h = grind (arith, nat_tests)
 
-hex_below : (c : ℕ) → is_hex_digit c ≡ true → c < 128
+pub hex_below : (c : ℕ) → is_hex_digit c ≡ true → c < 128
 hex_below c h = grind (arith, nat_tests)
 
 title_utf8 : (title : List ℕ) → IsTitle title → IsUtf8 title
 title_utf8 title h = class_utf8 is_word_byte word_below title h.word
 
-target_utf8 : (number key turn : List ℕ) → IsTurn number key turn → IsUtf8 (turn_target number key turn)
-target_utf8 number key turn h =
-    let n = class_utf8 is_digit digit_below number h.number_digits in
-    let k = class_utf8 is_hex_digit hex_below key h.key_digits in
-    let t = class_utf8 is_digit digit_below turn h.turn_digits in
+-- the target of a session's form, however long its numbers are
+pub target_utf8 : (number key turn : List ℕ) → AllPass is_digit number → AllPass is_hex_digit key → AllPass is_digit turn → IsUtf8 (turn_target number key turn)
+target_utf8 number key turn number_digits key_digits turn_digits =
+    let n = class_utf8 is_digit digit_below number number_digits in
+    let k = class_utf8 is_hex_digit hex_below key key_digits in
+    let t = class_utf8 is_digit digit_below turn turn_digits in
     let last = IsUtf8-append (codes "/") turn (ascii_codes (codes "/") refl) t in
     let keyed = IsUtf8-append key (codes "/" ++ turn) k last in
     let dashed = IsUtf8-append (codes "-") (key ++ (codes "/" ++ turn)) (ascii_codes (codes "-") refl) keyed in
@@ -172,7 +175,8 @@ pub made_shown_reads_back : MadeShownReadsBack
 made_shown_reads_back title number key turn d t s h =
     let size = turn_length title number key turn d t.word s.number_digits s.key_digits s.key_length s.turn_digits in
     let target = turn_target number key turn in
-    shown_reads_back title target d (title_utf8 title t) (target_utf8 number key turn s) (shown_markup d h) (shown_nest d h)
+    shown_reads_back title target d (title_utf8 title t) (target_utf8 number key turn s.number_digits s.key_digits s.turn_digits)
+    (shown_markup d h) (shown_nest d h)
     (omega (arith, size, t.short, s.number_short, s.turn_short, h.short))
 
 pub made_last_reads_back : MadeLastReadsBack

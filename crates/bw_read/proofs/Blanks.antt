@@ -3,13 +3,14 @@ use Rattle.std.proofs.Common.{◌≡◌, ◌≤◌, ◌<◌, ◌+◌, ◌-◌, �
 use Rattle.std.proofs.Common.{length, take, get_or, Option, Some, None, refl, sym, ap, ◌∙◌, arith, inl, inr}
 use Rattle.std.specs.Prelude.{if◌then◌else◌, ◌&&◌, codes}
 use Rattle.std.proofs.lemmas.List.{append_assoc, take-append-drop, take_more}
+use Rattle.std.proofs.lemmas.Bool.{and_parts}
 use Rattle.bw_lang.specs.Text.Bytes.{is_blank}
 use Rattle.bw_lang.specs.Template.MarkupNames.{begins}
 use Rattle.bw_lang.specs.Template.Pieces.{passes}
 use Rattle.bw_lang.specs.Table.Options.{where_some}
 use Rattle.bw_tmpl.specs.Steps.Reading.{leading, past_blanks, stripped}
 use Rattle.bw_tmpl.proofs.Many.{stripped_is, stripped_again}
-use Rattle.bw_tmpl.proofs.SpelledNames.{both, leading_front, past_is}
+use Rattle.bw_tmpl.proofs.SpelledNames.{leading_front, past_is}
 use Rattle.bw_read.specs.Element.{past_doctype, unless_last, trimmed}
 use Rattle.bw_read.specs.Pages.{AreBlanks, IsDoctype}
 
@@ -82,7 +83,7 @@ trimmed_parts (b ∷ bytes) = by_rest (trimmed bytes) (trimmed_parts bytes)
 trimmed_blanks : (blanks : List ℕ) → AreBlanks blanks → trimmed blanks ≡ []
 trimmed_blanks [] h = refl
 trimmed_blanks (b ∷ blanks) h =
-    let k = both (is_blank b) (passes is_blank blanks) h in
+    let k = and_parts (is_blank b) (passes is_blank blanks) h in
     ap (unless_last b) (trimmed_blanks blanks k.1) ∙ ap (λ (t : Bool). if t then [] else b ∷ []) k.0
 
 -- what ends with another byte is left of it and blanks behind it

@@ -15,7 +15,7 @@ use Rattle.bw_tmpl.specs.declared.fault.TmplFault.TheVariants as fault
 use Rattle.bw_tmpl.specs.Refusals.{IsClosedRefused}
 use Rattle.bw_tmpl.proofs.Answered.{closed_read_or_refused}
 use Rattle.bw_tmpl.proofs.Deciding.{one_closed_template, not_both_closed}
-use Rattle.bw_tmpl.proofs.Inverse.{same-refl}
+use Rattle.bw_lang.proofs.SameNames.{same_self}
 use Rattle.bw_read.specs.Element.{element_of}
 use Rattle.bw_read.specs.Steps.Faults.{page_fault}
 use Rattle.bw_read.specs.Laws.{OnePage, PageOrNone}
@@ -43,7 +43,7 @@ root_is (element tag attrs inner (gap g f)) h = absurd (cc)
 root_is (element tag attrs inner (element t a i f)) h = absurd (cc)
 
 pub is_root_of : (f : Forest) → IsRoot f → is_root f ≡ true
-is_root_of f r = ap is_root r.2 ∙ same-refl (codes "html")
+is_root_of f r = ap is_root r.2 ∙ same_self (codes "html")
 
 no_root : (f : Forest) → is_root f ≡ false → IsRoot f → ⊥
 no_root f h r = let e = is_root_of f r in cc

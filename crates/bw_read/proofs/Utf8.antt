@@ -5,7 +5,7 @@ use Rattle.std.specs.Char.{encode_utf8}
 use lib.Utf8.{scalar}
 use Rattle.std.specs.List.{AllPass, list_all}
 use Rattle.std.specs.Str.{IsAscii, all_scalars, encode_utf8_all}
-use Rattle.std.proofs.lemmas.Bool.{cases_lt}
+use Rattle.std.proofs.lemmas.Bool.{and_parts, cases_lt}
 use Rattle.std.proofs.lemmas.Bool.Decides.{nat_tests}
 use Rattle.std.proofs.lemmas.List.Sums.{list_all-from_AllPass}
 use Rattle.std.proofs.lemmas.Str.{IsUtf8-append, IsUtf8-nil, IsUtf8-from_ascii, IsUtf8-encode, encode_ascii}
@@ -23,13 +23,12 @@ use Rattle.bw_lang.specs.Document.Print.{print, printed_attr, printed_attrs, pri
 use Rattle.bw_lang.proofs.PrintLaws.{escaped-append}
 use Rattle.bw_tmpl.specs.Markup.{IsValueOf, AreAttrs, IsClosedMarkup}
 use Rattle.bw_tmpl.proofs.Runs.{later_below}
-use Rattle.bw_tmpl.proofs.SpelledNames.{both}
 
 -- ---- ASCII
 
 ascii_listed : (p : ℕ → Bool) → ((c : ℕ) → p c ≡ true → c < 128) → (s : List ℕ) → list_all p s ≡ true → IsAscii s
 ascii_listed p below [] h = IsAscii-nil
-ascii_listed p below (c ∷ s) h = let k = both (p c) (list_all p s) h in IsAscii-cons c s (below c k.0) (ascii_listed p below s k.1)
+ascii_listed p below (c ∷ s) h = let k = and_parts (p c) (list_all p s) h in IsAscii-cons c s (below c k.0) (ascii_listed p below s k.1)
 
 -- bytes of an ASCII class are UTF-8
 pub class_utf8 : (p : ℕ → Bool) → ((c : ℕ) → p c ≡ true → c < 128) → (s : List ℕ) → AllPass p s → IsUtf8 s
@@ -37,7 +36,7 @@ class_utf8 p below s h = IsUtf8-from_ascii s (ascii_listed p below s (list_all-f
 
 ascii_passes : (p : ℕ → Bool) → ((c : ℕ) → p c ≡ true → c < 128) → (s : List ℕ) → passes p s ≡ true → IsAscii s
 ascii_passes p below [] h = IsAscii-nil
-ascii_passes p below (c ∷ s) h = let k = both (p c) (passes p s) h in IsAscii-cons c s (below c k.0) (ascii_passes p below s k.1)
+ascii_passes p below (c ∷ s) h = let k = and_parts (p c) (passes p s) h in IsAscii-cons c s (below c k.0) (ascii_passes p below s k.1)
 
 name_utf8 : (k : NameClass) (n : List ℕ) → IsNameOf k n → IsUtf8 n
 name_utf8 k n h = IsUtf8-from_ascii n (ascii_passes (later_of k) (later_below k) n h.later)
@@ -74,7 +73,7 @@ low_byte b h = by_tests (b == 38) (b == 60) (b == 62) (b == 34)
 high_bytes : (s : List ℕ) → list_all (λ b. nat_lt 127 b) s ≡ true → escaped s ≡ s
 high_bytes [] h = refl
 high_bytes (b ∷ s) h =
-    let k = both (nat_lt 127 b) (list_all (λ c. nat_lt 127 c) s) h in
+    let k = and_parts (nat_lt 127 b) (list_all (λ c. nat_lt 127 c) s) h in
     let e : 128 ≤ b = grind (arith, nat_tests, k.0) in
     ap (λ (l : List ℕ). l ++ escaped s) (high_byte b e) ∙ ap (λ (l : List ℕ). b ∷ l) (high_bytes s k.1)
 
@@ -111,7 +110,7 @@ character_utf8 c h = elim (cases_lt c 128) [
 characters_utf8 : (cs : List ℕ) → all_scalars cs ≡ true → IsUtf8 (escaped (encode_utf8_all cs))
 characters_utf8 [] h = IsUtf8-nil
 characters_utf8 (c ∷ cs) h =
-    let k = both (scalar c) (all_scalars cs) h in
+    let k = and_parts (scalar c) (all_scalars cs) h in
     subst IsUtf8 (sym (escaped-append (encode_utf8 c) (encode_utf8_all cs)))
     (IsUtf8-append (escaped (encode_utf8 c)) (escaped (encode_utf8_all cs)) (character_utf8 c k.0) (characters_utf8 cs k.1))
 

@@ -7,7 +7,8 @@ use Rattle.bw_lang.specs.Document.Forest.{Forest}
 use Rattle.bw_lang.specs.Document.Measures.{constant_measure, text_measure, plugged, IsWithin}
 use Rattle.bw_lang.specs.Document.Print.{print}
 use Rattle.bw_lang.specs.Template.Templates.{IsTemplate}
-use Rattle.bw_page.specs.Bytes.{is_word_byte, is_digit, is_hex_digit}
+use Rattle.bw_lang.specs.Text.Bytes.{is_word_byte, is_digit}
+use Rattle.bw_page.specs.Bytes.{is_hex_digit}
 use Rattle.bw_lang.specs.declared.limits.TheConstants.{MAX_NAME_BYTES, MAX_TEMPLATE_NEST}
 use Rattle.bw_lang.specs.declared.turn.TheConstants.{MAX_DOCUMENT_BYTES}
 

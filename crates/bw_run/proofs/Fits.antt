@@ -1,17 +1,17 @@
 -- What a turn gives is fit.
-use Rattle.std.proofs.Common.{◌≡◌, ℕ, true, false, ◌<◌, arith, List, [], ◌∷◌, length, map, Some, refl, sym, ap, ◌∙◌, subst}
+use Rattle.std.proofs.Common.{◌≡◌, ℕ, true, ◌<◌, arith, List, [], ◌∷◌, length, map, Some, refl, sym, ap, ◌∙◌, subst}
 use Rattle.std.specs.Prelude.{slice_get, Ok, IsSome}
 use Rattle.std.proofs.lemmas.Option.{same_Some}
 use Rattle.bw_lang.specs.Service.Term.{Term}
 use Rattle.bw_types.specs.declared.typed.Typed.{Typed}
 use Rattle.bw_flow.specs.declared.point.Local.{Local}
 use Rattle.bw_flow.specs.declared.point.Received.{Received}
-use Rattle.bw_flow.specs.Flows.{is_join}
+use Rattle.bw_flow.specs.Flows.{is_show}
 use Rattle.bw_flow.specs.Layout.{plan_of}
 use Rattle.bw_flow.specs.Stands.{IsAt}
 use Rattle.bw_flow.specs.Steps.{Act, Step, Plan}
 use Rattle.bw_flow.specs.Steps as acts
-use Rattle.bw_flow.proofs.Numbered.{all_have_numbers}
+use Rattle.bw_flow.proofs.Numbered.{no_join, all_have_numbers}
 use Rattle.bw_flow.proofs.OfTyped.{firsts_are_inside}
 use Rattle.bw_flow.proofs.Shut.{firsts_are_all}
 use Rattle.bw_meaning.specs.GoOn.{turn, go_on}
@@ -23,7 +23,6 @@ use Rattle.bw_eval.proofs.Templates.{get_within}
 use Rattle.bw_run.specs.Follow.Kinds as kinds
 use Rattle.bw_run.specs.Follow.Kinds.{kinds_of, kinds_in, HasKinds}
 use Rattle.bw_run.specs.Follow.Laws.{IsFit, IsOf}
-use Rattle.bw_run.specs.Follow.Runs.{is_show}
 use Rattle.bw_run.specs.Follow.Scoped.{names_in}
 use Rattle.bw_run.proofs.Follow.Fit.{shown_is_fit, shown_again_is_fit}
 use Rattle.bw_run.proofs.Follow.Kept.{typed_is_ready}
@@ -45,14 +44,6 @@ names_of_scope (l ∷ sc) = ap (λ r. l.name ∷ r) (names_of_scope sc)
 
 pub names_from : (l : meaning.Values) (sc : List Local) → kinds_of l ≡ kinds_in sc → names_of l ≡ names_in sc
 names_from l sc e = sym (names_of_kinds l) ∙ ap (map (λ p. p.0)) e ∙ names_of_scope sc
-
-pub no_join : (a : Act) → is_show a ≡ true → is_join a ≡ false
-no_join (acts.sets w e) h = refl
-no_join (acts.tests e) h = refl
-no_join (acts.goes_over w e) h = refl
-no_join (acts.shows e rs) h = refl
-no_join (acts.exits e) h = refl
-no_join acts.joins h = cc
 
 shows_is : (a : Act) (e : Term) (rs : List Received) → a ≡ acts.shows e rs → is_show a ≡ true
 shows_is a e rs h = ap is_show h

@@ -10,7 +10,7 @@ use Rattle.bw_lang.specs.declared.stmt.Kind.{Kind}
 use Rattle.bw_lang.specs.declared.stmt.Kind.TheVariants as kinds
 use Rattle.bw_lang.specs.Service.Submissions.{values_of}
 use Rattle.bw_flow.specs.declared.point.Received.{Received}
-use Rattle.bw_eval.specs.Sound.{IsShort}
+use Rattle.bw_typed.specs.ShortStrings.{IsShort}
 use Rattle.bw_run.specs.declared.fields.FieldFault.{FieldFault}
 use Rattle.bw_run.specs.declared.fields.FieldFault.TheVariants.{TooLong}
 use Rattle.bw_run.specs.Code.{AreShort}

@@ -6,9 +6,10 @@ use Rattle.bw_lang.specs.declared.service.Template.{Template}
 use Rattle.bw_lang.specs.declared.turn.TurnFault.{TurnFault}
 use Rattle.bw_lang.specs.Service.Term.{Term}
 use Rattle.bw_typed.specs.ShortStrings.{HasShort}
+use Rattle.bw_flow.specs.Flows.{is_show}
 use Rattle.bw_flow.specs.Steps.{Act, Step}
 use Rattle.bw_flow.specs.Steps as acts
-use Rattle.bw_run.specs.Follow.Runs.{first_of, second_of, is_show, Next, does}
+use Rattle.bw_run.specs.Follow.Runs.{first_of, second_of, Next, does}
 use Rattle.bw_meaning.specs.States.{State, Outcome, Shown, Exited, Failed}
 use Rattle.bw_meaning.specs.Values as meaning
 use Rattle.bw_doc.specs.Made.{Made}
@@ -16,7 +17,8 @@ use Rattle.bw_doc.specs.Operations.{IsOf}
 use Rattle.bw_eval.specs.declared.value.Value.{Value}
 use Rattle.bw_eval.specs.Bases.{HasBases, GivesDocuments}
 use Rattle.bw_eval.specs.Evaluations.{HasMemory}
-use Rattle.bw_eval.specs.Sound.{IsShort, AreSound}
+use Rattle.bw_eval.specs.Sound.{AreSound}
+use Rattle.bw_typed.specs.ShortStrings.{IsShort}
 use Rattle.bw_eval.specs.View.{document, value, values}
 use Rattle.bw_run.specs.declared.standing.Standing.{Standing}
 use Rattle.bw_run.specs.declared.step.Stepped.{Stepped}

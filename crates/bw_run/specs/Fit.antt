@@ -11,7 +11,8 @@ use Rattle.bw_flow.specs.Stands.{IsAt}
 use Rattle.bw_flow.specs.Steps.{Step, shows}
 use Rattle.bw_doc.specs.Operations.{IsOf}
 use Rattle.bw_eval.specs.declared.value.Value.{Value}
-use Rattle.bw_eval.specs.Sound.{IsShort, AreSound}
+use Rattle.bw_eval.specs.Sound.{AreSound}
+use Rattle.bw_typed.specs.ShortStrings.{IsShort}
 use Rattle.bw_eval.specs.View.{values}
 use Rattle.bw_run.specs.Follow.Kinds.{kinds_of, kinds_in}
 use Rattle.bw_run.specs.declared.turn.Frame.{Frame}

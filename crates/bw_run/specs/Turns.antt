@@ -3,7 +3,7 @@ use Rattle.std.specs.Prelude.{◌≡◌, ℕ, ◌+◌, List, [], Result, Ok, Err
 use Rattle.bw_lang.specs.declared.turn.TurnFault.{TurnFault}
 use Rattle.bw_flow.specs.Steps.{Step}
 use Rattle.bw_flow.specs.declared.point.Received.{Received}
-use Rattle.bw_run.specs.Follow.Runs.{fields_of}
+use Rattle.bw_flow.specs.Flows.{fields_of}
 use Rattle.bw_lang.specs.declared.service.Service.{Service}
 use Rattle.bw_meaning.specs.GoOn.{turn}
 use Rattle.bw_meaning.specs.Laws.{answered}

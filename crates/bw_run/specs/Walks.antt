@@ -2,7 +2,7 @@
 use Rattle.std.specs.Prelude.{◌≡◌, ◌<◌, ℕ, ◌+◌, ◌*◌, ◌-◌, true, List, length, take, slice_get, Option, Some, None, if◌then◌else◌, Result, Ok, Err}
 use Rattle.bw_lang.specs.declared.service.Service.{Service}
 use Rattle.bw_lang.specs.declared.turn.TurnFault.{TurnFault}
-use Rattle.bw_flow.specs.Flows.{is_join}
+use Rattle.bw_flow.specs.Flows.{is_join, is_show}
 use Rattle.bw_flow.specs.Stands.{IsAt}
 use Rattle.bw_flow.specs.Steps.{Step}
 use Rattle.bw_meaning.specs.States.{Outcome, Shown, Exited, Failed}
@@ -17,7 +17,7 @@ use Rattle.bw_run.specs.Follow.Kinds.{kinds_of, kinds_in}
 use Rattle.bw_run.specs.Code.{state}
 use Rattle.bw_lang.specs.declared.service.Template.{Template}
 use Rattle.bw_doc.specs.Operations.{IsOf}
-use Rattle.bw_run.specs.Follow.Runs.{is_show, run}
+use Rattle.bw_run.specs.Follow.Runs.{run}
 
 -- the number of the statement at a place
 abbrev pub number_of : Option Step → ℕ
@@ -56,7 +56,7 @@ IsInside flow (advances.To q) = q < length flow
 IsInside flow (advances.Waits d) = Unit {0}
 IsInside flow (advances.Ends d) = Unit {0}
 
-abbrev pub IsLess : List Step → ℕ → ℕ → ℕ → Advance → Type 0
+abbrev pub IsLess : (flow : List Step) → (place old new : ℕ) → Advance → Type 0
 IsLess flow p old new (advances.To q) = measure flow q new < measure flow p old
 IsLess flow p old new (advances.Waits d) = Unit {0}
 IsLess flow p old new (advances.Ends d) = Unit {0}

@@ -99,6 +99,10 @@ impl Rests {
         }
     }
 
+    pub fn alloc(&self) -> Global {
+        *self.list.allocator()
+    }
+
     /// How many foreachs there are.
     pub fn len(&self) -> usize
         ensures { result ≡ length self.now }
@@ -127,7 +131,7 @@ impl Rests {
     pub fn copy(&self) -> Result<Rests, Memory>
         ensures { IfOk result (λ r. r ≡ self.now) }
     {
-        let alloc = *self.list.allocator();
+        let alloc = self.alloc();
         let mut list = Vec::new(alloc);
         for rest in &self.list {
             list.push(rest.copy(alloc)?)?;

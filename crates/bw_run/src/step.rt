@@ -39,6 +39,14 @@ pub enum Stepped {
     Ends(Doc),
 }
 
+/// The point where a turn is, in the flow of a typed service.
+#[derive(Drop)]
+struct Here<'a> {
+    alloc: Global,
+    typed: &'a Typed,
+    point: &'a Point,
+}
+
 /// Whether the name is that of a local in scope or of a shared variable.
 fn is_known(typed: &Typed, scope: &Scope, name: &Name) -> bool
     ensures { result ≡ names.is_known typed.now.service scope.now name.now }
@@ -70,82 +78,6 @@ fn put(
     standing.locals.push(name.copy()?, new)
 }
 
-/// An assignment or a declaration.
-#[tactic(auto, using(crate::proofs::Tidy::sound_as))]
-fn assign<L: Ledger>(
-    alloc: Global,
-    typed: &Typed,
-    point: &Point,
-    name: &Name,
-    expr: &Expr,
-    standing: &mut Standing,
-    steps: &mut Steps<L>,
-) -> Result<Stepped, TurnFault>
-    requires { CanEvaluate typed.now.service (term expr.now) standing.old }
-    ensures { Does typed.now.service (acts.sets name.now (term expr.now)) (seen point.now) standing.old standing.new steps.old steps.new result }
-{
-    let new = begins(alloc, typed, expr, standing, steps)?;
-    put(typed, &point.scope, name, new, standing)?;
-    Ok(Stepped::First)
-}
-
-/// The test of an `if` or a `while`.
-#[tactic(auto, using(crate::proofs::Tidy::sound_as))]
-fn test<L: Ledger>(
-    alloc: Global,
-    typed: &Typed,
-    point: &Point,
-    expr: &Expr,
-    standing: &mut Standing,
-    steps: &mut Steps<L>,
-) -> Result<Stepped, TurnFault>
-    requires { CanEvaluate typed.now.service (term expr.now) standing.old }
-    ensures { Does typed.now.service (acts.tests (term expr.now)) (seen point.now) standing.old standing.new steps.old steps.new result }
-{
-    if begins(alloc, typed, expr, standing, steps)?.truth() {
-        Ok(Stepped::First)
-    } else {
-        Ok(Stepped::Second)
-    }
-}
-
-/// A show, in a turn that has no input left.
-#[tactic(auto, using(crate::proofs::Tidy::sound_as))]
-fn show<L: Ledger>(
-    alloc: Global,
-    typed: &Typed,
-    point: &Point,
-    page: &Expr,
-    standing: &mut Standing,
-    steps: &mut Steps<L>,
-) -> Result<Stepped, TurnFault>
-    requires { CanShow typed.now.service (term page.now) standing.old }
-    ensures { (rs : List Received) →
-        Does typed.now.service (acts.shows (term page.now) rs) (seen point.now) standing.old standing.new steps.old steps.new result }
-{
-    let doc = begins_document(alloc, typed, page, standing, steps)?;
-    show_test(&doc, standing)?;
-    Ok(Stepped::Waits(doc))
-}
-
-/// An exit.
-#[tactic(auto, using(crate::proofs::Tidy::sound_as))]
-fn exit<L: Ledger>(
-    alloc: Global,
-    typed: &Typed,
-    point: &Point,
-    page: &Expr,
-    standing: &mut Standing,
-    steps: &mut Steps<L>,
-) -> Result<Stepped, TurnFault>
-    requires { CanShow typed.now.service (term page.now) standing.old }
-    ensures { Does typed.now.service (acts.exits (term page.now)) (seen point.now) standing.old standing.new steps.old steps.new result }
-{
-    let doc = begins_document(alloc, typed, page, standing, steps)?;
-    exit_test(&doc, &standing.shared)?;
-    Ok(Stepped::Ends(doc))
-}
-
 /// A turn of a foreach over these strings.
 #[tactic(auto, using(crate::proofs::Tidy::sound_rules))]
 fn go_over<L: Ledger>(
@@ -173,28 +105,6 @@ fn go_over<L: Ledger>(
     }
 }
 
-/// A foreach: it is entered, or goes on with its rest.
-#[tactic(auto, using(crate::proofs::Tidy::sound_rules))]
-fn each<L: Ledger>(
-    alloc: Global,
-    typed: &Typed,
-    point: &Point,
-    name: &Name,
-    expr: &Expr,
-    standing: &mut Standing,
-    steps: &mut Steps<L>,
-) -> Result<Stepped, TurnFault>
-    requires { CanEvaluate typed.now.service (term expr.now) standing.old }
-    ensures { Does typed.now.service (acts.goes_over name.now (term expr.now)) (seen point.now) standing.old standing.new steps.old steps.new result }
-{
-    if standing.rests.len() == point.inside as usize {
-        let strings = evaluates(alloc, typed, expr, standing, steps)?.into_list(alloc);
-        return go_over(name, Rest::of(strings), standing, steps);
-    }
-    let strings = own_rest(alloc, standing);
-    go_over(name, strings, standing, steps)
-}
-
 /// Takes out the rest of the innermost foreach.
 #[tactic(auto, using(crate::proofs::Tidy::sound_outer))]
 fn own_rest(alloc: Global, standing: &mut Standing) -> Rest
@@ -210,6 +120,99 @@ fn own_rest(alloc: Global, standing: &mut Standing) -> Rest
     }
 }
 
+impl Here<'_> {
+    /// An assignment or a declaration.
+    #[tactic(auto, using(crate::proofs::Tidy::sound_as))]
+    fn assign<L: Ledger>(
+        &self,
+        name: &Name,
+        expr: &Expr,
+        standing: &mut Standing,
+        steps: &mut Steps<L>,
+    ) -> Result<Stepped, TurnFault>
+        requires { CanEvaluate self.now.typed.now.service (term expr.now) standing.old }
+        ensures { Does self.now.typed.now.service (acts.sets name.now (term expr.now)) (seen self.now.point.now)
+            standing.old standing.new steps.old steps.new result }
+    {
+        let new = begins(self.alloc, self.typed, expr, standing, steps)?;
+        put(self.typed, &self.point.scope, name, new, standing)?;
+        Ok(Stepped::First)
+    }
+
+    /// The test of an `if` or a `while`.
+    #[tactic(auto, using(crate::proofs::Tidy::sound_as))]
+    fn test<L: Ledger>(
+        &self,
+        expr: &Expr,
+        standing: &mut Standing,
+        steps: &mut Steps<L>,
+    ) -> Result<Stepped, TurnFault>
+        requires { CanEvaluate self.now.typed.now.service (term expr.now) standing.old }
+        ensures { Does self.now.typed.now.service (acts.tests (term expr.now)) (seen self.now.point.now) standing.old standing.new steps.old steps.new result }
+    {
+        if begins(self.alloc, self.typed, expr, standing, steps)?.truth() {
+            Ok(Stepped::First)
+        } else {
+            Ok(Stepped::Second)
+        }
+    }
+
+    /// A show, in a turn that has no input left.
+    #[tactic(auto, using(crate::proofs::Tidy::sound_as))]
+    fn show<L: Ledger>(
+        &self,
+        page: &Expr,
+        standing: &mut Standing,
+        steps: &mut Steps<L>,
+    ) -> Result<Stepped, TurnFault>
+        requires { CanShow self.now.typed.now.service (term page.now) standing.old }
+        ensures { (rs : List Received) →
+            Does self.now.typed.now.service (acts.shows (term page.now) rs) (seen self.now.point.now) standing.old standing.new steps.old steps.new result }
+    {
+        let doc = begins_document(self.alloc, self.typed, page, standing, steps)?;
+        show_test(&doc, standing)?;
+        Ok(Stepped::Waits(doc))
+    }
+
+    /// An exit.
+    #[tactic(auto, using(crate::proofs::Tidy::sound_as))]
+    fn exit<L: Ledger>(
+        &self,
+        page: &Expr,
+        standing: &mut Standing,
+        steps: &mut Steps<L>,
+    ) -> Result<Stepped, TurnFault>
+        requires { CanShow self.now.typed.now.service (term page.now) standing.old }
+        ensures { Does self.now.typed.now.service (acts.exits (term page.now)) (seen self.now.point.now) standing.old standing.new steps.old steps.new result }
+    {
+        let doc = begins_document(self.alloc, self.typed, page, standing, steps)?;
+        exit_test(&doc, &standing.shared)?;
+        Ok(Stepped::Ends(doc))
+    }
+
+    /// A foreach: it is entered, or goes on with its rest.
+    #[tactic(auto, using(crate::proofs::Tidy::sound_rules))]
+    fn each<L: Ledger>(
+        &self,
+        name: &Name,
+        expr: &Expr,
+        standing: &mut Standing,
+        steps: &mut Steps<L>,
+    ) -> Result<Stepped, TurnFault>
+        requires { CanEvaluate self.now.typed.now.service (term expr.now) standing.old }
+        ensures { Does self.now.typed.now.service (acts.goes_over name.now (term expr.now)) (seen self.now.point.now)
+            standing.old standing.new steps.old steps.new result }
+    {
+        if standing.rests.len() == self.point.inside as usize {
+            let list = evaluates(self.alloc, self.typed, expr, standing, steps)?;
+            let strings = Rest::of(list.into_list(self.alloc));
+            return go_over(name, strings, standing, steps);
+        }
+        let strings = own_rest(self.alloc, standing);
+        go_over(name, strings, standing, steps)
+    }
+}
+
 /// What a point does.
 pub fn step<L: Ledger>(
     alloc: Global,
@@ -221,12 +224,17 @@ pub fn step<L: Ledger>(
     requires { CanDo typed.now.service (act point.now.what) standing.old }
     ensures { Does typed.now.service (act point.now.what) (seen point.now) standing.old standing.new steps.old steps.new result }
 {
+    let here = Here {
+        alloc,
+        typed,
+        point,
+    };
     match &point.what {
-        What::Assign { name, value } => assign(alloc, typed, point, name, value, standing, steps),
-        What::Test { test: expr } => test(alloc, typed, point, expr, standing, steps),
-        What::Each { name, value } => each(alloc, typed, point, name, value, standing, steps),
-        What::Show { page, .. } => show(alloc, typed, point, page, standing, steps),
-        What::Exit { page } => exit(alloc, typed, point, page, standing, steps),
+        What::Assign { name, value } => here.assign(name, value, standing, steps),
+        What::Test { test } => here.test(test, standing, steps),
+        What::Each { name, value } => here.each(name, value, standing, steps),
+        What::Show { page, .. } => here.show(page, standing, steps),
+        What::Exit { page } => here.exit(page, standing, steps),
         What::Join => Ok(Stepped::First),
     }
 }

@@ -6,7 +6,7 @@ ghost use Rattle.bw_flow.specs.Layout.{plan_of};
 ghost use Rattle.bw_flow.specs.Steps.{Step};
 ghost use Rattle.bw_flow.specs.View.{act};
 ghost use Rattle.bw_run.specs.Follow.Laws.{IsOf};
-ghost use Rattle.bw_run.specs.Follow.Runs.{is_show, fields_of};
+ghost use Rattle.bw_flow.specs.Flows.{is_show, fields_of};
 ghost use Rattle.bw_lang.specs.declared.service.Template.{Template};
 ghost use Rattle.bw_meaning.specs.GoOn as meaning;
 ghost use Rattle.bw_run.specs.Fit.{IsFrame, AreShared, IsFitTurn, IsSoundTurn};
@@ -136,7 +136,6 @@ fn receives_of(what: &What) -> Option<&Receiveds>
 /// at this frame, it is the session's turn over one input more. The counter rises by the turn's cost, after `Memory` by at
 /// most 100,000, and never falls. The frame and the shared variables that it gives are fit.
 pub fn resume<L: Ledger>(
-    alloc: Global,
     typed: &Typed,
     flow: &Flow,
     frame: &Frame,
@@ -165,6 +164,7 @@ pub fn resume<L: Ledger>(
     let Some(receives) = receives_of(&point.what) else {
         unreachable!()
     };
+    let alloc = frame.rests.alloc();
     let mut standing = Standing {
         locals: frame.locals.copy()?,
         shared: shared.copy()?,

@@ -1,32 +1,19 @@
 -- Formulas that are spelled so are read, and loops over formulas.
-use Rattle.std.proofs.Common.{◌≡◌, ℕ, zero, suc, ◌+◌, ◌≤◌, Bool, true, false, not, ◌&&◌, List, [], ◌∷◌, ◌++◌, length, take, drop, Option, Some, None, refl, ap, ◌∙◌, arith}
+use Rattle.std.proofs.Common.{◌≡◌, ℕ, zero, suc, ◌+◌, ◌≤◌, Bool, true, false, not, ◌&&◌, List, [], ◌∷◌, ◌++◌, length, take, drop, Option, Some, None, refl, ap}
+use Rattle.std.proofs.Common.{◌∙◌, arith}
 use Rattle.std.specs.Prelude.{codes, if◌then◌else◌, ◌==◌}
 use Rattle.std.specs.List.{list_all}
 use Rattle.std.proofs.Math.Dec.{eqb-suc-zero}
-use Rattle.std.proofs.lemmas.Bool.{false≢true}
+use Rattle.std.proofs.lemmas.Bool.{and_parts, false≢true}
 use Rattle.std.proofs.lemmas.List.{take_at, drop_at, length-append}
 use Rattle.bw_lang.specs.Table.Options.{◌>>=◌}
 use Rattle.bw_lang.specs.declared.pieces.NameClass.TheVariants as class
-use Rattle.bw_schema.proofs.Spelled.{both, ended_there, name_there}
+use Rattle.bw_schema.proofs.Spelled.{ended_there, name_there}
 use Rattle.bw_schema.specs.Forms.{are_formed, depth, is_name, is_nothing, is_paren, one, spell_needs}
 use Rattle.bw_schema.specs.Needs.{Needs, nothing, all_of, some_of, attr, one_value, content, order}
 use Rattle.bw_schema.specs.NeedsView.{before_need}
-use Rattle.bw_schema.specs.Steps.Reading.{
-  attr_at,
-  closed,
-  content_at,
-  count_values,
-  ended,
-  formula_at,
-  inside_at,
-  name_at,
-  needs_at,
-  needs_next,
-  order_at,
-  parts_at,
-  simple_at,
-  value_at,
-}
+use Rattle.bw_schema.specs.Steps.Reading.{attr_at, closed, content_at, count_values, ended, formula_at, inside_at, name_at, needs_at, needs_next, order_at}
+use Rattle.bw_schema.specs.Steps.Reading.{parts_at, simple_at, value_at}
 use Rattle.bw_schema.specs.Words.{has_some}
 use Rattle.bw_schema.specs.declared.needs.Formula.{Formula}
 use Rattle.bw_schema.specs.declared.needs.Formula.TheVariants as formula
@@ -37,7 +24,7 @@ Step = List (List ℕ) → Option (Formula × List (List ℕ))
 -- ---- formulas without parts
 
 front : (a b : Bool) → (a && b) ≡ true → a ≡ true
-front a b h = (both a b h).0
+front a b h = (and_parts a b h).0
 
 attr_complete : (x : List ℕ) (r : List (List ℕ)) → is_name class.Attr x ≡ true → attr_at (x ∷ codes ")" ∷ r) ≡ Some (formula.Attr x, r)
 unfolding attr_at
@@ -57,7 +44,7 @@ order_complete x y r h k =
 count_spelled : (vs : List (List ℕ)) (r : List (List ℕ)) → list_all (λ v. not (is_paren v)) vs ≡ true → count_values (vs ++ codes ")" ∷ r) ≡ length vs
 count_spelled [] r h = refl
 count_spelled (v ∷ vs) r h =
-    let k = both (not (is_paren v)) (list_all (λ w. not (is_paren w)) vs) h in
+    let k = and_parts (not (is_paren v)) (list_all (λ w. not (is_paren w)) vs) h in
     by_test (is_paren v) k.0 (count_spelled vs r k.1)
   where
     by_test : (b : Bool) → not b ≡ true → count_values (vs ++ codes ")" ∷ r) ≡ length vs
@@ -127,7 +114,7 @@ with_end true b h = refl
 with_end false b h = h
 
 behind : (a b : Bool) → (a && b) ≡ true → b ≡ true
-behind a b h = (both a b h).1
+behind a b h = (and_parts a b h).1
 
 needs_complete : (d : ℕ) (step : Step) → Complete d step → (ns : Needs) (n : ℕ) (r : List (List ℕ)) → step r ≡ None → are_formed ns ≡ true → depth ns ≤ d
     → tops ns ≤ n
@@ -172,7 +159,7 @@ parts_complete : (d : ℕ) (step : Step) → Complete d step → (ns : Needs) (r
     → parts_at step (spell_needs ns (codes ")" ∷ r)) ≡ Some (ns, r)
 unfolding parts_at
 parts_complete d step c ns r stop h e =
-    let k = both (not (is_nothing ns)) (are_formed ns) h in
+    let k = and_parts (not (is_nothing ns)) (are_formed ns) h in
     let words = spell_needs ns (codes ")" ∷ r) in
     ap ended_parts
     (needs_complete d step c ns (length words) (codes ")" ∷ r) stop k.1 e (omega (arith, longer ns (codes ")" ∷ r))))
@@ -197,11 +184,11 @@ open_complete d c (formula.Or p) r h e =
     ap (λ o. o >>= as_or) (parts_complete d (formula_at d) c p r (no_formula d r) (front _ _ h) (omega (arith, e)))
 open_complete d c (formula.Attr x) r h e = attr_complete x r (front _ _ h)
 open_complete d c (formula.OneOf x vs) r h e =
-    let k = both (is_name class.Attr x) (has_some vs && list_all (λ v. not (is_paren v)) vs) (front _ _ h) in
-    let l = both (has_some vs) (list_all (λ v. not (is_paren v)) vs) k.1 in value_complete x vs r k.0 l.0 l.1
+    let k = and_parts (is_name class.Attr x) (has_some vs && list_all (λ v. not (is_paren v)) vs) (front _ _ h) in
+    let l = and_parts (has_some vs) (list_all (λ v. not (is_paren v)) vs) k.1 in value_complete x vs r k.0 l.0 l.1
 open_complete d c (formula.Content x) r h e = content_complete x r (front _ _ h)
 open_complete d c (formula.Order x y) r h e =
-    let k = both (is_name class.Tag x) (is_name class.Tag y) (front _ _ h) in order_complete x y r k.0 k.1
+    let k = and_parts (is_name class.Tag x) (is_name class.Tag y) (front _ _ h) in order_complete x y r k.0 k.1
 
 some_depth : (f : Formula) → 1 ≤ depth (one f)
 some_depth (formula.And p) = omega arith

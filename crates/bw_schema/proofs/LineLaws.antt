@@ -2,31 +2,19 @@
 use Rattle.std.proofs.Common.{◌≡◌, ℕ, ◌≤◌, Bool, true, false, ◌&&◌, ◌||◌, List, [], ◌∷◌, length, map, Some, None, refl, ap, sym, subst, ◌∙◌}
 use Rattle.std.specs.Prelude.{codes, if◌then◌else◌, ◌==◌, nat_le}
 use Rattle.std.specs.List.{list_all}
-use Rattle.std.proofs.lemmas.Bool.{eqb-true, leb-true, le-leb}
+use Rattle.std.proofs.lemmas.Bool.{and_parts, and_from, eqb-true, leb-true, le-leb}
 use Rattle.std.proofs.lemmas.List.{nil_from_length}
+use Rattle.bw_lang.proofs.SameNames.{same_is}
 use Rattle.bw_lang.proofs.Options.{bind_some, cond_some, if_some}
 use Rattle.bw_lang.specs.Table.Names.{same}
 use Rattle.bw_lang.specs.Table.Options.{◌>>=◌}
 use Rattle.bw_lang.specs.declared.pieces.NameClass.{NameClass}
 use Rattle.bw_lang.specs.declared.pieces.NameClass.TheVariants as class
 use Rattle.bw_schema.proofs.Complete.{formula_complete}
-use Rattle.bw_schema.proofs.Spelled.{both, both_back, same_is}
 use Rattle.bw_schema.proofs.SpelledParts.{formula_sound}
 use Rattle.bw_schema.specs.Forms.{are_formed, are_names, depth, is_headed, is_line, is_name, one, spell_line, spell_needs}
-use Rattle.bw_schema.specs.Steps.Reading.{
-  formula_at,
-  formula_of,
-  line_of,
-  line_with,
-  lines_of,
-  names_line,
-  names_of,
-  rare_line,
-  root_of,
-  tag_of,
-  text_of,
-  value_line,
-}
+use Rattle.bw_schema.specs.Steps.Reading.{formula_at, formula_of, line_of, line_with, lines_of, names_line, names_of, rare_line, root_of, tag_of, text_of}
+use Rattle.bw_schema.specs.Steps.Reading.{value_line}
 use Rattle.bw_schema.specs.Words.{has_some}
 use Rattle.bw_schema.specs.declared.lines.Line.{Line}
 use Rattle.bw_schema.specs.declared.lines.Line.TheVariants.{Element, May, Must, Value, Has, Text, Need}
@@ -70,7 +58,7 @@ formula_is v ws f two h =
     let s = (formula_sound 16).one_is ws b.0 b.1 in
     let made : IsWritten v (codes "need" ∷ ws) (Need b.0.0) = record {
       spelled = ap (λ (t : List (List ℕ)). codes "need" ∷ t) (s.spelled ∙ ap (spell_needs (one b.0.0)) (no_words b.0.1 k.0));
-      formed = both_back (v == 2 && are_formed (one b.0.0)) (nat_le (depth (one b.0.0)) 16) (both_back (v == 2) (are_formed (one b.0.0)) two s.formed)
+      formed = and_from (v == 2 && are_formed (one b.0.0)) (nat_le (depth (one b.0.0)) 16) (and_from (v == 2) (are_formed (one b.0.0)) two s.formed)
           (le-leb (depth (one b.0.0)) 16 s.deep);
     } in
     written_as v _ (Need b.0.0) (Need f) (ap Need k.1) made
@@ -82,7 +70,7 @@ rare_is v key ws line h = first (same key (codes "text") && (length ws == 0)) re
     second : (b : Bool) → (same key (codes "need") && (v == 2)) ≡ b → (if b then (formula_of ws >>= λ f. Some (Need f)) else None) ≡ Some line
         → IsWritten v (key ∷ ws) line
     second true e h =
-        let k = both (same key (codes "need")) (v == 2) e in
+        let k = and_parts (same key (codes "need")) (v == 2) e in
         let b = bind_some (formula_of ws) (λ f. Some (Need f)) line h in
         let n : Need b.0 ≡ line = cc in
         with_key v key (codes "need") ws line k.0 (written_as v _ (Need b.0) line n (formula_is v ws b.0 k.1 b.1))
@@ -92,7 +80,7 @@ rare_is v key ws line h = first (same key (codes "text") && (length ws == 0)) re
         → (if b then Some Text else (if same key (codes "need") && (v == 2) then (formula_of ws >>= λ f. Some (Need f)) else None)) ≡ Some line
         → IsWritten v (key ∷ ws) line
     first true e h =
-        let k = both (same key (codes "text")) (length ws == 0) e in
+        let k = and_parts (same key (codes "text")) (length ws == 0) e in
         let n : Text ≡ line = cc in
         with_key v key (codes "text") ws line k.0 (written_as v _ Text line n
         (record { spelled = ap (λ (t : List (List ℕ)). codes "text" ∷ t) (no_words ws k.1); formed = refl }))
@@ -170,7 +158,7 @@ lines_are v (ws ∷ said) lines h =
     let w = line_is v ws b.0 b.1 in
     let rest = lines_are v said k.0 k.1 in (
       (λ i. w.spelled i ∷ rest.0 i) ∙ ap (map spell_line) n,
-      ap (list_all (is_line v)) (sym n) ∙ both_back (is_line v b.0) (list_all (is_line v) k.0) w.formed rest.1,
+      ap (list_all (is_line v)) (sym n) ∙ and_from (is_line v b.0) (list_all (is_line v) k.0) w.formed rest.1,
     )
 
 -- ---- what is written so is read
@@ -194,15 +182,15 @@ line_there v (Value name values) h = ap (λ b. if b then Some (Value name values
 line_there v (Has tags) h = ap (λ o. o >>= λ ns. Some (Has ns)) (names_there class.Tag tags h)
 line_there v Text h = refl
 line_there v (Need f) h =
-    let k = both (v == 2 && are_formed (one f)) (nat_le (depth (one f)) 16) h in
-    let l = both (v == 2) (are_formed (one f)) k.0 in
+    let k = and_parts (v == 2 && are_formed (one f)) (nat_le (depth (one f)) 16) h in
+    let l = and_parts (v == 2) (are_formed (one f)) k.0 in
     ap (λ b. if b then (formula_of (spell_needs (one f) []) >>= λ g. Some (Need g)) else None) l.0
     ∙ ap (λ o. o >>= λ g. Some (Need g)) (formula_there f l.1 (leb-true (depth (one f)) 16 k.1))
 
 pub lines_there : (v : ℕ) (lines : List Line) → list_all (is_line v) lines ≡ true → lines_of v (map spell_line lines) ≡ Some lines
 lines_there v [] h = refl
 lines_there v (line ∷ lines) h =
-    let k = both (is_line v line) (list_all (is_line v) lines) h in
+    let k = and_parts (is_line v line) (list_all (is_line v) lines) h in
     ap (λ o. o >>= λ l. lines_of v (map spell_line lines) >>= λ ls. Some (l ∷ ls)) (line_there v line k.0)
     ∙ ap (λ o. o >>= λ ls. Some (line ∷ ls)) (lines_there v lines k.1)
 

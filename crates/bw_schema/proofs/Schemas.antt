@@ -1,41 +1,15 @@
 -- What is read of a text is what reads as it, and what refuses it.
-use Rattle.std.proofs.Common.{
-  ◌≡◌,
-  ◌≢◌,
-  ℕ,
-  ◌<◌,
-  Bool,
-  true,
-  false,
-  ◌&&◌,
-  ◌⊎◌,
-  inl,
-  inr,
-  List,
-  [],
-  ◌∷◌,
-  length,
-  Option,
-  Some,
-  None,
-  Result,
-  Ok,
-  Err,
-  refl,
-  ap,
-  sym,
-  subst,
-  ◌∙◌,
-}
-use Rattle.std.specs.Prelude.{codes, if◌then◌else◌, nat_lt, is_some}
+use Rattle.std.proofs.Common.{◌≡◌, ◌≢◌, ℕ, ◌<◌, Bool, true, false, ◌&&◌, ◌⊎◌, inl, inr, List, [], ◌∷◌, length, Option, Some, None, Result, Ok, Err, refl, ap}
+use Rattle.std.proofs.Common.{sym, subst, ◌∙◌}
+use Rattle.std.specs.Prelude.{codes, if◌then◌else◌, nat_lt}
 use Rattle.std.specs.Str.{IsUtf8, is_utf8}
 use Rattle.std.specs.Str.Parse.{digits_value}
-use Rattle.std.proofs.lemmas.Bool.{false≢true, le-ltb, ltb-false, lt-ltb, ltb-true}
+use Rattle.std.proofs.lemmas.Bool.{and_parts, false≢true, le-ltb, ltb-false, lt-ltb, ltb-true}
 use Rattle.std.proofs.lemmas.Str.{is_utf8-from_IsUtf8, IsUtf8-from_is_utf8}
-use Rattle.bw_lang.proofs.Options.{cond_some}
+use Rattle.bw_lang.proofs.SameNames.{same_is}
+use Rattle.bw_lang.proofs.Options.{cond_some, none_some}
 use Rattle.bw_lang.specs.Table.Names.{same}
 use Rattle.bw_schema.proofs.LineLaws.{text_is, text_there, IsBehind}
-use Rattle.bw_schema.proofs.Spelled.{both, same_is}
 use Rattle.bw_schema.specs.Forms.{is_number, is_read}
 use Rattle.bw_schema.specs.Marks.{repeated, unknown}
 use Rattle.bw_schema.specs.Steps.Reading.{judged, judged_repeated, judged_text, judged_unknown, read, read_said, read_version, text_of, version_of, with_root}
@@ -62,7 +36,7 @@ version_is [] v h = absurd cc
 version_is (key ∷ []) v h = absurd cc
 version_is (key ∷ w ∷ []) v h =
     let c = cond_some (same key (codes "schema") && is_number w) (digits_value 10 w) v h in
-    let b = both (same key (codes "schema")) (is_number w) c.0 in
+    let b = and_parts (same key (codes "schema")) (is_number w) c.0 in
     record { number = w; is_number = b.1; value = c.1; says = λ i. same_is key (codes "schema") b.0 i ∷ w ∷ [] }
 version_is (key ∷ w ∷ x ∷ ws) v h = absurd cc
 
@@ -151,9 +125,6 @@ too_long_is = differs fault.TooLong refl
 other_is : (v : ℕ) → not_memory (fault.Version v) ≡ true
 unfolding not_memory
 other_is v = refl
-
-none_some : {A : Type 0} (x : A) → None ≡ Some x → ⊥
-none_some x h = false≢true (ap is_some h)
 
 cons_nil : {A : Type 0} {x : A} {xs : List A} → x ∷ xs ≡ [] → ⊥
 cons_nil h = absurd cc

@@ -1,11 +1,12 @@
 -- Formulas read as the words that they are written with, and as nothing else.
-use Rattle.std.proofs.Common.{◌≡◌, ℕ, zero, suc, ◌≤◌, Bool, true, false, not, ◌&&◌, List, [], ◌∷◌, ◌++◌, length, take, drop, Option, Some, None, refl, ap, sym, subst, ◌∙◌, arith}
+use Rattle.std.proofs.Common.{◌≡◌, ℕ, zero, suc, ◌≤◌, Bool, true, false, not, ◌&&◌, List, [], ◌∷◌, ◌++◌, length, take, drop, Option, Some, None, refl, ap, sym}
+use Rattle.std.proofs.Common.{subst, ◌∙◌, arith}
 use Rattle.std.specs.Prelude.{codes, if◌then◌else◌, ◌==◌}
-use Rattle.std.specs.Cmp.Lexicographic.{same_text}
 use Rattle.std.specs.List.{list_all}
 use Rattle.std.proofs.Math.Dec.{eqb-suc-zero}
-use Rattle.std.proofs.lemmas.Bool.{false≢true}
+use Rattle.std.proofs.lemmas.Bool.{and_from, false≢true}
 use Rattle.std.proofs.lemmas.List.{take-append-drop}
+use Rattle.bw_lang.proofs.SameNames.{same_is}
 use Rattle.bw_lang.proofs.Options.{bind_some, cond_none, cond_some}
 use Rattle.bw_lang.specs.Table.Names.{same}
 use Rattle.bw_lang.specs.Table.Options.{◌>>=◌}
@@ -16,17 +17,6 @@ use Rattle.bw_schema.specs.Steps.Reading.{attr_at, closed, content_at, count_val
 use Rattle.bw_schema.specs.Words.{has_some}
 use Rattle.bw_schema.specs.declared.needs.Formula.{Formula}
 use Rattle.bw_schema.specs.declared.needs.Formula.TheVariants as formula
-
-pub same_is : (a b : List ℕ) → same a b ≡ true → a ≡ b
-same_is a b h = same_text a b (sym h)
-
-pub both : (a b : Bool) → (a && b) ≡ true → (a ≡ true) × (b ≡ true)
-both true b h = (refl, h)
-both false b h = absurd (false≢true h)
-
-pub both_back : (a b : Bool) → a ≡ true → b ≡ true → (a && b) ≡ true
-both_back true b e h = h
-both_back false b e h = absurd (false≢true e)
 
 -- ---- words at the front
 
@@ -73,7 +63,7 @@ attr_sound d ws x h =
     let e = ended_is (formula.Attr b.0.0) b.0.1 x b.2 in
     spelled_as (suc d) _ x.0 (formula.Attr b.0.0) x.1 e.0 (record {
       spelled = ap (λ (t : List (List ℕ)). codes "(" ∷ codes "attr" ∷ t) (n.0 ∙ ap (λ (t : List (List ℕ)). b.0.0 ∷ t) e.1);
-      formed = both_back (is_name class.Attr b.0.0) true n.1 refl;
+      formed = and_from (is_name class.Attr b.0.0) true n.1 refl;
       deep = omega arith;
     })
 
@@ -86,7 +76,7 @@ content_sound d ws x h =
     let e = ended_is (formula.Content b.0.0) b.0.1 x b.2 in
     spelled_as (suc d) _ x.0 (formula.Content b.0.0) x.1 e.0 (record {
       spelled = ap (λ (t : List (List ℕ)). codes "(" ∷ codes "content" ∷ t) (n.0 ∙ ap (λ (t : List (List ℕ)). b.0.0 ∷ t) e.1);
-      formed = both_back (is_name class.Tag b.0.0) true n.1 refl;
+      formed = and_from (is_name class.Tag b.0.0) true n.1 refl;
       deep = omega arith;
     })
 
@@ -102,7 +92,7 @@ order_sound d ws x h =
       spelled =
           ap (λ (t : List (List ℕ)). codes "(" ∷ codes "order" ∷ t)
           (n.0 ∙ ap (λ (t : List (List ℕ)). b.0.0 ∷ t) (m.0 ∙ ap (λ (t : List (List ℕ)). q.0.0 ∷ t) e.1));
-      formed = both_back (is_name class.Tag b.0.0 && is_name class.Tag q.0.0) true (both_back (is_name class.Tag b.0.0) (is_name class.Tag q.0.0) n.1 m.1) refl;
+      formed = and_from (is_name class.Tag b.0.0 && is_name class.Tag q.0.0) true (and_from (is_name class.Tag b.0.0) (is_name class.Tag q.0.0) n.1 m.1) refl;
       deep = omega arith;
     })
 
@@ -114,7 +104,7 @@ no_parens (w ∷ ws) = by_test (is_paren w) refl (no_parens ws)
     by_test : (b : Bool) → is_paren w ≡ b → list_all (λ v. not (is_paren v)) (take (count_values ws) ws) ≡ true
         → list_all (λ v. not (is_paren v)) (take (if b then 0 else suc (count_values ws)) (w ∷ ws)) ≡ true
     by_test true e h = refl
-    by_test false e h = both_back (not (is_paren w)) _ (ap not e) h
+    by_test false e h = and_from (not (is_paren w)) _ (ap not e) h
 
 some_values : (n : ℕ) (ws : List (List ℕ)) → (n == 0) ≡ false → n ≤ length ws → has_some (take n ws) ≡ true
 some_values zero ws h l = absurd (false≢true (sym h))
@@ -145,9 +135,9 @@ value_sound d ws x h =
           ap (λ (t : List (List ℕ)). codes "(" ∷ codes "value" ∷ t)
           (n.0 ∙ ap (λ (t : List (List ℕ)). b.0.0 ∷ t) (sym (take-append-drop k b.0.1) ∙ ap (λ (t : List (List ℕ)). vs ++ t) e.1));
       formed =
-          both_back (is_name class.Attr b.0.0 && (has_some vs && list_all (λ v. not (is_paren v)) vs)) true
-          (both_back (is_name class.Attr b.0.0) (has_some vs && list_all (λ v. not (is_paren v)) vs) n.1
-          (both_back (has_some vs) (list_all (λ v. not (is_paren v)) vs) (some_values k b.0.1 some.0 (count_within b.0.1)) (no_parens b.0.1)))
+          and_from (is_name class.Attr b.0.0 && (has_some vs && list_all (λ v. not (is_paren v)) vs)) true
+          (and_from (is_name class.Attr b.0.0) (has_some vs && list_all (λ v. not (is_paren v)) vs) n.1
+          (and_from (has_some vs) (list_all (λ v. not (is_paren v)) vs) (some_values k b.0.1 some.0 (count_within b.0.1)) (no_parens b.0.1)))
           refl;
       deep = omega arith;
     })

@@ -1,7 +1,8 @@
 -- Formulas with parts, read as the words that they are written with.
 use Rattle.std.proofs.Common.{◌≡◌, ℕ, zero, suc, ◌≤◌, Bool, true, false, not, ◌&&◌, List, [], ◌∷◌, length, Option, Some, None, refl, ap, sym, subst, ◌∙◌, arith}
 use Rattle.std.specs.Prelude.{codes, if◌then◌else◌}
-use Rattle.std.proofs.lemmas.Bool.{false≢true}
+use Rattle.std.proofs.lemmas.Bool.{and_from, false≢true}
+use Rattle.bw_lang.proofs.SameNames.{same_is}
 use Rattle.bw_lang.proofs.Options.{bind_some, cond_none, if_some}
 use Rattle.bw_lang.specs.Table.Names.{same}
 use Rattle.bw_lang.specs.Table.Options.{◌>>=◌}
@@ -11,7 +12,7 @@ use Rattle.bw_schema.specs.NeedsView.{before_need}
 use Rattle.bw_schema.specs.Steps.Reading.{closed, formula_at, inside_at, needs_at, needs_next, opened, parts_at, simple_at}
 use Rattle.bw_schema.specs.declared.needs.Formula.{Formula}
 use Rattle.bw_schema.specs.declared.needs.Formula.TheVariants as formula
-use Rattle.bw_schema.proofs.Spelled.{same_is, both_back, closed_is, IsSpelled, simple_sound}
+use Rattle.bw_schema.proofs.Spelled.{closed_is, IsSpelled, simple_sound}
 
 pub record Sound (d : ℕ) (step : List (List ℕ) → Option (Formula × List (List ℕ))) : Type 0 where
   pub one_is : (ws : List (List ℕ)) (x : Formula × List (List ℕ)) → step ws ≡ Some x → IsSpelled d ws x.0 x.1
@@ -88,7 +89,7 @@ parts_sound d step s ws p h =
     let r = needs_sound d step s (length ws) ws in
     let made : ArePartsSpelled d ws q.0 b.0 = record {
       spelled = r.spelled ∙ ap (spell_needs q.0) (closed_is q.1 b.0 b.1);
-      formed = both_back (not (is_nothing q.0)) (are_formed q.0) (ap not some.0) r.formed;
+      formed = and_from (not (is_nothing q.0)) (are_formed q.0) (ap not some.0) r.formed;
       deep = r.deep;
     } in
     subst (λ (t : Needs × List (List ℕ)). ArePartsSpelled d ws t.0 t.1) e made
@@ -113,7 +114,7 @@ inside_sound d step s head ws x h = first (same head (codes "and")) refl h
         → IsSpelled (suc d) (codes "(" ∷ head ∷ ws) x.0 x.1
     second true e h = made (codes "or") formula.Or e (λ p rest q. record {
       spelled = ap (λ (t : List (List ℕ)). codes "(" ∷ codes "or" ∷ t) q.spelled;
-      formed = both_back (not (is_nothing p) && are_formed p) true q.formed refl;
+      formed = and_from (not (is_nothing p) && are_formed p) true q.formed refl;
       deep = omega (arith, q.deep);
     }) h
     second false e h = simple_sound d head ws x h
@@ -124,7 +125,7 @@ inside_sound d step s head ws x h = first (same head (codes "and")) refl h
         → IsSpelled (suc d) (codes "(" ∷ head ∷ ws) x.0 x.1
     first true e h = made (codes "and") formula.And e (λ p rest q. record {
       spelled = ap (λ (t : List (List ℕ)). codes "(" ∷ codes "and" ∷ t) q.spelled;
-      formed = both_back (not (is_nothing p) && are_formed p) true q.formed refl;
+      formed = and_from (not (is_nothing p) && are_formed p) true q.formed refl;
       deep = omega (arith, q.deep);
     }) h
     first false e h = second (same head (codes "or")) refl h

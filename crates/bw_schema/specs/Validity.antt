@@ -8,7 +8,8 @@ use Rattle.bw_lang.specs.Document.Forest.{Forest, none, text, gap, element}
 use Rattle.bw_lang.specs.Table.Names.{same}
 use Rattle.bw_schema.specs.declared.rules.Rule.{Rule}
 use Rattle.bw_schema.specs.declared.schema.Schema.{Schema}
-use Rattle.bw_schema.specs.Words.{is_among, is_blank}
+use Rattle.bw_lang.specs.Text.Bytes.{is_blank_text}
+use Rattle.bw_schema.specs.Words.{is_among}
 use Rattle.bw_schema.specs.Rules.{allows, permits, rule_of}
 use Rattle.bw_schema.specs.Needs.{Needs, nothing, all_of, some_of, attr, one_value, content, order}
 
@@ -83,7 +84,7 @@ pub record Obeys (r : Rule) (attrs : List Attr) (inner : Forest) : Type 0 where
   pub required : list_all (has_fixed attrs) r.must ≡ true
   pub values : each_fixed (permits r.values) attrs ≡ true
   pub children : each_child (is_among r.has) inner ≡ true
-  pub texts : (r.text || each_text is_blank inner) ≡ true
+  pub texts : (r.text || each_text is_blank_text inner) ≡ true
   pub needs : holds true r.needs attrs inner ≡ true
 
 -- where its tag has a rule

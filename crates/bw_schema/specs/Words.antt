@@ -1,18 +1,14 @@
 -- Words, lists of words, and the words that a schema's text says.
 use Rattle.std.specs.Prelude.{ℕ, Bool, false, not, ◌||◌, ◌==◌, List, [], ◌∷◌, length, map, filter}
-use Rattle.std.specs.List.{list_any, list_all, slice_split}
+use Rattle.std.specs.List.{list_any, slice_split}
 use Rattle.std.specs.Str.{byte}
 use Rattle.std.specs.Str.Lines.{lines}
-use Rattle.bw_lang.specs.Text.Bytes as bytes
+use Rattle.bw_lang.specs.Text.Bytes.{is_blank_text}
 use Rattle.bw_lang.specs.Table.Names.{same}
 
 -- the word is in the list
 abbrev pub is_among : List (List ℕ) → List ℕ → Bool
 is_among words w = list_any (λ x. same x w) words
-
--- a text of spaces, tabs, CR and LF alone
-abbrev pub is_blank : List ℕ → Bool
-is_blank s = list_all bytes.is_blank s
 
 -- a space or a tab: they part the words of a line
 abbrev pub parts_words : ℕ → Bool
@@ -34,7 +30,7 @@ is_remark ((b ∷ w) ∷ words) = b == byte "#"
 
 -- a line that is skipped
 abbrev pub is_skipped : List ℕ → Bool
-is_skipped line = is_blank line || is_remark (words_of line)
+is_skipped line = is_blank_text line || is_remark (words_of line)
 
 -- the words of each line that isn't skipped. Lines end with LF or with the text, and a CR before LF isn't part of them.
 abbrev pub said : List ℕ → List (List (List ℕ))

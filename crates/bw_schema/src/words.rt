@@ -4,15 +4,8 @@ ghost use Rattle.std.specs.List.{slice_split};
 ghost use Rattle.std.specs.Str.Lines.{lines};
 ghost use Rattle.bw_schema.specs.Words as spec;
 
-use bw_lang::{Memory, Text, Words, is_blank};
+use bw_lang::{Memory, Text, Words, is_blank_text};
 use std::alloc::{AllocError, Global};
-
-/// Whether a text has spaces, tabs, CR and LF alone.
-pub fn is_blank_text(text: &str) -> bool
-    ensures { result ≡ spec.is_blank text.now }
-{
-    text.as_bytes().iter().all(|byte| is_blank(*byte))
-}
 
 /// What stands between the marks.
 fn parts(alloc: Global, text: &str, mark: char) -> Result<Vec<&str>, AllocError>

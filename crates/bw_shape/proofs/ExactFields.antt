@@ -5,7 +5,7 @@ use Rattle.std.proofs.lemmas.Bool.Decides.{nat_tests}
 use Rattle.bw_lang.specs.Document.Forest.{Forest, none, text, gap, element}
 use Rattle.bw_lang.specs.Document.Documents.{one_if}
 use Rattle.bw_shape.specs.Rows.Rows.{at}
-use Rattle.bw_shape.specs.Rows.Least.{Derived, by, IsDerived, IsClosedAt}
+use Rattle.bw_shape.specs.Rows.Least.{Derivation, Derived, by, IsDerived, IsClosedAt}
 use Rattle.bw_shape.specs.Nodes.Nodes.{Node, node_at, among, led, linked}
 use Rattle.bw_shape.specs.Nodes.Fits.{Fits}
 use Rattle.bw_sum.specs.Graph.{Graph}
@@ -20,7 +20,7 @@ use Rattle.bw_shape.proofs.Nodes.Bools.{and_parts, and_both, not_true}
 use Rattle.bw_shape.proofs.Links.{led_sound, led_whole, linked_sound, linked_whole}
 
 -- what holds of each fact that follows from facts of which it holds, holds of all
-pub derived_all : {width : ℕ} {follows : (ℕ → ℕ → Bool) → ℕ → ℕ → Bool} (P : ℕ → ℕ → Type 0)
+pub derived_all : {width : ℕ} {follows : Derivation} (P : ℕ → ℕ → Type 0)
     → ((known : ℕ → ℕ → Bool) (n c : ℕ) → c < width → ((m d : ℕ) → known m d ≡ true → P m d) → follows known n c ≡ true → P n c)
     → {n c : ℕ} → Derived width follows n c → P n c
 derived_all P step (by {n = n} {c = c} known k l f) = step known n c l (λ m d h. derived_all P step (k m d h)) f

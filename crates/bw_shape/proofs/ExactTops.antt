@@ -12,7 +12,7 @@ use Rattle.bw_shape.specs.Nodes.Nodes.{Node, node_at, among, led}
 use Rattle.bw_shape.specs.Nodes.Fits.{Fits}
 use Rattle.bw_sum.specs.Graph.{Graph}
 use Rattle.bw_shape.specs.Tests as test
-use Rattle.bw_schema.specs.Words.{is_blank}
+use Rattle.bw_lang.specs.Text.Bytes.{is_blank_text}
 use Rattle.bw_shape.specs.Nodes.Nodes.{is_free}
 use Rattle.bw_shape.specs.Tests.{tag_column}
 use Rattle.bw_shape.specs.Nodes.Templates.{template_at}
@@ -38,8 +38,8 @@ module _ (templates : List Forest) {nodes : List Node} {G : Graph} (fits : Fits 
       → ((m : ℕ) → known m ≡ true → Gives (template_at templates) G m (template_at templates m) x) → (t : Forest)
       → test.gives tags (node_at nodes n) known (top_column tags x) t ≡ true → Gives (template_at templates) G n t x
   gives_by n x known l k none h = absurd (false≢true h)
-  gives_by n x known l k (text s r) h = elim (or_cases ((0 == top_column tags x) && not (is_blank s)) _ h) [
-    | inl it ↦ let p = and_parts (0 == top_column tags x) (not (is_blank s)) it in
+  gives_by n x known l k (text s r) h = elim (or_cases ((0 == top_column tags x) && not (is_blank_text s)) _ h) [
+    | inl it ↦ let p = and_parts (0 == top_column tags x) (not (is_blank_text s)) it in
         subst (λ y. Gives (template_at templates) G n (text s r) y)
         (sym (text_is tags x (eqb-true 0 (top_column tags x) p.0))) (shape.text_here (not_true _ p.1))
     | inr it ↦ shape.after_text (gives_by n x known l k r it)
@@ -100,7 +100,7 @@ module _ (templates : List Forest) {nodes : List Node} {G : Graph} (fits : Fits 
               (or_right ((0 == c) && among (node_at nodes n).wordy g) _ (led_whole fits n g m (λ m. at table m c) e (closed m (along w e) c q.0 q.1))),
         )
     tops_test table closed {x = x} w a (shape.after_text {s = s} i) = let q = tops_test table closed w a i in
-        (q.0, or_right ((0 == top_column tags x) && not (is_blank s)) _ q.1)
+        (q.0, or_right ((0 == top_column tags x) && not (is_blank_text s)) _ q.1)
     tops_test table closed {x = x} {n = n} w a (shape.after_gap {g = g} i) =
         let q = tops_test table closed w a i in
         let c = top_column tags x in
@@ -204,7 +204,7 @@ module _ (templates : List Forest) {nodes : List Node} {G : Graph} (fits : Fits 
     cross_by n x y known l m k (text s r) h =
         elim (or_cases (test.gives tags (node_at nodes n) (λ m. at tops m (tag_column tags y)) (tag_column tags y) (text s none) && _) _ h) [
           | inl it ↦ let p = and_parts (test.gives tags (node_at nodes n) (λ m. at tops m (tag_column tags y)) (tag_column tags y) (text s none)) _ it in
-              absurd (zero_not (name_number tags y) (not (is_blank s)) (or_none _ p.0))
+              absurd (zero_not (name_number tags y) (not (is_blank_text s)) (or_none _ p.0))
           | inr it ↦ shape.after_text (cross_by n x y known l m k r it)
         ]
     cross_by n x y known l m k (gap g r) h =

@@ -5,7 +5,7 @@ use Rattle.std.proofs.lemmas.List.{get_or_default}
 use Rattle.std.proofs.lemmas.List.Elements.{All-contains}
 use Rattle.bw_lang.specs.Document.Forest.{Forest}
 use Rattle.bw_shape.specs.Rows.Rows.{at}
-use Rattle.bw_shape.specs.Rows.Least.{IsLeast, IsClosedAt}
+use Rattle.bw_shape.specs.Rows.Least.{Derivation, IsLeast, IsClosedAt}
 use Rattle.bw_shape.specs.Nodes.Nodes.{Node}
 use Rattle.bw_shape.specs.Nodes.Fits.{Fits}
 use Rattle.bw_sum.specs.Graph.{Graph}
@@ -45,7 +45,7 @@ module _ {nodes : List Node} {G : Graph} (fits : Fits nodes G) (root : ℕ) wher
   unwalked (reach.along {n = n} {m = m} g w e) = shape.along {g = g} (unwalked w) (sym (fits.edges n g m) ∙ e)
 
   -- the tables are closed at each reached template
-  closed_at : {width : ℕ} {follows : (ℕ → ℕ → Bool) → ℕ → ℕ → Bool} (order back : List ℕ) (table : List (List Bool)) → Reaches nodes root order
+  closed_at : {width : ℕ} {follows : Derivation} (order back : List ℕ) (table : List (List Bool)) → Reaches nodes root order
       → ((n : ℕ) → Contains order n → Contains back n)
       → IsLeast width follows back table → (n : ℕ) → Reached G root n → IsClosedAt width follows table n
   closed_at {width = width} {follows = follows} order back table r e l n w =

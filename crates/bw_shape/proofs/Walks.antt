@@ -15,14 +15,14 @@ use Rattle.bw_lang.proofs.Forests.{forest_steps}
 use Rattle.bw_shape.specs.Rows.Rows.{flag, at}
 use Rattle.bw_shape.specs.Rows.Changes.{Sets}
 use Rattle.bw_shape.specs.Nodes.Nodes.{Node, among, led}
-use Rattle.bw_schema.specs.Words.{is_blank}
+use Rattle.bw_lang.specs.Text.Bytes.{is_blank_text}
 use Rattle.bw_shape.specs.Nodes.Nodes.{is_free}
 use Rattle.bw_shape.specs.Tests.{gives, tag_column, stands, lacks, places, misses, crosses, opens, is_field}
 
 pub gives-append : (tags : List (List ℕ)) (node : Node) (known : ℕ → Bool) (c : ℕ) (a b : Forest)
     → gives tags node known c (append a b) ≡ (gives tags node known c a || gives tags node known c b)
 gives-append tags node known c none b = refl
-gives-append tags node known c (text s r) b = ap (λ x. ((0 == c) && not (is_blank s)) || x) (gives-append tags node known c r b)
+gives-append tags node known c (text s r) b = ap (λ x. ((0 == c) && not (is_blank_text s)) || x) (gives-append tags node known c r b)
     ∙ sym (or_assoc _ (gives tags node known c r) (gives tags node known c b))
 gives-append tags node known c (gap g r) b =
     ap (λ x. (((0 == c) && among node.wordy g) || led node known g) || x) (gives-append tags node known c r b)

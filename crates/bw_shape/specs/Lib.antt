@@ -7,5 +7,6 @@ pub mod Reading
 pub mod Reach
 pub mod Shape
 pub mod Tests
+pub mod Wrapping
 pub mod Rows
 pub mod Nodes

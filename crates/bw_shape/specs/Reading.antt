@@ -7,7 +7,7 @@ use Rattle.bw_lang.specs.Table.Names.{name_number}
 use Rattle.bw_shape.specs.Rows.Rounds.{ReadsLinks}
 use Rattle.bw_shape.specs.Nodes.Nodes.{Node, node_at, is_free, among, led, linked}
 use Rattle.bw_shape.specs.Nodes.Templates.{template_at}
-use Rattle.bw_schema.specs.Words.{is_blank}
+use Rattle.bw_lang.specs.Text.Bytes.{is_blank_text}
 use Rattle.bw_shape.specs.Tests.{is_field, tag_column, gives, lacks, misses, crosses}
 use Rattle.bw_shape.specs.Follows.{spread_follows, lack_follows, top_follows, miss_follows, cross_follows}
 
@@ -38,7 +38,7 @@ module _ (node : Node) (p q : ℕ → Bool) (same : All (λ l. p l.1 ≡ q l.1) 
 
   gives_same : (tags : List (List ℕ)) (c : ℕ) (t : Forest) → gives tags node p c t ≡ gives tags node q c t
   gives_same tags c none = refl
-  gives_same tags c (text s r) = ap (λ b. ((0 == c) && not (is_blank s)) || b) (gives_same tags c r)
+  gives_same tags c (text s r) = ap (λ b. ((0 == c) && not (is_blank_text s)) || b) (gives_same tags c r)
   gives_same tags c (gap g r) = ap (λ b. (((0 == c) && among node.wordy g) || b) || gives tags node p c r) (led_same g)
       ∙ ap (λ b. (((0 == c) && among node.wordy g) || led node q g) || b) (gives_same tags c r)
   gives_same tags c (element tag a i r) = ap (λ b. (tag_column tags tag == c) || b) (gives_same tags c r)

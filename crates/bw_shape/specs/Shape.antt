@@ -4,7 +4,7 @@ use Rattle.bw_lang.specs.declared.items.Attr.{Attr}
 use Rattle.bw_lang.specs.Document.Forest.{Forest, none, text, gap, element}
 use Rattle.bw_lang.specs.Table.Names.{same}
 use Rattle.bw_sum.specs.Graph.{Graph}
-use Rattle.bw_schema.specs.Words.{is_blank}
+use Rattle.bw_lang.specs.Text.Bytes.{is_blank_text}
 use Rattle.bw_shape.specs.Tests.{is_field, stands}
 
 -- from the root along edges
@@ -20,8 +20,8 @@ pub data Top : Type 0 where
 -- the part of template n may have this at its top
 pub data Gives (templates : ℕ → Forest) (G : Graph) : ℕ → Forest → Top → Type 0 where
   element_here : {n : ℕ} {tag : List ℕ} {a : List Attr} {i r : Forest} → Gives templates G n (element tag a i r) (tagged tag)
-  text_here : {n : ℕ} {s : List ℕ} {r : Forest} → is_blank s ≡ false → Gives templates G n (text s r) wordy
-  said : {n g : ℕ} {s : List ℕ} {r : Forest} → G.label n g s ≡ true → is_blank s ≡ false → Gives templates G n (gap g r) wordy
+  text_here : {n : ℕ} {s : List ℕ} {r : Forest} → is_blank_text s ≡ false → Gives templates G n (text s r) wordy
+  said : {n g : ℕ} {s : List ℕ} {r : Forest} → G.label n g s ≡ true → is_blank_text s ≡ false → Gives templates G n (gap g r) wordy
   led : {n g m : ℕ} {r : Forest} {x : Top} → G.edge n g m ≡ true → Gives templates G m (templates m) x → Gives templates G n (gap g r) x
   after_text : {n : ℕ} {s : List ℕ} {r : Forest} {x : Top} → Gives templates G n r x → Gives templates G n (text s r) x
   after_gap : {n g : ℕ} {r : Forest} {x : Top} → Gives templates G n r x → Gives templates G n (gap g r) x

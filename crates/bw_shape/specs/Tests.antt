@@ -6,8 +6,9 @@ use Rattle.bw_lang.specs.Document.Forest.{Forest, none, text, gap, element}
 use Rattle.bw_lang.specs.Document.Documents.{one_if}
 use Rattle.bw_lang.specs.Table.Names.{name_number}
 use Rattle.bw_lang.specs.Template.Controls.{field_of}
-use Rattle.bw_schema.specs.Words.{is_blank}
+use Rattle.bw_lang.specs.Text.Bytes.{is_blank_text}
 use Rattle.bw_shape.specs.Nodes.Nodes.{Node, among, is_free, led}
+use Rattle.bw_shape.specs.Rows.Least.{Facts}
 
 -- the element is a control of the field of that number
 abbrev pub is_field : List (List ℕ) → ℕ → List ℕ → List Attr → Bool
@@ -17,54 +18,59 @@ is_field names f tag attrs = list_any (λ x. name_number names x.0 == f) (field_
 abbrev pub tag_column : List (List ℕ) → List ℕ → ℕ
 tag_column tags tag = suc (name_number tags tag)
 
--- the forest may have what stands in the column at its top
-abbrev pub gives : List (List ℕ) → Node → (ℕ → Bool) → ℕ → Forest → Bool
-gives tags node known c none = false
-gives tags node known c (text s rest) = ((0 == c) && not (is_blank s)) || gives tags node known c rest
-gives tags node known c (gap g rest) = (((0 == c) && among node.wordy g) || led node known g) || gives tags node known c rest
-gives tags node known c (element tag attrs inner rest) = (tag_column tags tag == c) || gives tags node known c rest
+-- the tags, the node of the template, which templates may have what is asked for, and the column
+module _ (tags : List (List ℕ)) (node : Node) (known : ℕ → Bool) (column : ℕ) where
+  -- the forest may have what stands in the column at its top
+  abbrev pub gives : Forest → Bool
+  gives none = false
+  gives (text s rest) = ((0 == column) && not (is_blank_text s)) || gives rest
+  gives (gap g rest) = (((0 == column) && among node.wordy g) || led node known g) || gives rest
+  gives (element tag attrs inner rest) = (tag_column tags tag == column) || gives rest
+
+  -- the forest may have no element of the tag of that number at its top
+  abbrev pub misses : Forest → Bool
+  misses none = true
+  misses (text s rest) = misses rest
+  misses (gap g rest) = (is_free node g || led node known g) && misses rest
+  misses (element tag attrs inner rest) = not (name_number tags tag == column) && misses rest
 
 -- a control of the field stands in the forest
-abbrev pub stands : List (List ℕ) → ℕ → Forest → Bool
-stands names f none = false
-stands names f (text s rest) = stands names f rest
-stands names f (gap g rest) = stands names f rest
-stands names f (element tag attrs inner rest) = is_field names f tag attrs || (stands names f inner || stands names f rest)
+module _ (names : List (List ℕ)) (field : ℕ) where
+  abbrev pub stands : Forest → Bool
+  stands none = false
+  stands (text s rest) = stands rest
+  stands (gap g rest) = stands rest
+  stands (element tag attrs inner rest) = is_field names field tag attrs || (stands inner || stands rest)
 
--- the forest may have no control of the field
-abbrev pub lacks : List (List ℕ) → Node → (ℕ → Bool) → ℕ → Forest → Bool
-lacks names node known f none = true
-lacks names node known f (text s rest) = lacks names node known f rest
-lacks names node known f (gap g rest) = (is_free node g || led node known g) && lacks names node known f rest
-lacks names node known f (element tag attrs inner rest) = not (is_field names f tag attrs) && (lacks names node known f inner && lacks names node known f rest)
+module _ (names : List (List ℕ)) (node : Node) (known : ℕ → Bool) (field : ℕ) where
+  -- the forest may have no control of the field
+  abbrev pub lacks : Forest → Bool
+  lacks none = true
+  lacks (text s rest) = lacks rest
+  lacks (gap g rest) = (is_free node g || led node known g) && lacks rest
+  lacks (element tag attrs inner rest) = not (is_field names field tag attrs) && (lacks inner && lacks rest)
 
--- how many controls of the field, and gaps that lead to a template that may have it, stand in the forest
-abbrev pub places : List (List ℕ) → Node → (ℕ → Bool) → ℕ → Forest → ℕ
-places names node have f none = 0
-places names node have f (text s rest) = places names node have f rest
-places names node have f (gap g rest) = one_if (led node have g) + places names node have f rest
-places names node have f (element tag attrs inner rest) = one_if (is_field names f tag attrs) + (places names node have f inner + places names node have f rest)
+  -- how many controls of the field, and gaps that lead to a template that may have it, stand in the forest
+  abbrev pub places : Forest → ℕ
+  places none = 0
+  places (text s rest) = places rest
+  places (gap g rest) = one_if (led node known g) + places rest
+  places (element tag attrs inner rest) = one_if (is_field names field tag attrs) + (places inner + places rest)
 
--- the forest may have no element of the tag of that number at its top
-abbrev pub misses : List (List ℕ) → Node → (ℕ → Bool) → ℕ → Forest → Bool
-misses tags node known c none = true
-misses tags node known c (text s rest) = misses tags node known c rest
-misses tags node known c (gap g rest) = (is_free node g || led node known g) && misses tags node known c rest
-misses tags node known c (element tag attrs inner rest) = not (name_number tags tag == c) && misses tags node known c rest
+-- An item that may give the first column stands before one that may give the second, both at the top. It is known which
+-- templates may have a column there (`tops`), and in which templates they may stand so (`known`).
+module _ (tags : List (List ℕ)) (node : Node) (tops : Facts) (known : ℕ → Bool) (pair : ℕ × ℕ) where
+  abbrev first_then : Forest → Forest → Bool
+  first_then item rest = gives tags node (λ m. tops m pair.0) pair.0 item && gives tags node (λ m. tops m pair.1) pair.1 rest
 
--- an item that may give the first column stands before one that may give the second, both at the top
-abbrev pub crosses : List (List ℕ) → Node → (ℕ → ℕ → Bool) → (ℕ → Bool) → ℕ × ℕ → Forest → Bool
-crosses tags node tops known p none = false
-crosses tags node tops known p (text s rest) =
-    (gives tags node (λ m. tops m p.0) p.0 (text s none) && gives tags node (λ m. tops m p.1) p.1 rest) || crosses tags node tops known p rest
-crosses tags node tops known p (gap g rest) =
-    (led node known g || (gives tags node (λ m. tops m p.0) p.0 (gap g none) && gives tags node (λ m. tops m p.1) p.1 rest))
-    || crosses tags node tops known p rest
-crosses tags node tops known p (element tag attrs inner rest) =
-    (gives tags node (λ m. tops m p.0) p.0 (element tag attrs inner none) && gives tags node (λ m. tops m p.1) p.1 rest) || crosses tags node tops known p rest
+  abbrev pub crosses : Forest → Bool
+  crosses none = false
+  crosses (text s rest) = first_then (text s none) rest || crosses rest
+  crosses (gap g rest) = (led node known g || first_then (gap g none) rest) || crosses rest
+  crosses (element tag attrs inner rest) = first_then (element tag attrs inner none) rest || crosses rest
 
 -- the first item is a gap that leads to a template in which they may stand so
-abbrev pub opens : Node → (ℕ → Bool) → Forest → Bool
+abbrev pub opens : Node → (known : ℕ → Bool) → Forest → Bool
 opens node known none = false
 opens node known (text s rest) = false
 opens node known (gap g rest) = led node known g

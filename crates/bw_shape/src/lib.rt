@@ -2,6 +2,7 @@
 #![tactic(auto)]
 
 mod arranging;
+pub mod basis;
 pub mod building;
 mod cross;
 mod field_tables;
@@ -23,11 +24,12 @@ pub mod tags;
 pub mod tally;
 pub mod tops;
 
+pub use basis::{Basis, Wrappers};
 pub use building::{Graphed, nodes_of};
 pub use items::TemplateItems;
 pub use naming::Named;
 pub use node::Node;
-pub use outline::{Outline, shape};
+pub use outline::{Outline, shape, shape_by};
 pub use row::Row;
 pub use rule::{Rule, least};
 pub use sayings::{Saying, Sayings};

@@ -3,15 +3,12 @@ ghost use Rattle.std.specs.Prelude.{◌≡◌, ℕ, ◌<◌, length, IfOk};
 ghost use Rattle.std.specs.List.{All};
 ghost use Rattle.bw_strings.specs.Literals.{literals_of};
 ghost use Rattle.bw_shape.specs.Nodes.Nodes.{node_at};
-ghost use Rattle.bw_sum.specs.Templates.{all_items};
 ghost use Rattle.bw_shape.specs.Formulas.{AreColumns};
 ghost use Rattle.bw_shape.specs.Outlines as spec;
 
 use crate::naming::{Named, name_rules};
 use crate::tables::{Tables, tables_of};
-use crate::{Graphed, TemplateItems, nodes_of};
-use bw_lang::laws::readable_is_small;
-use bw_lang::wrappers::{exit_wrapper, show_wrapper};
+use crate::{Basis, Graphed, TemplateItems, Wrappers, nodes_of};
 use bw_lang::{FieldId, FieldNames, Memory, TemplateId};
 use bw_schema::Schema;
 use bw_strings::Literals;
@@ -117,41 +114,32 @@ fn outlined<'a>(
     })
 }
 
-/// The shape of a page graph of a service whose templates, with the wrappers behind them, these are.
-fn shape_within(
-    alloc: Global,
-    templates: &TemplateItems,
-    page: &Summary,
-    typed: &Typed,
-    literals: &Literals,
-    schema: &Schema,
-) -> Result<Outline, Memory>
-    requires templates { templates.now ≡ all_items typed.now.service }
-    requires page { spec.IsPageGraph typed.now.service page.now }
-    requires literals { literals.now ≡ literals_of typed.now.service }
-    ensures { IfOk result (λ o. spec.IsShape typed.now.service page.now schema.now o) }
+/// The shape of a page graph, for the tags that the formulas of the schema name. The page graph has one root, the wrapper
+/// of shown or of last pages, and names only templates of the service and the wrappers, and literals of the service.
+///
+/// It takes time that grows with the page graph, the formulas of the schema and the templates that are reached; of the
+/// others it takes no more than an empty row each.
+pub fn shape_by(alloc: Global, page: &Summary, basis: &Basis<'_>) -> Result<Outline, Memory>
+    requires { spec.IsPageGraph basis.now.typed.now.service page.now }
+    ensures { IfOk result (λ o. spec.IsShape basis.now.typed.now.service page.now basis.now.schema.now o) }
 {
-    let graphed = nodes_of(alloc, templates.len(), literals, page)?;
-    let Ok(named) = name_rules(alloc, schema.elements()) else {
+    let graphed = nodes_of(alloc, basis.templates.len(), basis.literals, page)?;
+    let Ok(named) = name_rules(alloc, basis.schema.elements()) else {
         drop(graphed);
         return Err(Memory);
     };
     outlined(
         alloc,
-        templates,
-        typed.fields(),
+        basis.templates,
+        basis.typed.fields(),
         root_of(page),
         graphed,
         named,
     )
 }
 
-/// The shape of a page graph of a service, for the tags that the formulas of a schema name. `literals` are those of the
-/// service. The page graph has one root, the wrapper of shown or of last pages, and names only templates of the service
-/// and the wrappers, and literals of the service.
-///
-/// It takes time that grows with the page graph, the formulas of the schema and the templates that are reached; of the
-/// others it takes no more than an empty row each.
+/// The shape of a page graph of a service, as `shape_by` answers it, whose wrappers are made for this page alone.
+/// `literals` are those of the service.
 pub fn shape(
     alloc: Global,
     page: &Summary,
@@ -163,16 +151,13 @@ pub fn shape(
     requires literals { literals.now ≡ literals_of typed.now.service }
     ensures { IfOk result (λ o. spec.IsShape typed.now.service page.now schema.now o) }
 {
-    readable_is_small();
-    let service = typed.service();
-    let show = show_wrapper(alloc, &service.gaps)?;
-    let Ok(exit) = exit_wrapper(alloc, &service.gaps) else {
-        drop(show);
-        return Err(Memory);
+    let wrappers = Wrappers::of(alloc, typed)?;
+    let templates = wrappers.behind(typed);
+    let basis = Basis {
+        typed,
+        literals,
+        templates: &templates,
+        schema,
     };
-    let templates = TemplateItems::of(service, &show, &exit);
-    let outline = shape_within(alloc, &templates, page, typed, literals, schema);
-    drop(exit);
-    drop(show);
-    outline
+    shape_by(alloc, page, &basis)
 }

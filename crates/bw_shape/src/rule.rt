@@ -13,6 +13,7 @@ use std::alloc::Global;
 
 /// A rule that says which facts of a row follow from those that are known.
 pub trait Rule {
+    ghost use Rattle.bw_shape.specs.Rows.Least.{Derivation};
     ghost use Rattle.bw_shape.specs.Rows.Rounds.{ReadsLinks};
 
     ghost width: { Self → ℕ };
@@ -21,7 +22,7 @@ pub trait Rule {
 
     ghost links: { Self → ℕ → List (ℕ × ℕ) };
 
-    ghost follows: { Self → (ℕ → ℕ → Bool) → ℕ → ℕ → Bool };
+    ghost follows: { Self → Derivation };
 
     /// The links of the row n, each a gap and a row.
     fn links(&self, n: usize) -> &[(GapId, TemplateId)]

@@ -4,22 +4,14 @@ ghost use Rattle.std.specs.List.{All};
 ghost use Rattle.bw_shape.specs.Rows.Rows.{flag, at};
 ghost use Rattle.bw_lang.specs.Document.Forest.{none};
 ghost use Rattle.bw_lang.specs.Document.View.{before};
-ghost use Rattle.bw_schema.specs.Words as words;
 ghost use Rattle.bw_shape.specs.Rows.Changes.{Sets, Clears};
 ghost use Rattle.bw_shape.specs.Tests as test;
 
 use crate::gaps::{gap_lacks, links_at};
 use crate::tags::Tags;
 use crate::{Node, Row, Rule, Table, TemplateItems};
-use bw_lang::{GapId, Item, Items, Memory, TemplateId, is_blank};
+use bw_lang::{GapId, Item, Items, Memory, TemplateId, is_blank_text};
 use std::alloc::Global;
-
-/// Whether a text counts as none: it has spaces, tabs, CR and LF alone.
-fn is_blank_text(text: &str) -> bool
-    ensures { result ≡ words.is_blank text.now }
-{
-    text.as_bytes().iter().all(|byte| is_blank(*byte))
-}
 
 /// Sets what an item may give.
 pub(crate) fn item_gives(tags: &Tags, node: &Node, known: &Table, item: &Item, row: &mut Row)

@@ -29,6 +29,17 @@ module _ {V : Type 0} {alike : V → V → Type 0} {below : V → V → Bool} {j
   value_grows f at h p = L.size_grows (f at) (transfer at f) (S.fits_alike at (f at) (transfer at f) h (p.fitting at h)
       (S.transfer_fits at f h p.fitting)) (p.rising at h)
 
+  -- what holds once a cell has the value that its transfer gives
+  pub record Put (values : List V) (at : ℕ) (v : V) : Type 0 where
+    pub partial : Partial below cells fits empty transfer (family empty (set values at v))
+    pub members_are : members size (family empty (set values at v)) cells + size (family empty values at) ≡ members size (family empty values) cells + size v
+    pub size_grows : size (family empty values at) ≤ size v
+    pub gaps_fall : below v (family empty values at) ≡ false
+        → added (λ d. bound d - rank (family empty (set values at v) d)) cells < added (λ d. bound d - rank (family empty values d)) cells
+    pub closed : (d : ℕ) → d < cells → ¬ (Contains (readers at) d) → below (transfer d (family empty values)) (family empty values d) ≡ true
+        → below (transfer d (family empty (set values at v))) (family empty (set values at v) d) ≡ true
+    pub closed_here : ¬ (Contains (readers at) at) → below (transfer at (family empty (set values at v))) (family empty (set values at v) at) ≡ true
+
   module _ (values : List V) (at : ℕ) (v : V) (in_list : at < length values) (in_range : at < cells)
       (p : Partial below cells fits empty transfer (family empty values)) (is : v ≡ transfer at (family empty values)) where
     others : (d : ℕ) → d ≢ at → family empty (set values at v) d ≡ family empty values d
@@ -37,27 +48,9 @@ module _ {V : Type 0} {alike : V → V → Type 0} {below : V → V → Bool} {j
     here : family empty (set values at v) at ≡ v
     here = get_or-set_same values at v (empty at) in_list
 
-    pub set_partial : Partial below cells fits empty transfer (family empty (set values at v))
-    set_partial = partial_more L S (family empty values) (family empty (set values at v)) at in_range p others (here ∙ is)
-
-    pub set_closed : (d : ℕ) → d < cells → ¬ (Contains (readers at) d) → below (transfer d (family empty values)) (family empty values d) ≡ true
-        → below (transfer d (family empty (set values at v))) (family empty (set values at v) d) ≡ true
-    set_closed d h apart closed = closed_more L S (family empty values) (family empty (set values at v)) at in_range p others (here ∙ is) d h apart closed
-
-    pub set_closed_here : ¬ (Contains (readers at) at) → below (transfer at (family empty (set values at v))) (family empty (set values at v) at) ≡ true
-    set_closed_here apart = closed_here L S (family empty values) (family empty (set values at v)) at in_range p others (here ∙ is) apart
-
-    pub set_members : members size (family empty (set values at v)) cells + size (family empty values at) ≡ members size (family empty values) cells + size v
-    set_members =
-        added_move (λ d. size (family empty (set values at v) d)) (λ d. size (family empty values d)) cells at in_range (λ d other. ap size (others d other))
-        ∙ ap (λ w. members size (family empty values) cells + size w) here
-
-    pub set_size : size (family empty values at) ≤ size v
-    set_size = subst (λ w. size (family empty values at) ≤ size w) (sym is) (value_grows (family empty values) at in_range p)
-
-    pub set_gaps : below v (family empty values at) ≡ false
+    gaps : below v (family empty values at) ≡ false
         → added (λ d. bound d - rank (family empty (set values at v) d)) cells < added (λ d. bound d - rank (family empty values d)) cells
-    set_gaps grew =
+    gaps grew =
         let f : ℕ → V = family empty values in
         let g : ℕ → V = family empty (set values at v) in
         let fv : fits at v = subst (fits at) (sym is) (S.transfer_fits at f in_range p.fitting) in
@@ -68,3 +61,15 @@ module _ {V : Type 0} {alike : V → V → Type 0} {below : V → V → Bool} {j
         let moved = added_move (λ d. bound d - rank (g d)) (λ d. bound d - rank (f d)) cells at in_range
         (λ d other. ap (λ w. bound d - rank w) (others d other)) in
         omega arith
+
+    pub put : Put values at v
+    put = record {
+      partial = partial_more L S (family empty values) (family empty (set values at v)) at in_range p others (here ∙ is);
+      members_are =
+          added_move (λ d. size (family empty (set values at v) d)) (λ d. size (family empty values d)) cells at in_range (λ d other. ap size (others d other))
+          ∙ ap (λ w. members size (family empty values) cells + size w) here;
+      size_grows = subst (λ w. size (family empty values at) ≤ size w) (sym is) (value_grows (family empty values) at in_range p);
+      gaps_fall = gaps;
+      closed = closed_more L S (family empty values) (family empty (set values at v)) at in_range p others (here ∙ is);
+      closed_here = closed_here L S (family empty values) (family empty (set values at v)) at in_range p others (here ∙ is);
+    }

@@ -10,7 +10,7 @@ use Rattle.std.specs.List.{AllByRecursion}
 use Rattle.std.proofs.lemmas.List.{drop_more, at_drop_all}
 use Rattle.std.proofs.lemmas.Bool.Decides.{nat_tests}
 use Rattle.bw_solve.specs.Sets.{IsSet, has, is_within, merge}
-use Rattle.bw_solve.specs.SetLaws.{above_more, above_same, less_back, above_lacks}
+use Rattle.bw_solve.specs.Lawful.SetLaws.{above_more, above_same, less_back, above_lacks}
 
 -- what is left of a list at a place
 pub left_at : {T : Type 0} (xs : List T) (i : ℕ) (x : T) → i < length xs → x ≡ get_or xs i x → drop i xs ≡ x ∷ drop (i + 1) xs

@@ -1,9 +1,7 @@
 pub mod Fault
 pub mod Lattice
+pub mod Lawful
 pub mod Laws
-pub mod Products
-pub mod SetLaws
 pub mod Sets
 pub mod System
-pub mod TableLaws
 pub mod Tables

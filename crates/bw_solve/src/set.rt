@@ -192,7 +192,7 @@ fn merged<T: Ord + Copy>(alloc: Global, a: &[T], b: &[T]) -> Result<Vec<T>, Allo
 impl<T: Ord + Copy> Lattice for Set<T> {
     ghost use Rattle.std.specs.Prelude.{length};
     ghost use Rattle.bw_solve.specs.Sets.{IsSet, is_within, merge};
-    ghost use Rattle.bw_solve.specs.SetLaws.{set_lattice};
+    ghost use Rattle.bw_solve.specs.Lawful.SetLaws.{set_lattice};
 
     ghost alike = { λ a b. IsSet T.cmp a × IsSet T.cmp b };
 

@@ -35,12 +35,12 @@ use Rattle.bw_analyse.specs.declared.abstracts.Abstract.TheVariants.{Nothing, St
 use Rattle.bw_analyse.specs.declared.facts.Facts.{Facts}
 use Rattle.bw_analyse.specs.Facts.{AreFacts, summary_of, page_of, summary_at, names_at, rows_of, shown_fact}
 use Rattle.bw_analyse.specs.Fits.{Fits}
-use Rattle.bw_analyse.specs.KindLaws.{all_itself}
+use Rattle.bw_analyse.specs.Lawful.KindLaws.{all_itself}
 use Rattle.bw_analyse.specs.Known.{look, known}
 use Rattle.bw_analyse.specs.Least.{flow_of}
 use Rattle.bw_analyse.specs.Pages.{shown_page, exited_page, name_of, page_by, page_graph, page_at as page_in}
-use Rattle.bw_analyse.specs.StepLaws.{HasFew, expression_up}
-use Rattle.bw_analyse.specs.TypedSystem.{few_of}
+use Rattle.bw_analyse.specs.Lawful.StepLaws.{HasFew, expression_up}
+use Rattle.bw_analyse.specs.Lawful.TypedSystem.{few_of}
 use Rattle.bw_check.proofs.Within.Named.{received_have_numbers}
 use Rattle.bw_sound.specs.Found.Seen.{graph_of}
 use Rattle.bw_sound.proofs.Found.Cells.{typed_flow, typed_service, known_gaps, row_fits, last_fits}

@@ -23,7 +23,7 @@ use Rattle.bw_sum.proofs.WellFormed.{constant_well_formed, plug_text_well_formed
 use Rattle.bw_shape.proofs.Shapes.{template_is}
 use Rattle.bw_cover.specs.Abstracts as cover
 use Rattle.bw_analyse.specs.Pages.{shown_page, exited_page, name_of}
-use Rattle.bw_analyse.specs.StepLaws.{HasFew}
+use Rattle.bw_analyse.specs.Lawful.StepLaws.{HasFew}
 use Rattle.bw_check.proofs.Within.Named.{name_named}
 use Rattle.bw_sound.proofs.Found.Seen.{same_graph, one_seen}
 use Rattle.bw_sound.proofs.Unfolded.{titled, show_graph, exit_graph}

@@ -12,8 +12,8 @@ use Rattle.bw_strings.specs.Asking.{text_of}
 use Rattle.bw_strings.specs.Laws.{LiteralsDiffer}
 
 -- each name of a table has its place as its number
-abbrev Differ : List (List ℕ) → Type 0
-Differ names = (n : ℕ) → n < length names → name_number names (text_of names n) ≡ n
+abbrev HavePlaces : List (List ℕ) → Type 0
+HavePlaces names = (n : ℕ) → n < length names → name_number names (text_of names n) ≡ n
 
 text_before : (names : List (List ℕ)) (w : List ℕ) (n : ℕ) → n < length names → text_of (names ++ w ∷ []) n ≡ text_of names n
 text_before [] w n h = absurd (omega arith)
@@ -30,10 +30,10 @@ number_last (m ∷ names) w h =
     let p = or_parts (same w m) (list_any (same w) names) h in
     ap (λ b. cond (not b) (1 + name_number (names ++ w ∷ []) w) 0) p.0 ∙ ap (λ k. 1 + k) (number_last names w p.1) ∙ omega arith
 
-differ_more : (names : List (List ℕ)) (w : List ℕ) → Differ names → Differ (with_name names w)
+differ_more : (names : List (List ℕ)) (w : List ℕ) → HavePlaces names → HavePlaces (with_name names w)
 differ_more names w ih = by_test (list_any (same w) names) refl
   where
-    by_test : (b : Bool) → list_any (same w) names ≡ b → Differ (if b then names else names ++ w ∷ [])
+    by_test : (b : Bool) → list_any (same w) names ≡ b → HavePlaces (if b then names else names ++ w ∷ [])
     by_test true e = ih
     by_test false e = λ n h. elim (cases_lt n (length names)) [
       | inl before ↦
@@ -46,7 +46,7 @@ differ_more names w ih = by_test (list_any (same w) names) refl
           ∙ number_last names w e ∙ sym at
     ]
 
-differ_from : (names strings : List (List ℕ)) → Differ names → Differ (with_names names strings)
+differ_from : (names strings : List (List ℕ)) → HavePlaces names → HavePlaces (with_names names strings)
 differ_from names [] d = d
 differ_from names (w ∷ strings) d = differ_from (with_name names w) strings (differ_more names w d)
 

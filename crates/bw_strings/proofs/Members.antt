@@ -8,9 +8,10 @@ use Rattle.std.proofs.lemmas.Cmp.{nat_cmp_total, ranked}
 use Rattle.std.proofs.lemmas.Slice.Eq.{bytes_eq-Decides}
 use Rattle.std.proofs.Math.Bool.{or-true}
 use Rattle.bw_lang.specs.Table.Names.{same}
-use Rattle.bw_solve.specs.SetLaws.{merge_any, within_any}
+use Rattle.bw_solve.specs.Lawful.SetLaws.{merge_any, within_any}
 use Rattle.bw_strings.specs.declared.strings.StrSet.TheVariants.{Any, Of}
-use Rattle.bw_strings.specs.Asking.{text_of, has_string, is_among, is_blank}
+use Rattle.bw_strings.specs.Asking.{text_of, has_string, is_among}
+use Rattle.bw_lang.specs.Text.Bytes.{is_blank_text}
 use Rattle.bw_strings.specs.Laws.{JoinByStrings, BelowByStrings, WithinByStrings, BlankByStrings}
 
 -- equal numbers have one literal
@@ -44,4 +45,4 @@ within_by_strings literals words (Of xs) w s h = each_passes literals (is_among 
 
 pub blank_by_strings : BlankByStrings
 blank_by_strings literals Any w s h = absurd (false≢true w)
-blank_by_strings literals (Of xs) w s h = each_passes literals is_blank xs s w h
+blank_by_strings literals (Of xs) w s h = each_passes literals is_blank_text xs s w h

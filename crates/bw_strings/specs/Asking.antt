@@ -1,7 +1,7 @@
 -- What is asked of sets of strings.
 use Rattle.std.specs.Prelude.{ℕ, ◌<◌, Bool, true, false, List, [], length, slice_get, unwrap_or}
 use Rattle.std.specs.List.{list_any, list_all, AllByRecursion}
-use Rattle.bw_lang.specs.Text.Bytes.{is_blank as is_blank_byte}
+use Rattle.bw_lang.specs.Text.Bytes.{is_blank_text}
 use Rattle.bw_lang.specs.Table.Names.{same}
 use Rattle.bw_strings.specs.declared.strings.StrSet.{StrSet}
 use Rattle.bw_strings.specs.declared.strings.StrSet.TheVariants.{Any, Of}
@@ -24,10 +24,6 @@ has_string literals (Of xs) s = list_any (λ n. same (text_of literals n) s) xs
 abbrev pub is_among : List (List ℕ) → List ℕ → Bool
 is_among words s = list_any (same s) words
 
--- there is nothing but spaces, tabs, CR and LF
-abbrev pub is_blank : List ℕ → Bool
-is_blank s = list_all is_blank_byte s
-
 -- it isn't any string, and each of its literals is one of these words
 abbrev pub within : List (List ℕ) → List (List ℕ) → StrSet → Bool
 within literals words Any = false
@@ -36,4 +32,4 @@ within literals words (Of xs) = list_all (λ n. is_among words (text_of literals
 -- it isn't any string, and each of its literals is blank
 abbrev pub blank : List (List ℕ) → StrSet → Bool
 blank literals Any = false
-blank literals (Of xs) = list_all (λ n. is_blank (text_of literals n)) xs
+blank literals (Of xs) = list_all (λ n. is_blank_text (text_of literals n)) xs

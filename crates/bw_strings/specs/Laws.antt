@@ -2,7 +2,8 @@
 use Rattle.std.specs.Prelude.{◌≡◌, ◌<◌, ℕ, true, ◌||◌, List, [], length}
 use Rattle.bw_lang.specs.Table.Names.{name_number, with_names}
 use Rattle.bw_strings.specs.declared.strings.StrSet.{StrSet}
-use Rattle.bw_strings.specs.Asking.{text_of, has_string, is_among, is_blank, within, blank}
+use Rattle.bw_strings.specs.Asking.{text_of, has_string, is_among, within, blank}
+use Rattle.bw_lang.specs.Text.Bytes.{is_blank_text}
 use Rattle.bw_strings.specs.Strings.{both, is_below}
 
 -- the join has the strings of both
@@ -20,7 +21,7 @@ WithinByStrings = (literals words : List (List ℕ)) (a : StrSet) → within lit
 
 -- and it is blank where each is blank
 abbrev pub BlankByStrings : Type 0
-BlankByStrings = (literals : List (List ℕ)) (a : StrSet) → blank literals a ≡ true → (s : List ℕ) → has_string literals a s ≡ true → is_blank s ≡ true
+BlankByStrings = (literals : List (List ℕ)) (a : StrSet) → blank literals a ≡ true → (s : List ℕ) → has_string literals a s ≡ true → is_blank_text s ≡ true
 
 -- each literal has one number
 abbrev pub LiteralsDiffer : Type 0

@@ -1,5 +1,5 @@
 pub mod Asking
+pub mod Lawful
 pub mod Laws
 pub mod Literals
-pub mod StringLaws
 pub mod Strings

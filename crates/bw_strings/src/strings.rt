@@ -3,10 +3,11 @@ ghost use Rattle.std.specs.Prelude.{◌≡◌, ◌<◌, ◌^◌, ◌==◌, lengt
 ghost use Rattle.std.specs.List.{AllByRecursion, list_all};
 ghost use Rattle.bw_strings.specs.Strings as spec;
 ghost use Rattle.bw_strings.specs.Strings.{IsWellFormed, both, is_none};
-ghost use Rattle.bw_strings.specs.Asking.{AreLiterals, text_of, is_among, is_blank, within, blank};
+ghost use Rattle.bw_strings.specs.Asking.{AreLiterals, text_of, is_among, within, blank};
+ghost use Rattle.bw_lang.specs.Text.Bytes.{is_blank_text};
 
 use crate::literals::Literals;
-use bw_lang::{Memory, Text, Words};
+use bw_lang::{Memory, Text, Words, is_blank_text};
 use bw_solve::{Lattice, Set};
 use std::alloc::{AllocError, Global};
 
@@ -97,13 +98,6 @@ fn is_among(text: &str, allowed: &[Text]) -> bool
     allowed.iter().any(|word| text == word.as_str())
 }
 
-// Whether a text is blank.
-fn is_blank(text: &str) -> bool
-    ensures { result ≡ is_blank text.now }
-{
-    text.as_bytes().iter().all(|byte| bw_lang::is_blank(*byte))
-}
-
 // Whether each of the literals of these numbers is an allowed word.
 fn all_within(literals: &Literals, allowed: &Words, numbers: &[u32]) -> bool
     requires { AllByRecursion (λ n. n < length literals.now) numbers.now }
@@ -120,10 +114,10 @@ fn all_within(literals: &Literals, allowed: &Words, numbers: &[u32]) -> bool
 // Whether each of the literals of these numbers is blank.
 fn all_blank(literals: &Literals, numbers: &[u32]) -> bool
     requires { AllByRecursion (λ n. n < length literals.now) numbers.now }
-    ensures { result ≡ list_all (λ n. is_blank (text_of literals.now n)) numbers.now }
+    ensures { result ≡ list_all (λ n. is_blank_text (text_of literals.now n)) numbers.now }
 {
     for number in numbers {
-        if !is_blank(literals.text(*number)) {
+        if !is_blank_text(literals.text(*number)) {
             return false;
         }
     }
@@ -132,7 +126,7 @@ fn all_blank(literals: &Literals, numbers: &[u32]) -> bool
 
 impl Lattice for StrSet {
     ghost use Rattle.bw_strings.specs.Strings.{AreWellFormed, is_below, both, size_of, rank_of};
-    ghost use Rattle.bw_strings.specs.StringLaws.{strings_lattice};
+    ghost use Rattle.bw_strings.specs.Lawful.StringLaws.{strings_lattice};
 
     ghost alike = { AreWellFormed };
 

@@ -7,10 +7,10 @@ use Rattle.std.proofs.lemmas.Bool.Decides.{nat_tests}
 use Rattle.std.proofs.Math.Bool.{or-false, and-true, and-false}
 use Rattle.bw_lang.specs.Document.Forest.{Forest}
 use Rattle.bw_solve.specs.Sets.{has, merge}
-use Rattle.bw_solve.specs.SetLaws.{merge_has}
+use Rattle.bw_solve.specs.Lawful.SetLaws.{merge_has}
 use Rattle.bw_sum.specs.Constants.{tracked, lacked}
 use Rattle.bw_sum.specs.Labels.{pair_cmp}
-use Rattle.bw_sum.specs.LabelLaws.{pair_cmp_total}
+use Rattle.bw_sum.specs.Lawful.LabelLaws.{pair_cmp_total}
 use Rattle.bw_sum.specs.Laws.{ConstantByMembers}
 use Rattle.bw_sum.specs.Opening.{opens}
 use Rattle.bw_sum.proofs.PartLaws.{is_eq_nat, is_eq2, eq_back}

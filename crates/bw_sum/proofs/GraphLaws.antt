@@ -7,18 +7,18 @@ use Rattle.std.proofs.lemmas.Cmp.{nat_cmp_total}
 use Rattle.std.proofs.lemmas.Bool.{false≢true}
 use Rattle.std.proofs.lemmas.Bool.Decides.{nat_tests}
 use Rattle.bw_solve.specs.Sets.{IsSet, has, merge, sifted}
-use Rattle.bw_solve.specs.SetLaws.{merge_has, sifted_has}
+use Rattle.bw_solve.specs.Lawful.SetLaws.{merge_has, sifted_has}
 use Rattle.bw_solve.specs.Tables.{found}
-use Rattle.bw_solve.specs.TableLaws.{join_at}
+use Rattle.bw_solve.specs.Lawful.TableLaws.{join_at}
 use Rattle.bw_strings.specs.declared.strings.StrSet.{StrSet}
 use Rattle.bw_strings.specs.declared.strings.StrSet.TheVariants.{Any, Of}
 use Rattle.bw_strings.specs.Strings.{IsWellFormed, is_none}
-use Rattle.bw_strings.specs.StringLaws.{strings_lattice, none_least, none_left, none_right, below_none}
+use Rattle.bw_strings.specs.Lawful.StringLaws.{strings_lattice, none_least, none_left, none_right, below_none}
 use Rattle.bw_sum.specs.Labels.{pair_cmp, AreLabels, both_labels, labels_at}
-use Rattle.bw_sum.specs.LabelLaws.{pair_cmp_total}
+use Rattle.bw_sum.specs.Lawful.LabelLaws.{pair_cmp_total}
 use Rattle.bw_sum.specs.Edges.{edge_cmp, edges_at}
 use Rattle.bw_sum.proofs.PartLaws.{edges_at_has, labels_at_found, is_eq_then, is_eq_nat, eq_back}
-use Rattle.bw_sum.specs.SummaryLaws.{edge_cmp_total}
+use Rattle.bw_sum.specs.Lawful.SummaryLaws.{edge_cmp_total}
 use Rattle.bw_sum.proofs.NewLabels.{labels_at_are}
 use Rattle.bw_sum.specs.Laws.{JoinByMembers, PlugByMembers, PlugTextByMembers}
 use Rattle.bw_strings.specs.Asking.{has_string}

@@ -5,18 +5,18 @@ use Rattle.std.specs.Ordering.{nat_cmp}
 use Rattle.std.proofs.lemmas.Cmp.{nat_cmp_total}
 use Rattle.std.proofs.lemmas.Bool.{false≢true, and_parts, and_from}
 use Rattle.bw_solve.specs.Sets.{IsSet, has, is_within}
-use Rattle.bw_solve.specs.SetLaws.{has_within, within_by}
+use Rattle.bw_solve.specs.Lawful.SetLaws.{has_within, within_by}
 use Rattle.bw_solve.specs.Tables.{found}
-use Rattle.bw_solve.specs.TableLaws.{below_by, below_at}
+use Rattle.bw_solve.specs.Lawful.TableLaws.{below_by, below_at}
 use Rattle.bw_strings.specs.declared.strings.StrSet.{StrSet}
 use Rattle.bw_strings.specs.declared.strings.StrSet.TheVariants.{Any, Of}
 use Rattle.bw_strings.specs.Strings as strings
-use Rattle.bw_strings.specs.StringLaws.{strings_lattice, none_least, none_left, none_right}
+use Rattle.bw_strings.specs.Lawful.StringLaws.{strings_lattice, none_least, none_left, none_right}
 use Rattle.bw_sum.specs.Labels.{pair_cmp, AreLabels, are_below, both_labels, labels_at}
-use Rattle.bw_sum.specs.LabelLaws.{pair_cmp_total, labels_lattice}
+use Rattle.bw_sum.specs.Lawful.LabelLaws.{pair_cmp_total, labels_lattice}
 use Rattle.bw_sum.specs.Edges.{edge_cmp}
 use Rattle.bw_sum.proofs.PartLaws.{labels_at_found}
-use Rattle.bw_sum.specs.SummaryLaws.{edge_cmp_total}
+use Rattle.bw_sum.specs.Lawful.SummaryLaws.{edge_cmp_total}
 use Rattle.bw_sum.specs.Summaries.{is_below, plugged, plugged_text}
 use Rattle.bw_sum.specs.declared.summary.Summary.{Summary}
 use Rattle.bw_sum.specs.Graph.{Graph, graph}

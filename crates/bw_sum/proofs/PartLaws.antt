@@ -6,13 +6,13 @@ use Rattle.std.specs.declared.cmp.Ordering.TheVariants.{Less, Equal, Greater}
 use Rattle.std.specs.Ordering.{nat_cmp, ordering_then, is_eq}
 use Rattle.std.proofs.lemmas.Bool.Decides.{nat_tests}
 use Rattle.bw_solve.specs.Sets.{has, merge}
-use Rattle.bw_solve.specs.SetLaws.{merge_has}
+use Rattle.bw_solve.specs.Lawful.SetLaws.{merge_has}
 use Rattle.bw_strings.specs.declared.strings.StrSet.{StrSet}
 use Rattle.bw_strings.specs.declared.strings.StrSet.TheVariants.{Of}
 use Rattle.bw_solve.specs.Tables.{found}
 use Rattle.bw_sum.specs.Labels.{pair_cmp, labels_at}
 use Rattle.bw_sum.specs.Edges.{edge_cmp, edges_from, edges_at}
-use Rattle.bw_sum.specs.SummaryLaws.{edge_cmp_total}
+use Rattle.bw_sum.specs.Lawful.SummaryLaws.{edge_cmp_total}
 
 pub is_eq_then : (a b : Ordering) → is_eq (ordering_then a b) ≡ (is_eq a && is_eq b)
 is_eq_then Less b = refl

@@ -10,7 +10,7 @@ use Rattle.bw_solve.specs.Sets.{IsSet}
 use Rattle.bw_strings.specs.declared.strings.StrSet.{StrSet}
 use Rattle.bw_strings.specs.declared.strings.StrSet.TheVariants.{Any, Of}
 use Rattle.bw_strings.specs.Strings as strings
-use Rattle.bw_strings.specs.StringLaws.{small}
+use Rattle.bw_strings.specs.Lawful.StringLaws.{small}
 use Rattle.bw_sum.specs.Labels.{pair_cmp, AreLabels, labels_rank}
 use Rattle.bw_sum.specs.Edges.{edge_cmp}
 use Rattle.bw_sum.specs.Laws.{RankIsBounded}

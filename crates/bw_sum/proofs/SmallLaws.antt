@@ -1,20 +1,18 @@
 -- Operations keep the numbers of a summary below 2 ^ 32.
-use Rattle.std.specs.Prelude.{ℕ, ◌^◌, ◌<◌, Bool, true, false, ◌||◌, ◌==◌, not, cond, if◌then◌else◌, List, [], ◌∷◌}
-use Rattle.std.specs.declared.cmp.Ordering.{Ordering}
+use Rattle.std.specs.Prelude.{ℕ, ◌^◌, ◌<◌, Bool, true, false, ◌||◌, ◌==◌, not, if◌then◌else◌, List, [], ◌∷◌}
 use Rattle.std.specs.Ordering.{nat_cmp}
 use Rattle.std.specs.List.{AllByRecursion}
-use Rattle.std.specs.Cmp.{IsTotalOrder}
 use Rattle.std.proofs.lemmas.Cmp.{nat_cmp_total}
 use Rattle.bw_solve.specs.Sets.{has, merge, sifted}
-use Rattle.bw_solve.specs.SetLaws.{merge_all, by_order}
+use Rattle.bw_solve.specs.Lawful.SetLaws.{merge_all, by_order, sifted_all}
 use Rattle.bw_solve.specs.Tables.{table_join_into}
 use Rattle.bw_strings.specs.declared.strings.StrSet.{StrSet}
 use Rattle.bw_strings.specs.Strings.{both, is_none}
 use Rattle.bw_sum.specs.Labels.{pair_cmp, both_labels, labels_at}
-use Rattle.bw_sum.specs.LabelLaws.{pair_cmp_total}
+use Rattle.bw_sum.specs.Lawful.LabelLaws.{pair_cmp_total}
 use Rattle.bw_sum.specs.Edges.{edge_cmp, edges_from, edges_at}
 use Rattle.bw_sum.specs.Small.{IsSmall, IsSmall1, IsSmall2, IsSmall3, IsSmallLabel}
-use Rattle.bw_sum.specs.SummaryLaws.{edge_cmp_total}
+use Rattle.bw_sum.specs.Lawful.SummaryLaws.{edge_cmp_total}
 use Rattle.bw_sum.specs.Summaries as summaries
 use Rattle.bw_sum.specs.declared.summary.Summary.{Summary}
 
@@ -32,15 +30,6 @@ edges_at_all edges (x ∷ xs) g ms k e t m = edges_at_all (if x.0 == g then edge
     one : (b : Bool) → AllByRecursion IsSmall3 (if b then edges_from edges x.1 g ms else edges)
     one true = edges_from_all edges x.1 g ms t.0.1 k e m
     one false = e
-
-sifted_all : {T : Type 0} {cmp : T → T → Ordering} (o : IsTotalOrder cmp) (P : T → Type 0) (keep : T → Bool) (all xs : List T) → AllByRecursion P all
-    → AllByRecursion P xs → AllByRecursion P (sifted cmp keep all xs)
-sifted_all o P keep all [] p q = p
-sifted_all {cmp = cmp} o P keep all (x ∷ xs) p q = sifted_all o P keep (cond (keep x) (merge cmp all (x ∷ [])) all) xs (one (keep x)) q.1
-  where
-    one : (b : Bool) → AllByRecursion P (cond b (merge cmp all (x ∷ [])) all)
-    one true = merge_all o P all (x ∷ []) p (q.0, tt)
-    one false = p
 
 into_keys : (x : (ℕ × ℕ) × StrSet) (xs : List ((ℕ × ℕ) × StrSet)) (rest : List ((ℕ × ℕ) × StrSet) → List ((ℕ × ℕ) × StrSet)) → IsSmallLabel x
     → AllByRecursion IsSmallLabel xs

@@ -5,13 +5,13 @@ use Rattle.std.specs.declared.cmp.Ordering.TheVariants.{Less, Equal, Greater}
 use Rattle.std.proofs.lemmas.List.{append-nil, take_rest, at_drop_all}
 use Rattle.std.proofs.lemmas.Bool.Decides.{nat_tests}
 use Rattle.bw_solve.proofs.Walk.{left_at}
-use Rattle.bw_solve.specs.TableLaws.{table_less, table_same, table_more}
+use Rattle.bw_solve.specs.Lawful.TableLaws.{table_less, table_same, table_more}
 use Rattle.bw_strings.specs.declared.strings.StrSet.{StrSet}
 use Rattle.bw_strings.specs.declared.strings.StrSet.TheVariants.{Of}
 use Rattle.bw_strings.specs.Strings.{IsWellFormed, is_below}
-use Rattle.bw_strings.specs.StringLaws.{strings_lattice, none_least, none_left, none_right}
+use Rattle.bw_strings.specs.Lawful.StringLaws.{strings_lattice, none_least, none_left, none_right}
 use Rattle.bw_sum.specs.Labels.{pair_cmp, AreLabels, are_below, both_labels}
-use Rattle.bw_sum.specs.LabelLaws.{pair_cmp_total}
+use Rattle.bw_sum.specs.Lawful.LabelLaws.{pair_cmp_total}
 
 abbrev Label : Type 0
 Label = (ℕ × ℕ) × StrSet

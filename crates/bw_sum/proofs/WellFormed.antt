@@ -4,27 +4,25 @@ use Rattle.std.proofs.Common.{refl, arith}
 use Rattle.std.proofs.Props.{props}
 use Rattle.std.proofs.Math.Bridge.{le_prop}
 use Rattle.std.specs.Coded.{×_prop, Unit-prop}
-use Rattle.std.specs.declared.cmp.Ordering.{Ordering}
 use Rattle.std.specs.declared.cmp.Ordering.TheVariants.{Less}
 use Rattle.std.specs.Ordering.{nat_cmp, Ordering-set}
 use Rattle.std.specs.List.{AllByRecursion, AllByRecursion-prop}
-use Rattle.std.specs.Cmp.{IsTotalOrder}
 use Rattle.std.proofs.lemmas.Cmp.{nat_cmp_total}
 use Rattle.bw_solve.specs.Sets.{IsSet, has, merge, sifted}
 use Rattle.bw_lang.specs.Document.Forest.{Forest}
-use Rattle.bw_solve.specs.SetLaws.{merge_set, merge_all, IsSet-prop}
+use Rattle.bw_solve.specs.Lawful.SetLaws.{merge_set, merge_all, sifted_set, IsSet-prop}
 use Rattle.bw_strings.specs.declared.strings.StrSet.{StrSet}
 use Rattle.bw_strings.specs.declared.strings.StrSet.TheVariants.{Any, Of}
 use Rattle.bw_strings.specs.Strings as strings
-use Rattle.bw_sum.specs.Constants.{tracked, lacked}
+use Rattle.bw_sum.specs.Constants.{constant_of, tracked, lacked}
 use Rattle.bw_sum.specs.Edges.{edge_cmp, edges_from, edges_at}
 use Rattle.bw_sum.specs.Opening.{opens}
 use Rattle.bw_sum.specs.Labels.{pair_cmp, AreLabels}
-use Rattle.bw_sum.specs.LabelLaws.{pair_cmp_total, labels_lattice}
+use Rattle.bw_sum.specs.Lawful.LabelLaws.{pair_cmp_total, labels_lattice}
 use Rattle.bw_sum.specs.Laws.{WellFormedAreAlike, ConstantIsWellFormed, JoinIsWellFormed, PlugIsWellFormed, PlugTextIsWellFormed}
 use Rattle.bw_sum.specs.Small.{IsSmall, IsSmall1, IsSmall2, IsSmall3, IsSmallLabel, IsWellFormed}
-use Rattle.bw_sum.specs.Summaries.{AreAlike, both}
-use Rattle.bw_sum.specs.SummaryLaws.{edge_cmp_total, summary_lattice}
+use Rattle.bw_sum.specs.Summaries.{AreAlike, both, plugged, plugged_text}
+use Rattle.bw_sum.specs.Lawful.SummaryLaws.{edge_cmp_total, summary_lattice}
 use Rattle.bw_sum.specs.declared.summary.Summary.{Summary}
 use Rattle.bw_sum.proofs.GraphLaws.{new_are}
 use Rattle.bw_sum.proofs.SmallLaws.{joined_small, plugged_small, plugged_text_small}
@@ -41,24 +39,29 @@ edges_at_set edges (t ∷ ts) g ms s = edges_at_set (if t.0 == g then edges_from
     one true = edges_from_set edges t.1 g ms s
     one false = s
 
-sifted_set : {T : Type 0} {cmp : T → T → Ordering} (o : IsTotalOrder cmp) (keep : T → Bool) (all xs : List T) → IsSet cmp all
-    → IsSet cmp (sifted cmp keep all xs)
-sifted_set o keep all [] s = s
-sifted_set {cmp = cmp} o keep all (x ∷ xs) s = sifted_set o keep (cond (keep x) (merge cmp all (x ∷ [])) all) xs (one (keep x))
-  where
-    one : (b : Bool) → IsSet cmp (cond b (merge cmp all (x ∷ [])) all)
-    one true = merge_set o all (x ∷ []) s (tt, tt)
-    one false = s
+-- the parts of a well formed summary, by their names
+record Parts (s : Summary) : Type 0 where
+  roots : IsSet nat_cmp s.roots
+  edges : IsSet edge_cmp s.edges
+  texts : AreLabels s.texts
+  tracks : IsSet pair_cmp s.tracks
+  lacks : IsSet nat_cmp s.lacks
 
-twice : {A B C D E : Type 0} → A → B → C → D → E → (A × A) × ((B × B) × ((C × C) × ((D × D) × (E × E))))
-twice a b c d e = ((a, a), ((b, b), ((c, c), ((d, d), (e, e)))))
+parts : (s : Summary) → IsWellFormed s → Parts s
+parts s (((roots, _), ((edges, _), ((texts, _), ((tracks, _), (lacks, _))))), _) =
+    record { roots = roots; edges = edges; texts = texts; tracks = tracks; lacks = lacks }
+
+alike : (s r : Summary) → Parts s → Parts r → AreAlike s r
+alike s r a b = ((a.roots, b.roots), ((a.edges, b.edges), ((a.texts, b.texts), ((a.tracks, b.tracks), (a.lacks, b.lacks)))))
+
+well_formed : (s : Summary) → Parts s → IsSmall s → IsWellFormed s
+well_formed s a small = (alike s s a a, small)
 
 pub well_formed_alike : WellFormedAreAlike
-well_formed_alike s r p q = let a = p.0 in let b = q.0 in
-    ((a.0.0, b.0.0), ((a.1.0.0, b.1.0.0), ((a.1.1.0.0, b.1.1.0.0), ((a.1.1.1.0.0, b.1.1.1.0.0), (a.1.1.1.1.0, b.1.1.1.1.0)))))
+well_formed_alike s r p q = alike s r (parts s p) (parts r q)
 
 pub none_well_formed : IsWellFormed (record { roots = []; edges = []; texts = []; tracks = []; lacks = [] })
-none_well_formed = (twice tt tt tt tt tt, record { roots = tt; edges = tt; texts = tt; tracks = tt; lacks = tt })
+none_well_formed = (((tt, tt), ((tt, tt), ((tt, tt), ((tt, tt), (tt, tt))))), record { roots = tt; edges = tt; texts = tt; tracks = tt; lacks = tt })
 
 tracked_set : (n : ℕ) (items : Forest) (gaps : ℕ) → IsSet pair_cmp (tracked n items gaps)
 tracked_set n items zero = tt
@@ -94,16 +97,16 @@ lacked_small items (suc g) k = one (lacked_small items g (omega arith)) (opens g
     one s false = merge_all nat_cmp_total IsSmall1 (lacked items g) (g ∷ []) s (omega arith, tt)
 
 pub constant_well_formed : ConstantIsWellFormed
-constant_well_formed n items gaps h k = (
-  twice (tt, tt) tt tt (tracked_set n items (gaps + 3)) (lacked_set items gaps),
-  record {
-    roots = (h, tt);
-    edges = tt;
-    texts = tt;
-    tracks = tracked_small n items (gaps + 3) h k;
-    lacks = lacked_small items gaps (omega arith);
-  },
-)
+constant_well_formed n items gaps h k =
+    well_formed (constant_of n items gaps)
+    (record { roots = (tt, tt); edges = tt; texts = tt; tracks = tracked_set n items (gaps + 3); lacks = lacked_set items gaps })
+    (record {
+      roots = (h, tt);
+      edges = tt;
+      texts = tt;
+      tracks = tracked_small n items (gaps + 3) h k;
+      lacks = lacked_small items gaps (omega arith);
+    })
 
 pub join_well_formed : JoinIsWellFormed
 join_well_formed s r p q =
@@ -111,25 +114,29 @@ join_well_formed s r p q =
     (summary_lattice.alike_trans (both s r) s (both s r) h (summary_lattice.alike_symm (both s r) s h), joined_small s r p.1 q.1)
 
 pub plug_well_formed : PlugIsWellFormed
-plug_well_formed b g a h p q = (
-  twice p.0.0.0
-      (merge_set edge_cmp_total b.edges (merge edge_cmp a.edges (edges_at [] b.tracks g a.roots)) p.0.1.0.0
-      (merge_set edge_cmp_total a.edges (edges_at [] b.tracks g a.roots) q.0.1.0.0 (edges_at_set [] b.tracks g a.roots tt)))
-      (labels_lattice.join_alike b.texts a.texts (p.0.1.1.0.0, q.0.1.1.0.0)).0
-      (merge_set pair_cmp_total (sifted pair_cmp (λ t. not (t.0 == g)) [] b.tracks) a.tracks
-      (sifted_set pair_cmp_total (λ t. not (t.0 == g)) [] b.tracks tt) q.0.1.1.1.0.0)
-      (sifted_set nat_cmp_total (λ k. (k == g) || has nat_cmp b.lacks k) [] a.lacks tt),
-  plugged_small b g a h p.1 q.1,
-)
+plug_well_formed b g a h p q =
+    let base = parts b p in
+    let filling = parts a q in
+    well_formed (plugged b g a) (record {
+      roots = base.roots;
+      edges = merge_set edge_cmp_total b.edges (merge edge_cmp a.edges (edges_at [] b.tracks g a.roots)) base.edges
+          (merge_set edge_cmp_total a.edges (edges_at [] b.tracks g a.roots) filling.edges (edges_at_set [] b.tracks g a.roots tt));
+      texts = (labels_lattice.join_alike b.texts a.texts (base.texts, filling.texts)).0;
+      tracks = merge_set pair_cmp_total (sifted pair_cmp (λ t. not (t.0 == g)) [] b.tracks) a.tracks
+          (sifted_set pair_cmp_total (λ t. not (t.0 == g)) [] b.tracks tt) filling.tracks;
+      lacks = sifted_set nat_cmp_total (λ k. (k == g) || has nat_cmp b.lacks k) [] a.lacks tt;
+    }) (plugged_small b g a h p.1 q.1)
 
 pub plug_text_well_formed : PlugTextIsWellFormed
-plug_text_well_formed b g s h p f = (
-  twice p.0.0.0 p.0.1.0.0
-      (labels_lattice.join_alike b.texts _ (p.0.1.1.0.0, new_are b.tracks g s (strings.is_none s) refl p.0.1.1.1.0.0 f)).0
-      (sifted_set pair_cmp_total (λ t. not (t.0 == g)) [] b.tracks tt)
-      (merge_set nat_cmp_total b.lacks (g ∷ []) p.0.1.1.1.1.0 (tt, tt)),
-  plugged_text_small b g s h p.1,
-)
+plug_text_well_formed b g s h p f =
+    let base = parts b p in
+    well_formed (plugged_text b g s) (record {
+      roots = base.roots;
+      edges = base.edges;
+      texts = (labels_lattice.join_alike b.texts _ (base.texts, new_are b.tracks g s (strings.is_none s) refl base.tracks f)).0;
+      tracks = sifted_set pair_cmp_total (λ t. not (t.0 == g)) [] b.tracks tt;
+      lacks = merge_set nat_cmp_total b.lacks (g ∷ []) base.lacks (tt, tt);
+    }) (plugged_text_small b g s h p.1)
 
 -- These facts have one proof at most.
 pub strings_prop : (s : StrSet) → IsProp (strings.IsWellFormed s)

@@ -14,11 +14,11 @@ use Rattle.bw_sum.specs.declared.summary.Summary.{Summary}
 -- root n: a document may begin as template n. edge n g m: template m may be plugged at gap g of n. label n g s: the string s may.
 -- track g n: the gap g may be open, and come from n. lack g: no gap g may be open
 pub record Graph : Type 0 where
-  pub root : ℕ → Bool
-  pub edge : ℕ → ℕ → ℕ → Bool
-  pub label : ℕ → ℕ → List ℕ → Bool
-  pub track : ℕ → ℕ → Bool
-  pub lack : ℕ → Bool
+  pub root : (template : ℕ) → Bool
+  pub edge : (template gap filling : ℕ) → Bool
+  pub label : (template gap : ℕ) → (string : List ℕ) → Bool
+  pub track : (gap template : ℕ) → Bool
+  pub lack : (gap : ℕ) → Bool
 
 -- the graph of a summary, whose strings are known by their numbers among these literals
 abbrev pub graph : List (List ℕ) → Summary → Graph

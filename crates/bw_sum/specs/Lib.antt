@@ -1,12 +1,11 @@
 pub mod Constants
 pub mod Edges
 pub mod Graph
-pub mod LabelLaws
 pub mod Labels
+pub mod Lawful
 pub mod Laws
 pub mod Opening
 pub mod Small
 pub mod Summaries
-pub mod SummaryLaws
 pub mod Templates
 pub mod Unfolding

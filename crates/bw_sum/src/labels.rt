@@ -172,7 +172,7 @@ fn within(a: &[Label], b: &[Label]) -> bool
 
 impl Lattice for Labels {
     ghost use Rattle.bw_sum.specs.Labels.{AreLabels, are_below, both_labels, labels_size, labels_rank};
-    ghost use Rattle.bw_sum.specs.LabelLaws.{labels_lattice};
+    ghost use Rattle.bw_sum.specs.Lawful.LabelLaws.{labels_lattice};
 
     ghost alike = { λ a b. AreLabels a × AreLabels b };
 

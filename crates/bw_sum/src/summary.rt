@@ -149,7 +149,7 @@ impl Summary {
 
 impl Lattice for Summary {
     ghost use Rattle.bw_sum.specs.Summaries.{AreAlike, is_below, both, size_of, rank_of};
-    ghost use Rattle.bw_sum.specs.SummaryLaws.{summary_lattice};
+    ghost use Rattle.bw_sum.specs.Lawful.SummaryLaws.{summary_lattice};
 
     ghost alike = { AreAlike };
 

@@ -10,4 +10,5 @@ mod templates;
 
 pub use fault::SyntaxFault;
 pub use laws::{always_an_answer, one_answer};
+pub use lexemes::lexemes_of;
 pub use reading::read_service;

@@ -9,6 +9,7 @@ use Rattle.bw_lang.specs.Template.Markup.{is_void}
 use Rattle.bw_lang.specs.declared.pieces.Tag.{Tag}
 use Rattle.bw_lang.specs.declared.pieces.Piece.{Piece}
 use Rattle.bw_lang.specs.declared.pieces.Piece.TheVariants as piece
+use Rattle.bw_lang.proofs.SameNames.{same_self}
 use Rattle.bw_lang.proofs.Options.{some_is}
 use Rattle.bw_tmpl.specs.declared.building.OpenElement.{OpenElement}
 use Rattle.bw_tmpl.specs.declared.nesting.OpenTags.{OpenTags}
@@ -18,7 +19,7 @@ use Rattle.bw_tmpl.specs.Building.{empty_element, element_begun, draft_after_all
 use Rattle.bw_tmpl.specs.Nesting.{tags_after_all, deepest_if_closed, depth}
 use Rattle.bw_lang.specs.Document.Measures.{nest}
 use Rattle.bw_lang.specs.Template.PieceItems.{ReadsPieces, ReadsAs}
-use Rattle.bw_tmpl.proofs.Inverse.{same-refl, built_reads}
+use Rattle.bw_tmpl.proofs.Inverse.{built_reads}
 
 abbrev pub at : List (List ℕ) → ℕ → Option OpenTags
 at names deepest = Some (record { names = names; deepest = deepest })
@@ -50,7 +51,7 @@ element_depth table tag attrs inner names m ps qs t ih le (inr (inr v)) =
     ∙ ap (λ (x : Bool). tags_after_all (if x then at names (max m (suc (length names))) else at (t.name ∷ names) (max m (suc (length names)))) v.0) v.2
     ∙ ih (t.name ∷ names) (max m (suc (length names))) v.0 (piece.End t.name ∷ qs) (omega arith) v.3
     ∙ ap (λ (x : Bool). tags_after_all (if x then at names (max (max m (suc (length names))) (suc (length names) + nest inner)) else None) qs)
-    (same-refl t.name)
+    (same_self t.name)
     ∙ deepest_is names (max (max m (suc (length names))) (suc (length names) + nest inner)) (max m (length names + suc (nest inner))) qs (omega arith)
 
 reads_tags : (table : List (List ℕ)) (f : Forest) → DepthAfter table f

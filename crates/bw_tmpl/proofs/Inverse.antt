@@ -1,11 +1,10 @@
 -- Building inverts reading.
 use Rattle.std.proofs.Common.{◌≡◌, ℕ, Bool, true, false, ◌⊎◌, inl, inr, List, [], ◌∷◌, map, Option, Some, None, refl, sym, ap, subst, ◌∙◌}
 use Rattle.std.specs.Prelude.{if◌then◌else◌}
-use Rattle.std.specs.Cmp.Lexicographic.{same_text}
-use Rattle.std.proofs.lemmas.Cmp.{nat_list_eq_equiv}
 use Rattle.bw_lang.specs.declared.items.Attr.{Attr}
 use Rattle.bw_lang.specs.Document.Forest.{Forest, none, text, gap, element}
 use Rattle.bw_lang.specs.Document.Documents.{append}
+use Rattle.bw_lang.proofs.SameNames.{same_is, same_self}
 use Rattle.bw_lang.proofs.Forests.{append-none, append_assoc}
 use Rattle.bw_lang.specs.Template.Markup.{is_void}
 use Rattle.bw_lang.specs.declared.pieces.Tag.{Tag}
@@ -17,12 +16,6 @@ use Rattle.bw_lang.specs.Table.Names.{same, name_number}
 use Rattle.bw_lang.specs.Template.NumberedGaps.{numbered}
 use Rattle.bw_tmpl.specs.Building.{nothing_built, with_items, empty_element, element_begun, element_ended, draft_after_all, if_none_open, finished, built}
 use Rattle.bw_lang.specs.Template.PieceItems.{ReadsPieces, ReadsAs}
-
-pub same-refl : (n : List ℕ) → same n n ≡ true
-same-refl n = nat_list_eq_equiv.refl n
-
-same-is : (a b : List ℕ) → same a b ≡ true → a ≡ b
-same-is a b h = same_text a b (sym h)
 
 -- ---- what reads is built
 
@@ -54,7 +47,7 @@ element_taken names tag attrs inner b ps qs t ih p q (inr (inr v)) =
     ∙ ap (λ (x : Bool). draft_after_all names (if x then Some (with_items b (empty_element names t)) else Some (element_begun names b t)) v.0) v.2
     ∙ ih (element_begun names b t) v.0 (piece.End t.name ∷ qs) v.3
     ∙ ap (λ (x : Bool). draft_after_all names
-    (if x then state (append b.items (element t.name (map (numbered names) t.attrs) inner none)) b.parents else None) qs) (same-refl t.name)
+    (if x then state (append b.items (element t.name (map (numbered names) t.attrs) inner none)) b.parents else None) qs) (same_self t.name)
     ∙ ap (λ (x : Forest). draft_after_all names (Some (with_items b x)) qs) (back p q)
   where
     back : tag ≡ t.name → attrs ≡ map (numbered names) t.attrs → element t.name (map (numbered names) t.attrs) inner none ≡ element tag attrs inner none
@@ -137,7 +130,7 @@ ended_level : (names : List (List ℕ)) (out : Forest) (n : List ℕ) (ps : List
 ended_level names out n ps ih items l parents true e h = (
   none,
   ps,
-  ap (λ (x : List ℕ). piece.End x ∷ ps) (sym (same-is l.tag n e)),
+  ap (λ (x : List ℕ). piece.End x ∷ ps) (sym (same_is l.tag n e)),
   subst (λ (i : Forest). Completes names parents (append l.front (element l.tag l.attrs i none)) ps out) (sym (append-none items))
       (ih (append l.front (element l.tag l.attrs items none)) parents h),
 )

@@ -6,8 +6,8 @@ use Rattle.std.specs.Cmp.Lexicographic.{same_text}
 use Rattle.std.proofs.lemmas.List.{take_at, drop_at, take-append-drop, append-nil}
 use lib.Pointwise.{pointwise}
 use Rattle.bw_tmpl.specs.Steps.Reading.{stripped, many_next, many, each}
+use Rattle.bw_lang.proofs.SameNames.{same_self}
 use Rattle.bw_lang.proofs.Options.{cond_some}
-use Rattle.bw_tmpl.proofs.Inverse.{same-refl}
 
 -- ---- fronts
 
@@ -18,7 +18,7 @@ stripped_is front bytes rest h =
     ∙ ap (λ (f : List ℕ). f ++ drop (length front) bytes) (same_text (take (length front) bytes) front (sym c.0)) ∙ ap (λ (r : List ℕ). front ++ r) c.1
 
 pub stripped_again : (front rest : List ℕ) → stripped front (front ++ rest) ≡ Some rest
-stripped_again front rest = rw (take_at front rest (length front) refl, same-refl front, drop_at front rest (length front) refl) refl
+stripped_again front rest = rw (take_at front rest (length front) refl, same_self front, drop_at front rest (length front) refl) refl
 
 -- ---- many
 

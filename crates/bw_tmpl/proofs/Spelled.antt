@@ -15,12 +15,12 @@ use Rattle.bw_tmpl.specs.Steps.Reading.{whole_at, end_at, gap_at, text_at, piece
 use Rattle.bw_lang.specs.Text.Bytes.{is_blank}
 use Rattle.bw_lang.specs.Template.MarkupNames.{begins}
 use Rattle.bw_lang.specs.Template.Pieces.{passes, IsNameOf, IsChar, Each, IsTag, IsPiece, is_text, begins_with_text, Apart, SpellsPieces}
-use Rattle.bw_lang.proofs.Options.{some_is}
+use Rattle.bw_lang.proofs.Options.{none_some, some_is}
 use Rattle.bw_tmpl.proofs.Many.{put, each_more, each_none}
 use Rattle.bw_tmpl.proofs.Characters.{char_written}
 use Rattle.bw_tmpl.proofs.Shrinking.{piece_shrinks}
 use Rattle.bw_tmpl.proofs.Runs.{checked_ok}
-use Rattle.bw_tmpl.proofs.SpelledNames.{none_some, past_is, name_written}
+use Rattle.bw_tmpl.proofs.SpelledNames.{past_is, name_written}
 use Rattle.bw_tmpl.proofs.SpelledValues.{chars_written}
 use Rattle.bw_tmpl.proofs.SpelledTags.{Ends, blanks_end, tag_written}
 

@@ -3,6 +3,7 @@ use Rattle.std.proofs.Common.{◌≡◌, ℕ, suc, Bool, true, false, List, [], 
 use Rattle.std.proofs.Common.{sym, ap, subst, ◌∙◌, arith}
 use Rattle.std.specs.Prelude.{if◌then◌else◌, ◌&&◌}
 use Rattle.std.proofs.lemmas.List.{take-append-drop, take_at, drop_at}
+use Rattle.std.proofs.lemmas.Bool.{and_parts}
 use Rattle.std.proofs.lemmas.Bool.Decides.{nat_tests}
 use Rattle.bw_lang.specs.declared.pieces.NameClass.{NameClass}
 use Rattle.bw_lang.specs.declared.pieces.NameClass.TheVariants as class
@@ -11,13 +12,6 @@ use Rattle.bw_lang.specs.Text.Bytes.{is_blank}
 use Rattle.bw_lang.specs.Template.MarkupNames.{begins, first_of, later_of}
 use Rattle.bw_lang.specs.Template.Pieces.{passes, IsNameOf}
 use Rattle.bw_lang.proofs.Options.{cond_some}
-
-pub both : (a b : Bool) → (a && b) ≡ true → (a ≡ true) × (b ≡ true)
-both true b h = (refl, h)
-both false b h = absurd (cc)
-
-pub none_some : {A : Type 0} (x : A) → None ≡ Some x → ⊥
-none_some x h = cc
 
 -- ---- runs
 
@@ -28,7 +22,7 @@ leading_none p (b ∷ bs) h = ap (λ (v : Bool). if v then suc (leading p bs) el
 pub leading_at : (p : ℕ → Bool) (n rest : List ℕ) → passes p n ≡ true → begins p rest ≡ false → leading p (n ++ rest) ≡ length n
 leading_at p [] rest h e = leading_none p rest e
 leading_at p (b ∷ n) rest h e =
-    let k = both (p b) (passes p n) h in
+    let k = and_parts (p b) (passes p n) h in
     ap (λ (v : Bool). if v then suc (leading p (n ++ rest)) else 0) k.0 ∙ ap suc (leading_at p n rest k.1 e)
 
 pub leading_front : (p : ℕ → Bool) (bs : List ℕ) → passes p (take (leading p bs) bs) ≡ true

@@ -12,11 +12,11 @@ use Rattle.bw_tmpl.specs.Steps.Reading.{stripped, leading, past_blanks, name_at,
 use Rattle.bw_tmpl.specs.Steps.Reading.{tag_at, whole_at, end_at, gap_at, text_at, piece_at, pieces_of}
 use Rattle.bw_lang.specs.Text.Bytes.{is_blank}
 use Rattle.bw_lang.specs.Template.Pieces.{Each, IsTag, IsPiece, is_text, begins_with_text, Apart, SpellsPieces}
-use Rattle.bw_lang.proofs.Options.{bind_some, where_cases, cond_some, cond_none, some_is}
+use Rattle.bw_lang.proofs.Options.{none_some, bind_some, where_cases, cond_some, cond_none, some_is}
 use Rattle.bw_tmpl.proofs.Many.{stripped_is, each_none}
 use Rattle.bw_tmpl.proofs.Characters.{char_shrinks}
 use Rattle.bw_tmpl.proofs.Shrinking.{piece_shrinks}
-use Rattle.bw_tmpl.proofs.SpelledNames.{none_some, leading_front, name_is}
+use Rattle.bw_tmpl.proofs.SpelledNames.{leading_front, name_is}
 use Rattle.bw_tmpl.proofs.SpelledValues.{chars_is, checked_is}
 use Rattle.bw_tmpl.proofs.SpelledTags.{tag_is}
 use Rattle.std.proofs.Math.Bool.{and-false}

@@ -3,6 +3,7 @@ use Rattle.std.proofs.Common.{◌≡◌, ℕ, suc, Bool, true, false, List, [], 
 use Rattle.std.proofs.Common.{sym, ap, subst, ◌∙◌, arith}
 use Rattle.std.specs.Prelude.{if◌then◌else◌, codes}
 use Rattle.std.proofs.lemmas.List.{take-append-drop}
+use Rattle.std.proofs.lemmas.Bool.{and_parts}
 use Rattle.std.proofs.lemmas.Bool.Decides.{nat_tests}
 use Rattle.bw_lang.specs.declared.pieces.NameClass.TheVariants as class
 use Rattle.bw_lang.specs.declared.pieces.RawAttr.{RawAttr}
@@ -18,7 +19,7 @@ use Rattle.bw_lang.specs.Template.Pieces.{passes, Each, IsAttr, IsTag}
 use Rattle.bw_lang.proofs.Options.{if_some, bind_some, some_is}
 use Rattle.bw_tmpl.proofs.Many.{stripped_is}
 use Rattle.bw_tmpl.proofs.Shrinking.{attr_shrinks}
-use Rattle.bw_tmpl.proofs.SpelledNames.{both, leading_front, past_is, name_is, begins_with_append, name_written}
+use Rattle.bw_tmpl.proofs.SpelledNames.{leading_front, past_is, name_is, begins_with_append, name_written}
 use Rattle.bw_tmpl.proofs.SpelledValues.{each_is, each_written, value_is, value_written}
 
 -- ---- attributes
@@ -127,7 +128,7 @@ blank_ends (c ∷ w) rest h = blank_no_later c h
 
 pub blanks_end : (w rest : List ℕ) → passes is_blank w ≡ true → Ends rest → begins (later_of class.Tag) (w ++ rest) ≡ false
 blanks_end [] rest h e = e.no_later
-blanks_end (c ∷ w) rest h e = blank_no_later c (both (is_blank c) (passes is_blank w) h).0
+blanks_end (c ∷ w) rest h e = blank_no_later c (and_parts (is_blank c) (passes is_blank w) h).0
 
 attrs_end : (attrs : List RawAttr) (behind after w rest : List ℕ) → Each IsAttr attrs behind after → after ≡ w ++ rest → passes is_blank w ≡ true
     → Ends rest → begins (later_of class.Tag) behind ≡ false

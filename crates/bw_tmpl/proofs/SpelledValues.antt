@@ -10,11 +10,11 @@ use Rattle.bw_lang.specs.declared.pieces.RawValue.TheVariants as raw
 use Rattle.bw_lang.specs.Table.Options.{◌>>=◌}
 use Rattle.bw_tmpl.specs.Steps.Reading.{stripped, name_at, char_at, many, many_next, each, checked, quoted_at, hole_at, value_at}
 use Rattle.bw_lang.specs.Template.Pieces.{IsNameOf, IsChar, Each, IsValue}
-use Rattle.bw_lang.proofs.Options.{bind_some, where_cases, cond_some, some_is}
+use Rattle.bw_lang.proofs.Options.{none_some, bind_some, where_cases, cond_some, some_is}
 use Rattle.bw_tmpl.proofs.Many.{stripped_is, stripped_again, Shrinks, put, each_more, each_none}
 use Rattle.bw_tmpl.proofs.Characters.{char_shrinks, char_is, char_written}
 use Rattle.bw_tmpl.proofs.Runs.{checked_ok}
-use Rattle.bw_tmpl.proofs.SpelledNames.{none_some, name_is, name_written}
+use Rattle.bw_tmpl.proofs.SpelledNames.{name_is, name_written}
 
 -- ---- each
 

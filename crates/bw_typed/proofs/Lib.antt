@@ -14,3 +14,4 @@ pub mod Earlier
 pub mod ShortFields
 pub mod Spelled
 pub mod Utf8
+pub mod Few

@@ -3,6 +3,7 @@ use Rattle.std.proofs.Common.{◌≡◌, ℕ, ◌+◌, ◌<◌, Bool, true, fals
 use Rattle.std.specs.Prelude.{◌||◌, not, position, if◌then◌else◌, is_some}
 use Rattle.std.specs.List.{position_or_len}
 use Rattle.std.proofs.lemmas.List.Elements.{All-map, All-contains, All-weaker}
+use Rattle.std.proofs.lemmas.Bool.{lt-ltb}
 use Rattle.bw_lang.specs.declared.service.Literal.{Literal}
 use Rattle.bw_lang.specs.declared.service.Literal.TheVariants as literals
 use Rattle.bw_lang.specs.declared.service.Service.{Service}
@@ -24,11 +25,10 @@ use Rattle.bw_typed.specs.Named.{NamesTemplate, IsLiteral, SharedBegin, GapsHave
 use Rattle.bw_typed.specs.Numbered.{numbers}
 use Rattle.bw_typed.proofs.Found.{found}
 use Rattle.bw_typed.proofs.Services.{gaps_are_numbered}
-use Rattle.bw_types.proofs.Seek.{below}
 
 -- a place within the list is found
 at_place : {X : Type 0} (p : X → Bool) (xs : List X) → position_or_len p xs < length xs → position p xs ≡ Some (position_or_len p xs)
-at_place p xs h = ap (λ (b : Bool). cond b (Some (position_or_len p xs)) None) (below (position_or_len p xs) (length xs) h)
+at_place p xs h = ap (λ (b : Bool). cond b (Some (position_or_len p xs)) None) (lt-ltb (position_or_len p xs) (length xs) h)
 
 -- ---- templates
 
@@ -44,7 +44,7 @@ placed w (t ∷ ts) h = by_test (same w t.name) h (placed w ts)
     by_test true h ih = omega arith
     by_test false h ih = omega (arith, ih h)
 
-names_template : (s : Service) (w : List ℕ) → is_among w (template_names s) ≡ true → NamesTemplate s w
+pub names_template : (s : Service) (w : List ℕ) → is_among w (template_names s) ≡ true → NamesTemplate s w
 names_template s w h =
     let l = placed w s.templates h in
     (position_or_len (λ (t : Template). same w t.name) s.templates, at_place (λ (t : Template). same w t.name) s.templates l, l)

@@ -1,5 +1,6 @@
 pub mod Apart
 pub mod Earlier
+pub mod Few
 pub mod Formed
 pub mod Kinds
 pub mod Markup

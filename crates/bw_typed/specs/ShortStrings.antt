@@ -9,6 +9,7 @@ use Rattle.bw_lang.specs.Service.Term.{Term, Fillings}
 use Rattle.bw_typed.specs.Strings.{EachString, EachFilled, CodeStrings, LiteralString}
 use Rattle.bw_lang.specs.declared.limits.TheConstants.{MAX_STRING_BYTES}
 
+-- a string has at most 16,384 bytes
 abbrev pub IsShort : List ℕ → Type 0
 IsShort s = length s ≤ MAX_STRING_BYTES
 

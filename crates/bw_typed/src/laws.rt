@@ -4,6 +4,7 @@ ghost use Rattle.bw_typed.specs.Earlier.{EarlierFieldSays, EarlierGapSays};
 ghost use Rattle.bw_typed.specs.Markup.{TemplatesAreMarkup};
 ghost use Rattle.bw_typed.specs.Measured.{TemplatesAreMeasured};
 ghost use Rattle.bw_typed.specs.Numbered.{GapsAreNumbered, NumbersAreGaps};
+ghost use Rattle.bw_typed.specs.Few.{DeclaresFew};
 ghost use Rattle.bw_typed.specs.Formed.{BodiesAreCode, SharedAreNoLists};
 ghost use Rattle.bw_typed.specs.Kinds.{KindIsOne, KindsAgree, KindsAreMet, SessionsAreTyped};
 ghost use Rattle.bw_typed.specs.Named.{GapsHaveKinds, GapsHaveNumbers, PlugsAreKnown, SharedBegin};
@@ -91,4 +92,10 @@ pub fn earlier_says()
 pub fn strings_are_tokens()
     ensures sessions { SessionsSayTokens }
     ensures shared { SharedSayTokens }
+{}
+
+/// What each declaration has no more of than tokens, all declarations of a service that was read have no more of than its
+/// file may have bytes: 1,048,576.
+pub fn declares_few()
+    ensures { DeclaresFew }
 {}

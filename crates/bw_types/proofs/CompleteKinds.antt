@@ -13,29 +13,9 @@ use Rattle.bw_lang.specs.Service.Term.{Term, Fillings, no_more, filling}
 use Rattle.bw_types.specs.declared.fault.GapKind.{GapKind}
 use Rattle.bw_types.specs.declared.fault.GapKind.TheVariants.{Content, Attribute}
 use Rattle.bw_types.specs.declared.fault.TypeFault.TheVariants as faults
-use Rattle.bw_types.specs.ExpressionFaults.{
-  OpSort,
-  joins_truths,
-  tests_equality,
-  compares,
-  adds,
-  computes,
-  op_sort,
-  op_kind,
-  fun_takes,
-  kind_of,
-  demand,
-  demand_same,
-  demand_sum,
-  left_demand,
-  right_demand,
-  gap_demand,
-  gap_unknown,
-  name_unknown,
-  faults_in,
-  faults_in_pairs,
-  wanted,
-}
+use Rattle.bw_types.specs.ExpressionFaults.{OpSort, joins_truths, tests_equality, compares, adds, computes, op_sort, op_kind, fun_takes, kind_of, demand}
+use Rattle.bw_types.specs.ExpressionFaults.{demand_same, demand_sum, left_demand, right_demand, gap_demand, gap_unknown, name_unknown, faults_in}
+use Rattle.bw_types.specs.ExpressionFaults.{faults_in_pairs, wanted}
 use Rattle.bw_types.specs.Faults.{code_faults, receive_fault, demand_received, local_repeated, local_faults}
 use Rattle.bw_types.specs.Gaps.{kind_of_gap}
 use Rattle.bw_types.specs.Scopes.{Scope, is_among, declared_names, name_kind, variable_kind, with_local, scope_behind, behind_each}

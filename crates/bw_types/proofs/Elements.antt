@@ -14,18 +14,8 @@ use Rattle.bw_types.specs.declared.fault.GapKind.TheVariants.{Content, Attribute
 use Rattle.bw_types.specs.declared.fault.TypeFault.{TypeFault}
 use Rattle.bw_types.specs.Fields.{template_fields}
 use Rattle.bw_types.specs.Gaps.{value_use, attr_uses, gap_uses, template_uses}
-use Rattle.bw_types.specs.TemplateFaults.{
-  fault_if,
-  gap_fault,
-  value_fault,
-  attr_faults,
-  field_fault,
-  is_reserved,
-  is_file_input,
-  is_bad_control,
-  element_faults,
-  items_faults,
-}
+use Rattle.bw_types.specs.TemplateFaults.{fault_if, gap_fault, value_fault, attr_faults, field_fault, is_reserved, is_file_input, is_bad_control}
+use Rattle.bw_types.specs.TemplateFaults.{element_faults, items_faults}
 use Rattle.bw_types.specs.Typing.{EachElement}
 use Rattle.bw_types.proofs.OneKind.{GapFits, FieldFits}
 use Rattle.bw_types.proofs.Parts.{nothing_first, nothing_behind, none_of_both, all_first, all_behind, all_parts, parts_of_all, each_none, none_of_each, all_so}

@@ -12,7 +12,8 @@ use Rattle.bw_types.specs.declared.fault.GapKind.{GapKind}
 use Rattle.bw_types.specs.declared.fault.GapKind.TheVariants.{Content, Attribute}
 use Rattle.bw_types.specs.Gaps.{gap_kind}
 use Rattle.bw_types.specs.TemplateFaults.{is_other_gap_kind, is_other_field_kind}
-use Rattle.bw_types.proofs.Seek.{seek, seek-cons, same_is, is_gap, same_gap}
+use Rattle.bw_lang.proofs.SameNames.{same_is}
+use Rattle.bw_types.proofs.Seek.{seek, seek-cons, is_gap, same_gap}
 
 -- two pairs of one key have one kind
 abbrev pub Agree : {K V : Type 0} → List (K × V) → Type 0

@@ -1,13 +1,12 @@
 -- Looking a name or a gap up in a list of pairs, and in the table of its first pairs.
-use Rattle.std.proofs.Common.{◌≡◌, ℕ, ◌+◌, ◌<◌, ◌≤◌, Bool, true, false, cond, List, [], ◌∷◌, ◌++◌, length, Option, Some, None, refl, ap, sym, ◌∙◌, arith}
+use Rattle.std.proofs.Common.{◌≡◌, ℕ, ◌+◌, ◌≤◌, Bool, true, false, cond, List, [], ◌∷◌, ◌++◌, length, Option, Some, None, refl, ap, sym, ◌∙◌, arith}
 use Rattle.std.specs.Prelude.{◌==◌, ◌||◌, is_some, if◌then◌else◌, option_map, find, nat_lt, not}
 use Rattle.std.specs.List.{list_any}
 use Rattle.std.specs.Option.{option_or}
-use Rattle.std.proofs.lemmas.Bool.{eqb-true}
-use Rattle.std.proofs.lemmas.Bool.Decides.{nat_tests}
+use Rattle.std.proofs.lemmas.Bool.{eqb-true, lt-ltb, le-ltb}
 use Rattle.std.proofs.lemmas.List.Folds.{list_any-append}
-use Rattle.std.proofs.lemmas.Slice.Eq.{bytes_eq-Decides}
 use Rattle.bw_lang.specs.Table.Names.{same, name_number, with_name, with_names}
+use Rattle.bw_lang.proofs.SameNames.{same_is}
 use Rattle.bw_lang.proofs.TableLaws.{known}
 use Rattle.bw_types.specs.declared.fault.GapKind.{GapKind}
 use Rattle.bw_types.specs.Gaps.{gap_kind}
@@ -16,10 +15,6 @@ use Rattle.bw_types.specs.Scopes.{is_among}
 use Rattle.bw_types.specs.Tables.{with_kind, with_kinds, with_use, with_uses}
 use Rattle.std.proofs.Math.Bool.{or-false}
 use Rattle.std.proofs.Math.Bool as bools
-
--- names with the same bytes are the same
-pub same_is : (a b : List ℕ) → same a b ≡ true → a ≡ b
-same_is a b h = (bytes_eq-Decides a b).0 h
 
 module _ {K V : Type 0} (test : K → K → Bool) where
   -- what stands beside the first key that passes
@@ -109,19 +104,13 @@ missed (m ∷ names) w h = by_test (same w m) h (missed names w)
     by_test true h ih = absurd (cc)
     by_test false h ih = omega (arith, ih h)
 
-above : (m n : ℕ) → n ≤ m → nat_lt m n ≡ false
-above m n h = grind (arith, nat_tests)
-
-pub below : (m n : ℕ) → m < n → nat_lt m n ≡ true
-below m n h = grind (arith, nat_tests)
-
 -- a name that has a place in the table is among its names
 pub among_by_number : (names : List (List ℕ)) (w : List ℕ) → nat_lt (name_number names w) (length names) ≡ is_among w names
 among_by_number names w = by_test (list_any (same w) names) refl
   where
     by_test : (b : Bool) → list_any (same w) names ≡ b → nat_lt (name_number names w) (length names) ≡ b
-    by_test true e = below (name_number names w) (length names) (known names w e)
-    by_test false e = above (name_number names w) (length names) (missed names w e)
+    by_test true e = lt-ltb (name_number names w) (length names) (known names w e)
+    by_test false e = le-ltb (name_number names w) (length names) (missed names w e)
 
 pub among-append : (w : List ℕ) (a b : List (List ℕ)) → is_among w (a ++ b) ≡ (is_among w a || is_among w b)
 among-append w a b = list_any-append (same w) a b

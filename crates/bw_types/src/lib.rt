@@ -2,15 +2,15 @@
 #![tactic(auto)]
 
 mod declarations;
-mod expressions;
-mod fault;
-mod kinds;
+pub mod expressions;
+pub mod fault;
+pub mod kinds;
 pub mod laws;
-mod locals;
-mod names;
-mod statements;
-mod tables;
-mod templates;
+pub mod locals;
+pub mod names;
+pub mod statements;
+pub mod tables;
+pub mod templates;
 mod typed;
 
 pub use fault::{GapKind, TypeFault};

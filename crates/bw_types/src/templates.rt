@@ -43,7 +43,7 @@ impl Names<'_> {
     }
 
     /// The tests of an element, in front of its items: of its tag and its control, of its field, and of its gaps.
-    fn element(&self, template: &Name, element: &Element) -> Result<(), TypeFault>
+    pub fn element(&self, template: &Name, element: &Element) -> Result<(), TypeFault>
         ensures none { OnOk result (spec.element_faults self.now.service.now template.now element.now.tag element.now.attrs ≡ []) }
         ensures first { IfErr result (λ e. IsFirst e (spec.element_faults self.now.service.now template.now element.now.tag element.now.attrs)) }
     {
@@ -103,7 +103,7 @@ impl Names<'_> {
     }
 
     /// The test of a gap: `GapKinds` where its first place has another kind.
-    fn open_gap(&self, gap: GapId, kind: GapKind) -> Result<(), TypeFault>
+    pub fn open_gap(&self, gap: GapId, kind: GapKind) -> Result<(), TypeFault>
         ensures none { OnOk result (spec.gap_fault self.now.service.now gap kind ≡ []) }
         ensures first { IfErr result (λ e. IsFirst e (spec.gap_fault self.now.service.now gap kind)) }
     {

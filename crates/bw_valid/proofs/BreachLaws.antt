@@ -8,7 +8,8 @@ use Rattle.bw_lang.specs.declared.items.Attr.{Attr}
 use Rattle.bw_schema.proofs.ValidLaws.{all_has, closed_child, closed_each, closed_holds, closed_root, closed_text}
 use Rattle.bw_schema.specs.Rules.{allows, permits, rule_of}
 use Rattle.bw_schema.specs.Validity as v
-use Rattle.bw_schema.specs.Words.{is_among, is_blank}
+use Rattle.bw_lang.specs.Text.Bytes.{is_blank_text}
+use Rattle.bw_schema.specs.Words.{is_among}
 use Rattle.bw_schema.specs.declared.rules.Rule.{Rule}
 use Rattle.bw_valid.specs.Breaches as b
 use Rattle.bw_valid.specs.Laws.{ValidDecided, BreachClosed}
@@ -63,7 +64,7 @@ abbrev fourth_test : Rule → Forest → Bool
 fourth_test r inner = v.each_child (is_among r.has) inner
 
 abbrev fifth_test : Rule → Forest → Bool
-fifth_test r inner = r.text || v.each_text is_blank inner
+fifth_test r inner = r.text || v.each_text is_blank_text inner
 
 abbrev last_test : Rule → List Attr → Forest → Bool
 last_test r attrs inner = v.holds true r.needs attrs inner
@@ -129,7 +130,7 @@ closed_broken (Some r) a i =
     first_six (first_test r (closed_attrs a)) (second_test r (closed_attrs a)) (third_test r (closed_attrs a)) (fourth_test r (close i))
     (fifth_test r (close i)) (last_test r (closed_attrs a) (close i))
     (closed_each (λ x w. allows r x) a) (all_has a r.must) (closed_each (permits r.values) a) (closed_child (is_among r.has) i)
-    (ap (λ c. r.text || c) (closed_text is_blank i)) (closed_holds true r.needs a i)
+    (ap (λ c. r.text || c) (closed_text is_blank_text i)) (closed_holds true r.needs a i)
 
 closed_elements : (t : Forest) → elements (close t) ≡ elements t
 closed_elements none = refl

@@ -3,7 +3,6 @@ use Rattle.std.proofs.Common.{◌≡◌, ℕ, suc, ◌+◌, Bool, true, false, �
 use Rattle.std.specs.List.{list_all}
 use Rattle.std.proofs.lemmas.List.Folds.{list_all-append}
 use Rattle.bw_lang.specs.declared.items.Attr.{Attr}
-use Rattle.bw_lang.specs.Text.Bytes as bytes
 use Rattle.bw_lang.specs.Document.Documents.{elements}
 use Rattle.bw_lang.specs.Document.Forest.{Forest, none, text, gap, element}
 use Rattle.bw_lang.specs.Document.Print.{text_before, joined}
@@ -12,7 +11,8 @@ use Rattle.bw_schema.specs.declared.rules.Rule.{Rule}
 use Rattle.bw_schema.specs.Needs.{Needs, nothing, all_of, some_of, attr, one_value, content, order}
 use Rattle.bw_schema.specs.Rules.{allows, permits, rule_of}
 use Rattle.bw_schema.specs.Validity as v
-use Rattle.bw_schema.specs.Words.{is_among, is_blank}
+use Rattle.bw_lang.specs.Text.Bytes.{is_blank, is_blank_text}
+use Rattle.bw_schema.specs.Words.{is_among}
 use Rattle.bw_valid.specs.Breaches.{broken_at, placed, or_then, first_broken}
 use Rattle.bw_valid.specs.Laws.{BreachJoined}
 use Rattle.std.proofs.Math.Bool.{and_assoc}
@@ -33,11 +33,12 @@ text_order x y (b ∷ s) (text t d) = refl
 text_order x y (b ∷ s) (gap g d) = refl
 text_order x y (b ∷ s) (element tag attrs inner d) = refl
 
-text_blank : (s : List ℕ) (d : Forest) → v.each_text is_blank (text_before s d) ≡ (is_blank s && v.each_text is_blank d)
+text_blank : (s : List ℕ) (d : Forest) → v.each_text is_blank_text (text_before s d) ≡ (is_blank_text s && v.each_text is_blank_text d)
 text_blank [] d = refl
 text_blank (b ∷ s) none = refl
 text_blank (b ∷ s) (text t d) =
-    ap (λ x. x && v.each_text is_blank d) (list_all-append bytes.is_blank (b ∷ s) t) ∙ and_assoc (is_blank (b ∷ s)) (is_blank t) (v.each_text is_blank d)
+    ap (λ x. x && v.each_text is_blank_text d) (list_all-append is_blank (b ∷ s) t)
+    ∙ and_assoc (is_blank_text (b ∷ s)) (is_blank_text t) (v.each_text is_blank_text d)
 text_blank (b ∷ s) (gap g d) = refl
 text_blank (b ∷ s) (element tag attrs inner d) = refl
 
@@ -70,9 +71,9 @@ joined_order x y (element tag attrs inner d) =
     ap (λ b. (v.is_other y tag || b) && v.ordered x y (joined d)) (joined_child (v.is_other x) d)
     ∙ ap (λ b. (v.is_other y tag || v.each_child (v.is_other x) d) && b) (joined_order x y d)
 
-joined_blank : (d : Forest) → v.each_text is_blank (joined d) ≡ v.each_text is_blank d
+joined_blank : (d : Forest) → v.each_text is_blank_text (joined d) ≡ v.each_text is_blank_text d
 joined_blank none = refl
-joined_blank (text s d) = text_blank s (joined d) ∙ ap (λ b. is_blank s && b) (joined_blank d)
+joined_blank (text s d) = text_blank s (joined d) ∙ ap (λ b. is_blank_text s && b) (joined_blank d)
 joined_blank (gap g d) = joined_blank d
 joined_blank (element tag attrs inner d) = joined_blank d
 
@@ -103,9 +104,9 @@ joined_rule : (o : Option Rule) (a : List Attr) (d : Forest) → broken_at o a (
 joined_rule None a d = refl
 joined_rule (Some r) a d =
     let ask = asked r a in
-    ap (λ x. ask x (v.each_text is_blank (joined d)) (v.holds true r.needs a (joined d))) (joined_child (is_among r.has) d)
+    ap (λ x. ask x (v.each_text is_blank_text (joined d)) (v.holds true r.needs a (joined d))) (joined_child (is_among r.has) d)
     ∙ ap (λ x. ask (v.each_child (is_among r.has) d) x (v.holds true r.needs a (joined d))) (joined_blank d)
-    ∙ ap (λ x. ask (v.each_child (is_among r.has) d) (v.each_text is_blank d) x) (joined_holds true r.needs a d)
+    ∙ ap (λ x. ask (v.each_child (is_among r.has) d) (v.each_text is_blank_text d) x) (joined_holds true r.needs a d)
 
 joined_broken : (rules : List Rule) (n : ℕ) (d : Forest) → first_broken rules n (joined d) ≡ first_broken rules n d
 joined_broken rules n none = refl

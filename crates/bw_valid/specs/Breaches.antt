@@ -6,7 +6,8 @@ use Rattle.bw_lang.specs.Document.Forest.{Forest, none, text, gap, element}
 use Rattle.bw_lang.specs.declared.items.Attr as items
 use Rattle.bw_schema.specs.Rules.{allows, permits, rule_of}
 use Rattle.bw_schema.specs.Validity.{each_child, each_fixed, each_text, has_fixed, has_value, holds, is_bare, is_other, is_rooted, ordered}
-use Rattle.bw_schema.specs.Words.{is_among, is_blank}
+use Rattle.bw_lang.specs.Text.Bytes.{is_blank_text}
+use Rattle.bw_schema.specs.Words.{is_among}
 use Rattle.bw_schema.specs.declared.needs.Formula.{Formula}
 use Rattle.bw_schema.specs.declared.needs.Formula.TheVariants.{And, Or, Attr, OneOf, Content, Order}
 use Rattle.bw_schema.specs.declared.rules.Rule.{Rule}
@@ -20,7 +21,7 @@ broken r attrs inner =
     if not (list_all (has_fixed attrs) r.must) then Some 2 else
     if not (each_fixed (permits r.values) attrs) then Some 3 else
     if not (each_child (is_among r.has) inner) then Some 4 else
-    if not (r.text || each_text is_blank inner) then Some 5 else
+    if not (r.text || each_text is_blank_text inner) then Some 5 else
     if not (holds true r.needs attrs inner) then Some 7 else None
 
 -- an element without a rule breaks none

@@ -2,18 +2,12 @@
 ghost use Rattle.std.specs.Prelude.{◌≡◌, ◌&&◌, ◌||◌, not};
 ghost use Rattle.bw_lang.specs.Document.Forest.{none};
 ghost use Rattle.bw_lang.specs.Document.View.{before};
+ghost use Rattle.bw_lang.specs.Text.Bytes.{is_blank_text};
 ghost use Rattle.bw_schema.specs.Validity as validity;
 ghost use Rattle.bw_schema.specs.Words as words;
 
-use bw_lang::{Item, Items, Words, is_blank};
+use bw_lang::{Item, Items, Words, is_blank_text};
 use bw_schema::is_among;
-
-/// Whether a text counts as none: it has spaces, tabs, CR and LF alone.
-fn is_blank_text(text: &str) -> bool
-    ensures { result ≡ words.is_blank text.now }
-{
-    text.as_bytes().iter().all(|byte| is_blank(*byte))
-}
 
 /// Whether an item may stand where these elements are allowed.
 fn may_stand(tags: &Words, item: &Item) -> bool
@@ -27,7 +21,7 @@ fn may_stand(tags: &Words, item: &Item) -> bool
 
 /// Whether an item is no text, or a blank one.
 fn is_silent(item: &Item) -> bool
-    ensures { result ≡ validity.each_text words.is_blank (before item.now none) }
+    ensures { result ≡ validity.each_text is_blank_text (before item.now none) }
 {
     match item {
         Item::Text(text) => is_blank_text(text.as_str()),
@@ -60,7 +54,7 @@ pub fn are_among(tags: &Words, items: &Items) -> bool
 /// Whether each child text is blank.
 #[tactic(auto, using(crate::proofs::Walks::walk_steps))]
 pub fn are_silent(items: &Items) -> bool
-    ensures { result ≡ validity.each_text words.is_blank items.now }
+    ensures { result ≡ validity.each_text is_blank_text items.now }
 {
     let mut fine = true;
     for item in items.as_slice() {

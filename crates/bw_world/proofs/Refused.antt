@@ -9,7 +9,7 @@ use Rattle.bw_typed.proofs.Services.{shared_are_no_lists}
 use Rattle.bw_flow.specs.Layout.{receives}
 use Rattle.bw_flow.specs.Steps.{Step}
 use Rattle.bw_run.specs.Follow.Laws.{IsOf}
-use Rattle.bw_run.specs.Follow.Runs.{fields_of}
+use Rattle.bw_flow.specs.Flows.{fields_of}
 use Rattle.bw_eval.specs.View.{values}
 use Rattle.bw_meaning.specs.States.{Form}
 use Rattle.bw_model.specs.Received.{receives_of, first_refusal}

@@ -20,7 +20,7 @@ use Rattle.bw_world.specs.Seen.{Seen}
 use Rattle.bw_model.specs.declared.limits.TheConstants.{MAX_LIVE}
 
 -- the page of a session's document, with the target of its turn, and a session's last page
-abbrev pub shown_page : Service → ℕ → ℕ → ℕ → Made → List ℕ
+abbrev pub shown_page : Service → (number key turn : ℕ) → Made → List ℕ
 shown_page service number key turn d = print (show_page service.name (spelling (paths.Turn number key turn)) (tree d))
 
 abbrev pub last_page : Service → Made → List ℕ

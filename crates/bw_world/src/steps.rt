@@ -123,7 +123,7 @@ impl State {
         if turn == MAX_NUMBER {
             return Reply::NoTurns;
         }
-        match self.next_turn(alloc, one, form, steps) {
+        match self.next_turn(one, form, steps) {
             Err(fault) => failed(fault),
             Ok(Turn::Exited(doc, shared)) => self.leave(number, &doc, shared),
             Ok(Turn::Shown(frame, page, shared)) => self.keep(

@@ -85,7 +85,6 @@ impl State {
     /// A session's next turn, over a form that it takes.
     pub(crate) fn next_turn<L: Ledger>(
         &self,
-        alloc: Global,
         one: &Suspended,
         form: &Submission,
         steps: &mut Counter<L>,
@@ -100,7 +99,6 @@ impl State {
         ensures own { IfOk result (IsOwn self.now.service one.now.session) }
     {
         resume(
-            alloc,
             self.checked.typed(),
             self.checked.flow(),
             &one.frame,

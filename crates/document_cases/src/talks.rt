@@ -101,7 +101,7 @@ fn take_lines<L: Ledger>(
             "start" => begin(alloc, typed, flow, line.value, talk, steps)?,
             "field" => add_field(alloc, texts, line.value, form)?,
             "answer" => {
-                answer(alloc, typed, flow, line.value, form, talk, steps)?;
+                answer(typed, flow, line.value, form, talk, steps)?;
                 drop(mem::replace(form, Submission::new(alloc)));
             }
             _ => {}
@@ -159,7 +159,6 @@ fn begin<L: Ledger>(
 /// The turn over this form from where the turn of that number waits.
 #[tactic(auto, using(crate::proofs::Waiting::waiting_rules))]
 fn answer<L: Ledger>(
-    alloc: Global,
     typed: &Typed,
     flow: &Flow,
     number: &str,
@@ -179,7 +178,7 @@ fn answer<L: Ledger>(
         say_missing(&mut talk.said, typed, fault)?;
         return Ok(());
     }
-    let turn = resume(alloc, typed, flow, frame, form, &talk.shared, steps);
+    let turn = resume(typed, flow, frame, form, &talk.shared, steps);
     end(typed, flow, turn, talk)
 }
 

@@ -150,7 +150,7 @@ fn judged(
     requires shape { IsShape typed.now.service page.now schema.now outline.now }
     requires received { All (IsReceived typed.now.service) receives.now }
 {
-    let faults = judge(alloc, outline, page, typed, literals, schema, number)?;
+    let faults = judge(outline, page, typed, literals, schema, number)?;
     match judge_fields(alloc, outline, typed, receives, number) {
         Ok(more) => joined(faults, more),
         Err(Memory) => {
@@ -185,7 +185,7 @@ fn judged_exit(
     requires literals { literals.now ≡ literals_of typed.now.service }
 {
     let outline = shape(alloc, page, typed, literals, schema)?;
-    let faults = judge(alloc, &outline, page, typed, literals, schema, number);
+    let faults = judge(&outline, page, typed, literals, schema, number);
     drop(outline);
     faults
 }

@@ -97,7 +97,7 @@ impl System for LinkedCells {
 
     ghost use Rattle.std.specs.Prelude.{[], length};
     ghost use Rattle.analysis_cases.specs.Cells.{Fits, all_numbers, readers_at, gathered};
-    ghost use Rattle.analysis_cases.specs.CellLaws.{cells_system};
+    ghost use Rattle.analysis_cases.specs.Lawful.CellLaws.{cells_system};
 
     ghost cells = { λ s. length s.cells.items };
 

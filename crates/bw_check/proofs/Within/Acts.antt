@@ -11,9 +11,9 @@ use Rattle.bw_flow.specs.declared.point.Local.{Local}
 use Rattle.bw_flow.specs.Layout.{count, enter, points, receives, step, steps, session_steps}
 use Rattle.bw_flow.specs.Scopes.{with_local}
 use Rattle.bw_flow.specs.Steps.{Act, sets, tests, goes_over, shows, exits, joins, Step}
-use Rattle.bw_analyse.specs.ArrowLaws.{all_both}
+use Rattle.bw_analyse.specs.Lawful.ArrowLaws.{all_both}
 use Rattle.bw_analyse.specs.Least.{flow_of}
-use Rattle.bw_analyse.specs.SystemLaws.{all_at}
+use Rattle.bw_analyse.specs.Lawful.SystemLaws.{all_at}
 
 -- what holds of one after the other holds of all
 pub every : {X : Type 0} (P : X → Type 0) (xs : List X) → AllByRecursion P xs → All P xs

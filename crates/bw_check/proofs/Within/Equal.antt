@@ -1,5 +1,5 @@
 -- Values that are below each other are equal.
-use Rattle.std.proofs.Common.{◌≡◌, ℕ, Bool, true, false, ◌&&◌, cond, List, [], ◌∷◌, refl, sym, ap, ◌∙◌, subst, inl, inr, ◌⊎◌}
+use Rattle.std.proofs.Common.{◌≡◌, ℕ, Bool, true, ◌&&◌, cond, List, [], ◌∷◌, refl, sym, ap, ◌∙◌, subst, inl, inr, ◌⊎◌}
 use Rattle.std.specs.declared.cmp.Ordering.{Ordering}
 use Rattle.std.specs.declared.cmp.Ordering.TheVariants.{Less, Equal, Greater}
 use Rattle.std.specs.Ordering.{nat_cmp, is_eq, ordering_reverse}
@@ -9,25 +9,25 @@ use Rattle.std.proofs.lemmas.Bool.{false≢true, and_parts, cases_Bool}
 use Rattle.std.proofs.lemmas.Cmp.{nat_cmp_total, tied_itself}
 use Rattle.std.proofs.lemmas.Map.Lookups.{CmpEqualImpliesEq, exact_unsigned}
 use Rattle.bw_solve.specs.Sets.{IsSet, has, is_within}
-use Rattle.bw_solve.specs.SetLaws.{has_within, all_weaker, is_Equal, less_back, three}
-use Rattle.bw_solve.specs.TableLaws.{at_fine, below_at}
+use Rattle.bw_solve.specs.Lawful.SetLaws.{has_within, all_weaker, is_Equal, less_back, three}
+use Rattle.bw_solve.specs.Lawful.TableLaws.{at_fine, below_at}
 use Rattle.bw_solve.specs.Tables.{IsTable, found}
 use Rattle.bw_faults.proofs.Lists.{set_equal}
 use Rattle.bw_strings.specs.declared.strings.StrSet.{StrSet}
 use Rattle.bw_strings.specs.declared.strings.StrSet.TheVariants.{Any, Of}
 use Rattle.bw_strings.specs.Strings as strings
-use Rattle.bw_strings.specs.StringLaws.{strings_lattice, none_least, none_left, none_right}
+use Rattle.bw_strings.specs.Lawful.StringLaws.{strings_lattice, none_least, none_left, none_right}
 use Rattle.bw_sum.specs.declared.summary.Summary.{Summary}
 use Rattle.bw_sum.specs.Edges.{edge_cmp}
-use Rattle.bw_sum.specs.LabelLaws.{pair_cmp_total}
+use Rattle.bw_sum.specs.Lawful.LabelLaws.{pair_cmp_total}
 use Rattle.bw_sum.specs.Labels.{pair_cmp, IsHeld, AreLabels, are_below}
 use Rattle.bw_sum.specs.Summaries as summaries
-use Rattle.bw_sum.specs.SummaryLaws.{edge_cmp_total}
+use Rattle.bw_sum.specs.Lawful.SummaryLaws.{edge_cmp_total}
 use Rattle.bw_analyse.specs.declared.abstracts.Abstract.{Abstract}
 use Rattle.bw_analyse.specs.declared.abstracts.Abstract.TheVariants.{Nothing, Str, Html}
 use Rattle.bw_analyse.specs.Abstracts.{AreAlike, is_below}
 use Rattle.bw_analyse.specs.Rows.{EachAlike, each_below}
-use Rattle.bw_analyse.specs.StepLaws.{is_true}
+use Rattle.bw_lang.proofs.SameNames.{is_true}
 use Rattle.bw_analyse.proofs.PlugLaws.{pair_exact, edge_exact}
 
 -- ---- sets

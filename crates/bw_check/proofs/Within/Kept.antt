@@ -19,7 +19,7 @@ use Rattle.bw_lang.specs.declared.stmt.Kind.TheVariants as kinds
 use Rattle.bw_lang.specs.Service.Order.{IsWoven}
 use Rattle.bw_lang.specs.Service.Term.{Term, int, truth, string, name, paren, not as negated, neg, binary, call, plug, nothing, Fillings, no_more, filling}
 use Rattle.bw_lang.specs.Table.Names.{same, name_number}
-use Rattle.bw_solve.specs.SetLaws.{merge_all, all_weaker}
+use Rattle.bw_solve.specs.Lawful.SetLaws.{merge_all, all_weaker}
 use Rattle.bw_strings.specs.declared.strings.StrSet.{StrSet}
 use Rattle.bw_strings.specs.declared.strings.StrSet.TheVariants.{Any, Of}
 use Rattle.bw_strings.specs.Asking.{AreLiterals}
@@ -37,7 +37,7 @@ use Rattle.bw_analyse.specs.Known.{any, of_name, of_local, of_shared, constant_a
 use Rattle.bw_analyse.specs.Least.{flow_of}
 use Rattle.bw_analyse.specs.Rounds.{received_by, receives, left_by, is_local, added_by, join_some, joined, left_at, next_local, next_shared}
 use Rattle.bw_analyse.specs.Rounds.{Placed, placed, arrows_to, empty_row, next_row}
-use Rattle.bw_analyse.specs.SystemLaws.{IsPlaced, all_placed}
+use Rattle.bw_analyse.specs.Lawful.SystemLaws.{IsPlaced, all_placed}
 use Rattle.bw_check.proofs.Within.Named.{AreNamed, two_named, HasLiterals, ActLiterals, point_literals, shared_literals}
 use Rattle.bw_check.proofs.Within.OneSolution.{rows_after}
 use Rattle.bw_check.proofs.Within.Within.{IsWithin, constant_within, join_within, plug_within, text_within}

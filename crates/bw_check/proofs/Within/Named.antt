@@ -18,7 +18,7 @@ use Rattle.bw_lang.specs.Service.Order.{declarations_of, IsWoven}
 use Rattle.bw_lang.specs.Service.Sorted.{shared_of, sessions_of}
 use Rattle.bw_lang.specs.Service.Term.{Term}
 use Rattle.bw_lang.specs.Table.Names.{name_number, with_names}
-use Rattle.bw_solve.specs.SetLaws.{all_weaker}
+use Rattle.bw_solve.specs.Lawful.SetLaws.{all_weaker}
 use Rattle.bw_strings.specs.Literals.{literals_of, term_strings, code_strings, literal_strings, declaration_strings}
 use Rattle.bw_types.specs.declared.typed.Typed.{Typed}
 use Rattle.bw_types.specs.Fields.{field_names}

@@ -7,15 +7,15 @@ use Rattle.bw_solve.proofs.Least.{rounds_fit}
 use Rattle.bw_strings.specs.Literals.{literals_of}
 use Rattle.bw_types.specs.declared.typed.Typed.{Typed}
 use Rattle.bw_analyse.specs.declared.abstracts.Abstract.{Abstract}
-use Rattle.bw_analyse.specs.AbstractLaws.{abstracts_lattice}
+use Rattle.bw_analyse.specs.Lawful.AbstractLaws.{abstracts_lattice}
 use Rattle.bw_analyse.specs.Abstracts.{is_below}
 use Rattle.bw_analyse.specs.Facts.{pages_of}
 use Rattle.bw_analyse.specs.Fits.{FitsCell}
 use Rattle.bw_analyse.specs.Least.{flow_of, rows, IsLeastSolution}
 use Rattle.bw_analyse.specs.Rounds.{empty, round}
-use Rattle.bw_analyse.specs.RowLaws.{rows_lattice}
+use Rattle.bw_analyse.specs.Lawful.RowLaws.{rows_lattice}
 use Rattle.bw_analyse.specs.Rows.{each_below}
-use Rattle.bw_analyse.specs.TypedSystem.{typed_system}
+use Rattle.bw_analyse.specs.Lawful.TypedSystem.{typed_system}
 use Rattle.bw_check.proofs.Within.Equal.{row_equal}
 use Rattle.bw_check.specs.Within.Laws.{FactsAreOne}
 

@@ -23,7 +23,7 @@ use Rattle.bw_analyse.specs.Known.{known}
 use Rattle.bw_analyse.specs.Least.{flow_of, rows}
 use Rattle.bw_analyse.specs.Pages.{show_constant, exit_constant, shown_page, exited_page, name_of, page_by, page_at, page_graph}
 use Rattle.bw_analyse.specs.Rounds.{Placed, empty}
-use Rattle.bw_analyse.specs.SystemLaws.{get_below}
+use Rattle.bw_analyse.specs.Lawful.SystemLaws.{get_below}
 use Rattle.bw_analyse.proofs.PageLaws.{placed_get}
 use Rattle.bw_analyse.proofs.RoundLaws.{family_same}
 use Rattle.bw_check.proofs.Within.Acts.{every}

@@ -1,24 +1,22 @@
 -- What operations on summaries name stays within what their parts name: templates below a bound, and strings of some sort.
 use Rattle.std.proofs.Common.{ℕ, zero, suc, ◌+◌, ◌<◌, ◌≤◌, Bool, true, false, cond, List, [], ◌∷◌, arith}
 use Rattle.std.specs.Prelude.{◌==◌, not, if◌then◌else◌}
-use Rattle.std.specs.declared.cmp.Ordering.{Ordering}
-use Rattle.std.specs.Cmp.{IsTotalOrder}
 use Rattle.std.specs.List.{AllByRecursion}
 use Rattle.std.proofs.lemmas.Cmp.{nat_cmp_total}
 use Rattle.bw_lang.specs.Document.Forest.{Forest}
 use Rattle.bw_solve.specs.Sets.{merge, sifted}
-use Rattle.bw_solve.specs.SetLaws.{merge_all, all_weaker, by_order}
+use Rattle.bw_solve.specs.Lawful.SetLaws.{merge_all, all_weaker, by_order, sifted_all}
 use Rattle.bw_solve.specs.Tables.{table_join_into}
 use Rattle.bw_strings.specs.declared.strings.StrSet.{StrSet}
 use Rattle.bw_strings.specs.Strings.{both, is_none}
 use Rattle.bw_sum.specs.Constants.{tracked, constant_of}
 use Rattle.bw_sum.specs.declared.summary.Summary.{Summary}
 use Rattle.bw_sum.specs.Edges.{edge_cmp, edges_from, edges_at}
-use Rattle.bw_sum.specs.LabelLaws.{pair_cmp_total}
+use Rattle.bw_sum.specs.Lawful.LabelLaws.{pair_cmp_total}
 use Rattle.bw_sum.specs.Labels.{pair_cmp, both_labels, labels_at}
 use Rattle.bw_sum.specs.Opening.{opens}
 use Rattle.bw_sum.specs.Summaries as summaries
-use Rattle.bw_sum.specs.SummaryLaws.{edge_cmp_total}
+use Rattle.bw_sum.specs.Lawful.SummaryLaws.{edge_cmp_total}
 
 -- ---- what is named
 
@@ -51,15 +49,6 @@ within_more low high sort s l h = record {
 }
 
 -- ---- parts
-
-sifted_all : {T : Type 0} {cmp : T → T → Ordering} → IsTotalOrder cmp → (P : T → Type 0) (keep : T → Bool) (all xs : List T) → AllByRecursion P all
-    → AllByRecursion P xs → AllByRecursion P (sifted cmp keep all xs)
-sifted_all o P keep all [] p q = p
-sifted_all {cmp = cmp} o P keep all (x ∷ xs) p q = sifted_all o P keep (cond (keep x) (merge cmp all (x ∷ [])) all) xs (one (keep x)) q.1
-  where
-    one : (b : Bool) → AllByRecursion P (cond b (merge cmp all (x ∷ [])) all)
-    one true = merge_all o P all (x ∷ []) p (q.0, tt)
-    one false = p
 
 module _ (bound : ℕ) (sort : StrSet → Type 0) (joins : (a b : StrSet) → sort a → sort b → sort (both a b)) where
   abbrev Roots : List ℕ → Type 0

@@ -10,17 +10,8 @@ use Rattle.bw_lang.specs.declared.limits.Leaf.{Leaf}
 use Rattle.bw_lang.specs.declared.limits.Leaf.TheVariants as leaves
 use Rattle.bw_lang.specs.declared.limits.Limit.{Limit}
 use Rattle.bw_lang.specs.declared.limits.Limit.TheVariants as limits
-use Rattle.bw_lang.specs.declared.limits.TheConstants.{
-  MAX_TEMPLATES,
-  MAX_SESSIONS,
-  MAX_SHARED,
-  MAX_GAPS,
-  MAX_FIELDS,
-  MAX_LOCALS,
-  MAX_NAME_BYTES,
-  MAX_STRING_BYTES,
-  MAX_TEMPLATE_WEIGHT,
-}
+use Rattle.bw_lang.specs.declared.limits.TheConstants.{MAX_TEMPLATES, MAX_SESSIONS, MAX_SHARED, MAX_GAPS, MAX_FIELDS, MAX_LOCALS, MAX_NAME_BYTES}
+use Rattle.bw_lang.specs.declared.limits.TheConstants.{MAX_STRING_BYTES, MAX_TEMPLATE_WEIGHT}
 use Rattle.bw_lang.specs.declared.service.Literal.{Literal}
 use Rattle.bw_lang.specs.declared.service.Literal.TheVariants as literals
 use Rattle.bw_lang.specs.declared.stmt.Receive.{Receive}

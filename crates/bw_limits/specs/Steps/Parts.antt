@@ -11,7 +11,8 @@ use Rattle.bw_lang.specs.Service.CodeNames.{local_names}
 use Rattle.bw_lang.specs.Service.Limits.{all_lengths}
 use Rattle.bw_lang.specs.Document.Measures.{constant_weight}
 use Rattle.bw_lang.specs.Service.Sorted.{templates_of, shared_of, sessions_of}
-use Rattle.bw_lang.specs.declared.limits.TheConstants.{MAX_GAPS, MAX_LOCALS, MAX_NAME_BYTES, MAX_SESSIONS, MAX_SHARED, MAX_STRING_BYTES, MAX_TEMPLATES, MAX_TEMPLATE_WEIGHT}
+use Rattle.bw_lang.specs.declared.limits.TheConstants.{MAX_GAPS, MAX_LOCALS, MAX_NAME_BYTES, MAX_SESSIONS, MAX_SHARED, MAX_STRING_BYTES, MAX_TEMPLATES}
+use Rattle.bw_lang.specs.declared.limits.TheConstants.{MAX_TEMPLATE_WEIGHT}
 
 -- the first limit on the numbers of declarations and of gap names
 abbrev pub declared_limit : List (List ℕ) → List Declaration → Option (Limit × ℕ)

@@ -4,24 +4,8 @@ use Rattle.std.specs.Prelude.{ℕ, zero, suc, pos, ◌+◌, ◌*◌, nat_lt, ◌
 use Rattle.bw_lang.specs.declared.token.Lexeme.{Lexeme}
 use Rattle.bw_lang.specs.declared.token.Lexeme.TheVariants as lex
 use Rattle.bw_lang.specs.Text.Levels.{left_level}
-use Rattle.bw_lang.specs.Service.Term.{
-  Term,
-  int,
-  truth,
-  string,
-  name,
-  paren,
-  not,
-  neg,
-  binary,
-  call,
-  plug,
-  nothing,
-  Fillings,
-  no_more,
-  filling,
-  append_fillings,
-}
+use Rattle.bw_lang.specs.Service.Term.{Term, int, truth, string, name, paren, not, neg, binary, call, plug, nothing, Fillings, no_more, filling}
+use Rattle.bw_lang.specs.Service.Term.{append_fillings}
 use Rattle.bw_parse.specs.declared.lexemes.Meaning.{Meaning}
 use Rattle.bw_parse.specs.declared.lexemes.Meaning.TheVariants.{Truth, Function, Nothing, Other, Free}
 use Rattle.bw_lang.specs.Table.Options.{◌>>=◌, where_some}

@@ -10,12 +10,12 @@ use Rattle.bw_lang.specs.Service.Code.{Code, done, declare, assign, if_then, if_
 use Rattle.bw_lang.specs.Service.Term.{Term}
 use Rattle.bw_flow.specs.declared.point.Local.{Local}
 use Rattle.bw_flow.specs.declared.point.Received.{Received}
-use Rattle.bw_flow.specs.Flows.{is_join}
+use Rattle.bw_flow.specs.Flows.{is_join, is_show, fields_of}
 use Rattle.bw_flow.specs.Layout.{step, receives}
 use Rattle.bw_flow.specs.Scopes.{with_local}
 use Rattle.bw_flow.specs.Stands.{IsAt, Lowered}
 use Rattle.bw_flow.specs.Numbers.{HasNumbers}
-use Rattle.bw_flow.specs.Steps.{Act, Step}
+use Rattle.bw_flow.specs.Steps.{Step}
 use Rattle.bw_flow.specs.Steps as acts
 use Rattle.bw_meaning.specs.GoOn.{go_on_behind, with_rest}
 use Rattle.bw_meaning.specs.States.{Input, State, Outcome, Rests, Answered, budget}
@@ -25,7 +25,7 @@ use Rattle.bw_meaning.proofs.Good.{taken_room}
 use Rattle.bw_meaning.proofs.OneMore.{if_below, if_above, if_at, if_past}
 use Rattle.bw_run.specs.Follow.Laws.{Settles}
 use Rattle.bw_meaning.specs.Values.{names_of}
-use Rattle.bw_run.specs.Follow.Runs.{cut, plain, first_of, rests_weight, is_show, fields_of, run}
+use Rattle.bw_run.specs.Follow.Runs.{cut, plain, first_of, rests_weight, run}
 use Rattle.bw_run.specs.Follow.Scoped.{names_in}
 use Rattle.bw_flow.specs.Scoped.{IsScoped}
 use Rattle.bw_run.proofs.Follow.Names.{names_with, names_taken, scoped_apart, unknown_apart, apart_with}

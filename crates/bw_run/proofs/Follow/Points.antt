@@ -30,30 +30,9 @@ use Rattle.bw_flow.specs.Scoped.{IsScoped}
 use Rattle.bw_run.proofs.Follow.Names.{names_add, names_with, Apart}
 use Rattle.bw_run.proofs.Follow.Names.{scoped_apart}
 use Rattle.bw_run.proofs.Follow.Ends.{Ends, exec_ends}
-use Rattle.bw_run.proofs.Follow.Settling.{
-  settles_step,
-  settles_to,
-  settles_by,
-  settles_unit,
-  settles_value,
-  settles_begin,
-  on,
-  on_then,
-  on_unit,
-  on_value,
-  on_begin,
-  on_rest,
-  rest_leave,
-  names_cut,
-  cut_all,
-  leave_as_cut,
-  length_more,
-  last_rest_is,
-  outer_rests_are,
-  if_true,
-  if_false,
-  Means,
-}
+use Rattle.bw_run.proofs.Follow.Settling.{settles_step, settles_to, settles_by, settles_unit, settles_value, settles_begin, on, on_then, on_unit, on_value}
+use Rattle.bw_run.proofs.Follow.Settling.{on_begin, on_rest, rest_leave, names_cut, cut_all, leave_as_cut, length_more, last_rest_is, outer_rests_are, if_true}
+use Rattle.bw_run.proofs.Follow.Settling.{if_false, Means}
 
 module _ (service : Service) (flow : List Step) where
   pub settles_point : (p : ℕ) (x : Step) (rs : Rests) (st : State) (o : Outcome) → IsAt flow p x →

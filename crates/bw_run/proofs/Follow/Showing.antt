@@ -10,14 +10,13 @@ use Rattle.bw_lang.specs.Service.Code.{Code, done, declare, assign, if_then, if_
 use Rattle.bw_lang.specs.Service.Term.{Term}
 use Rattle.bw_flow.specs.declared.point.Local.{Local}
 use Rattle.bw_flow.specs.declared.point.Received.{Received}
-use Rattle.bw_flow.specs.Flows.{is_join}
+use Rattle.bw_flow.specs.Flows.{is_join, is_show}
 use Rattle.bw_flow.specs.Layout.{step, receives}
 use Rattle.bw_flow.specs.Scopes.{with_local}
 use Rattle.bw_flow.specs.Stands.{IsAt, Lowered}
 use Rattle.bw_flow.specs.Numbers.{HasNumbers}
-use Rattle.bw_flow.specs.Steps.{Act, Step}
+use Rattle.bw_flow.specs.Steps.{Step}
 use Rattle.bw_flow.specs.Steps as acts
-use Rattle.bw_run.specs.Follow.Runs.{is_show}
 
 module _ (service : Service) (flow : List Step) (num : HasNumbers flow) (pk : ℕ) (x : Step) (page : Term) (fields : List Received)
     (here : IsAt flow pk x) (is : x.act ≡ acts.shows page fields) where

@@ -1,5 +1,5 @@
 -- What a flow means: one point after another.
-use Rattle.std.specs.Prelude.{ℕ, zero, suc, ◌-◌, ◌==◌, Bool, true, false, if◌then◌else◌, List, [], ◌∷◌, ◌++◌, map, take, length, sum_by, slice_get}
+use Rattle.std.specs.Prelude.{ℕ, zero, suc, ◌-◌, ◌==◌, if◌then◌else◌, List, [], ◌∷◌, ◌++◌, map, take, length, sum_by, slice_get}
 use Rattle.std.specs.Prelude.{unwrap_or, Option, Some, None}
 use Rattle.bw_lang.specs.declared.service.Service.{Service}
 use Rattle.bw_lang.specs.declared.stmt.Receive.{Receive}
@@ -57,24 +57,6 @@ within outer (Exited last shared units) = Exited last shared units
 within outer (Failed f units) = Failed f units
 
 -- ---- points
-
--- whether it is a show
-abbrev pub is_show : Act → Bool
-is_show (acts.sets w e) = false
-is_show (acts.tests e) = false
-is_show (acts.goes_over w e) = false
-is_show (acts.shows e rs) = true
-is_show (acts.exits e) = false
-is_show acts.joins = false
-
--- the fields that a show receives
-abbrev pub fields_of : Act → List Received
-fields_of (acts.sets w e) = []
-fields_of (acts.tests e) = []
-fields_of (acts.goes_over w e) = []
-fields_of (acts.shows e rs) = rs
-fields_of (acts.exits e) = []
-fields_of acts.joins = []
 
 -- how it goes on from a place, with these rests
 abbrev pub Next : Type 0

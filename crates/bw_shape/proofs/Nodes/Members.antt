@@ -13,7 +13,8 @@ use Rattle.bw_lang.specs.Table.Names.{same}
 use Rattle.bw_solve.specs.Sets.{has}
 use Rattle.bw_strings.specs.declared.strings.StrSet.{StrSet}
 use Rattle.bw_strings.specs.declared.strings.StrSet.TheVariants.{Any, Of}
-use Rattle.bw_strings.specs.Asking.{text_of, has_string, is_blank, blank}
+use Rattle.bw_strings.specs.Asking.{text_of, has_string, blank}
+use Rattle.bw_lang.specs.Text.Bytes.{is_blank_text}
 use Rattle.bw_sum.specs.Edges.{edge_cmp}
 use Rattle.bw_sum.specs.Labels.{pair_cmp, IsHeld, AreLabels}
 use Rattle.bw_sum.proofs.PartLaws.{is_eq_nat}
@@ -81,19 +82,19 @@ some_string literals (Of (n ∷ ns)) h = (
       (same_itself (text_of literals n)),
 )
 
-wordy_string : (literals : List (List ℕ)) (S : StrSet) → blank literals S ≡ false → (w : List ℕ) × (has_string literals S w ≡ true) × (is_blank w ≡ false)
+wordy_string : (literals : List (List ℕ)) (S : StrSet) → blank literals S ≡ false → (w : List ℕ) × (has_string literals S w ≡ true) × (is_blank_text w ≡ false)
 wordy_string literals Any h = (97 ∷ [], refl, refl)
 wordy_string literals (Of ns) h =
-    let r = fails_at (λ n. is_blank (text_of literals n)) ns h in
+    let r = fails_at (λ n. is_blank_text (text_of literals n)) ns h in
     (text_of literals r.0, any_at (λ n. same (text_of literals n) (text_of literals r.0)) ns r.0 r.1 (same_itself (text_of literals r.0)), r.2)
 
-blank_string : (literals : List (List ℕ)) (S : StrSet) (w : List ℕ) → has_string literals S w ≡ true → is_blank w ≡ false → blank literals S ≡ false
+blank_string : (literals : List (List ℕ)) (S : StrSet) (w : List ℕ) → has_string literals S w ≡ true → is_blank_text w ≡ false → blank literals S ≡ false
 blank_string literals Any w h k = refl
 blank_string literals (Of ns) w h k = elim (cases_Bool (blank literals (Of ns))) [
   | inl it ↦
       let r = passes_at (λ n. same (text_of literals n) w) ns h in
-      let e = all_at (λ n. is_blank (text_of literals n)) ns r.0 r.1 it in
-      absurd (false≢true (sym k ∙ sym (ap is_blank ((bytes_eq-Decides (text_of literals r.0) w).0 r.2)) ∙ e))
+      let e = all_at (λ n. is_blank_text (text_of literals n)) ns r.0 r.1 it in
+      absurd (false≢true (sym k ∙ sym (ap is_blank_text ((bytes_eq-Decides (text_of literals r.0) w).0 r.2)) ∙ e))
   | inr isnt ↦ isnt
 ]
 
@@ -134,7 +135,7 @@ wordy_if literals true x xs g = wordy_cons (blank literals x.1) x.0 g (wordy_of 
 wordy_if literals false x xs g = refl
 
 pub wordy_to : (literals : List (List ℕ)) (n g : ℕ) (labels : List ((ℕ × ℕ) × StrSet)) → among (wordy_of literals (sayings_of n labels)) g ≡ true
-    → (w : List ℕ) × (list_any (at_gap literals n g w) labels ≡ true) × (is_blank w ≡ false)
+    → (w : List ℕ) × (list_any (at_gap literals n g w) labels ≡ true) × (is_blank_text w ≡ false)
 wordy_to literals n g [] h = absurd (false≢true h)
 wordy_to literals n g (l ∷ ls) h =
     elim (or_cases ((l.0.0 == n) && (not (blank literals l.1) && (l.0.1 == g))) (among (wordy_of literals (sayings_of n ls)) g)
@@ -148,7 +149,7 @@ wordy_to literals n g (l ∷ ls) h =
     ]
 
 pub wording_from : (literals : List (List ℕ)) (n g : ℕ) (w : List ℕ) (labels : List ((ℕ × ℕ) × StrSet)) → list_any (at_gap literals n g w) labels ≡ true
-    → is_blank w ≡ false
+    → is_blank_text w ≡ false
     → among (wordy_of literals (sayings_of n labels)) g ≡ true
 wording_from literals n g w [] h k = absurd (false≢true h)
 wording_from literals n g w (l ∷ ls) h k = wordy_if literals (l.0.0 == n) (l.0.1, l.1) (sayings_of n ls) g

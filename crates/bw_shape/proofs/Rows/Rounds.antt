@@ -5,7 +5,7 @@ use Rattle.std.specs.List.{All, Contains}
 use Rattle.std.proofs.lemmas.Bool.{false≢true}
 use Rattle.std.proofs.lemmas.List.{get_or-replicate, length-replicate}
 use Rattle.bw_shape.specs.Rows.Rows.{flag, at, missing}
-use Rattle.bw_shape.specs.Rows.Least.{IsDerived, IsClosedAt, IsLeast}
+use Rattle.bw_shape.specs.Rows.Least.{Derivation, IsDerived, IsClosedAt, IsLeast}
 use Rattle.bw_shape.specs.Rows.Rounds.{ReadsLinks, AreReaders, Step, IsSettled, Progress, Look, Round}
 use Rattle.bw_shape.proofs.Rows.Steps.{equal_or}
 use Rattle.bw_shape.proofs.Rows.Waking.{last}
@@ -25,7 +25,7 @@ pub record Clearing (n : ℕ) (due later : List Bool) : Type 0 where
   pub here : flag later n ≡ false
   pub others : (m : ℕ) → m ≢ n → flag later m ≡ flag due m
 
-module _ {width rows : ℕ} {follows : (ℕ → ℕ → Bool) → ℕ → ℕ → Bool} where
+module _ {width rows : ℕ} {follows : Derivation} where
   progress_none : (table : List (List Bool)) (due : List Bool) → Progress width rows follows table table due due false
   progress_none table due = record {
     derived = λ d. d;
@@ -132,7 +132,7 @@ module _ {width rows : ℕ} {follows : (ℕ → ℕ → Bool) → ℕ → ℕ �
   }
 
 -- what the rounds keep
-pub record Kept (width rows : ℕ) (follows : (ℕ → ℕ → Bool) → ℕ → ℕ → Bool) (order : List ℕ) (table : List (List Bool)) (due : List Bool) (changed : Bool)
+pub record Kept (width rows : ℕ) (follows : Derivation) (order : List ℕ) (table : List (List Bool)) (due : List Bool) (changed : Bool)
     : Type 0 where
   pub long : length table ≡ rows
   pub len : length due ≡ rows
@@ -140,7 +140,7 @@ pub record Kept (width rows : ℕ) (follows : (ℕ → ℕ → Bool) → ℕ →
   pub settled : IsSettled width rows follows table due
   pub done : changed ≡ false → (i : ℕ) → i < length order → flag due (get_or order i 0) ≡ false
 
-module _ {width rows : ℕ} {follows : (ℕ → ℕ → Bool) → ℕ → ℕ → Bool} where
+module _ {width rows : ℕ} {follows : Derivation} where
   -- no fact is known, and each row is due
   pub kept_start : (order : List ℕ) → Kept width rows follows order (replicate rows []) (replicate rows true) true
   kept_start order = record {

@@ -3,7 +3,7 @@ use Rattle.std.proofs.Common.{◌≡◌, ◌≢◌, ◌⊎◌, inl, inr, ℕ, �
 use Rattle.std.proofs.lemmas.Bool.{false≢true, or_cases}
 use Rattle.std.proofs.lemmas.List.{get_or_past, get_or-set_same, get_or-set_other, length-set}
 use Rattle.bw_shape.specs.Rows.Rows.{flag, at}
-use Rattle.bw_shape.specs.Rows.Least.{Derived, by, IsDerived}
+use Rattle.bw_shape.specs.Rows.Least.{Derivation, Derived, by, IsDerived}
 use Rattle.bw_shape.specs.Rows.Rounds.{Step}
 use Rattle.bw_shape.proofs.Rows.Rows.{split, ones_grow, missing_falls}
 
@@ -26,7 +26,7 @@ set_length : (table : List (List Bool)) (n : ℕ) (row : List Bool) → length (
 set_length table n row = length-set {A = List Bool} table n row
 
 -- a derived fact stands in the row
-in_width : {width : ℕ} {follows : (ℕ → ℕ → Bool) → ℕ → ℕ → Bool} {n c : ℕ} → Derived width follows n c → c < width
+in_width : {width : ℕ} {follows : Derivation} {n c : ℕ} → Derived width follows n c → c < width
 in_width (by known k l f) = l
 
 replaced : (table : List (List Bool)) (n m : ℕ) (row : List Bool) → n < length table → (m ≡ n) ⊎ (m ≢ n) → (get_or (set table n row) m [] ≡ row) × (m ≡ n)
@@ -37,7 +37,7 @@ replaced table n m row l (inr e) = inr (get_or-set_other table n m row [] e)
 pub equal_or : (m n : ℕ) → (m ≡ n) ⊎ (m ≢ n)
 equal_or m n = grind arith
 
-module _ {width : ℕ} {follows : (ℕ → ℕ → Bool) → ℕ → ℕ → Bool} where
+module _ {width : ℕ} {follows : Derivation} where
   -- nothing new: what follows is there
   pub step_same : (n : ℕ) (table : List (List Bool)) (row : List Bool)
       → ((c : ℕ) → c < width → flag row c ≡ follows (at table) n c) → ((c : ℕ) → flag row c ≡ true → at table n c ≡ true)

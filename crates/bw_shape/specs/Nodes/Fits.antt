@@ -2,7 +2,8 @@
 use Rattle.std.specs.Prelude.{◌≡◌, ℕ, true, false, ◌==◌, ◌&&◌, List, [], slice_index_or}
 use Rattle.std.specs.List.{list_any}
 use Rattle.bw_strings.specs.declared.strings.StrSet.{StrSet}
-use Rattle.bw_strings.specs.Asking.{has_string, is_blank}
+use Rattle.bw_lang.specs.Text.Bytes.{is_blank_text}
+use Rattle.bw_strings.specs.Asking.{has_string}
 use Rattle.bw_sum.specs.Graph.{Graph}
 use Rattle.bw_shape.specs.Nodes.Nodes.{Node, node_at, among}
 
@@ -12,8 +13,8 @@ pub record Fits (nodes : List Node) (G : Graph) : Type 0 where
   pub tracks : (n g : ℕ) → among (node_at nodes n).open_gaps g ≡ G.track g n
   pub said : (n g : ℕ) → among (node_at nodes n).said g ≡ true → (s : List ℕ) × (G.label n g s ≡ true)
   pub saying : (n g : ℕ) (s : List ℕ) → G.label n g s ≡ true → among (node_at nodes n).said g ≡ true
-  pub wordy : (n g : ℕ) → among (node_at nodes n).wordy g ≡ true → (s : List ℕ) × (G.label n g s ≡ true) × (is_blank s ≡ false)
-  pub wording : (n g : ℕ) (s : List ℕ) → G.label n g s ≡ true → is_blank s ≡ false → among (node_at nodes n).wordy g ≡ true
+  pub wordy : (n g : ℕ) → among (node_at nodes n).wordy g ≡ true → (s : List ℕ) × (G.label n g s ≡ true) × (is_blank_text s ≡ false)
+  pub wording : (n g : ℕ) (s : List ℕ) → G.label n g s ≡ true → is_blank_text s ≡ false → among (node_at nodes n).wordy g ≡ true
 
 -- the strings at the gaps are those of the graph
 abbrev pub AreStrings : List (List (ℕ × StrSet)) → List (List ℕ) → Graph → Type 0

@@ -17,6 +17,7 @@ use Rattle.bw_types.specs.Typing.{AreTyped}
 use Rattle.bw_flow.specs.Scopes.{kind_in}
 use Rattle.bw_flow.specs.Steps.{Act, sets, tests, goes_over, shows, exits, joins, Step}
 use Rattle.bw_flow.specs.TypedFlow.{names_at, HasKindAt, IsTypedAct}
+use Rattle.bw_flow.specs.Flows.{is_show}
 use Rattle.bw_flow.proofs.Names.{kind_in_is}
 use Rattle.bw_cover.specs.Abstracts as cover
 use Rattle.bw_cover.specs.Abstracts.{EachPair, EachFilling, IsNotLacked}
@@ -34,19 +35,19 @@ use Rattle.bw_analyse.specs.Facts as own
 use Rattle.bw_analyse.specs.Facts.{AreFacts, rows_of, shown_fact, page_of, summary_at}
 use Rattle.bw_analyse.specs.Fits.{Fits}
 use Rattle.bw_analyse.specs.GapFaults.{lacks, Misses, FillingMisses, term_of, gap_fault}
-use Rattle.bw_analyse.specs.KindLaws.{all_itself}
+use Rattle.bw_analyse.specs.Lawful.KindLaws.{all_itself}
 use Rattle.bw_analyse.specs.Known.{local_names, of_local, of_shared, look, known}
 use Rattle.bw_analyse.specs.Least.{flow_of}
 use Rattle.bw_analyse.specs.Rounds.{empty}
-use Rattle.bw_analyse.specs.StepLaws.{local_up, shared_up, expression_up}
+use Rattle.bw_analyse.specs.Lawful.StepLaws.{local_up, shared_up, expression_up}
 use Rattle.bw_sound.specs.Found.Laws.{HasNoGapFault, NoneIsListed, FactsSolve, FactsAreAccepted, FactsCoverWorlds}
-use Rattle.bw_sound.specs.Found.Seen.{seen, seen_some, scope_of, graph_of, cells_of, facts_of, known_of, is_show, ends, ends_at}
+use Rattle.bw_sound.specs.Found.Seen.{seen, seen_some, scope_of, graph_of, cells_of, facts_of, known_of, ends, ends_at}
 use Rattle.bw_sound.proofs.Found.Told.{f_fits, f_least, page_is}
 use Rattle.bw_sound.proofs.Found.Cells.{few, woven, typed_flow, row_fits, last_fits, known_at, cells_agree, cells_are_least}
-use Rattle.bw_sound.proofs.Found.Literals.{AllLiterals, ActLiterals, points_good}
+use Rattle.bw_check.proofs.Within.Named.{AreNamed, two_named, HasLiterals, ActLiterals, point_literals}
 use Rattle.bw_sound.proofs.Found.KindLaws.{of_kind, summary_seen, same_below, plug_fits}
 use Rattle.bw_sound.proofs.Found.Places.{show_placed}
-use Rattle.bw_sound.proofs.Found.Seen.{AreAmong, among_both, plugged_seen}
+use Rattle.bw_sound.proofs.Found.Seen.{plugged_seen}
 
 module _ (t : Typed) (facts : Facts) (h : AreFacts t.service facts) (never : HasNoGapFault t.service facts) where
   abbrev service : Service
@@ -82,7 +83,7 @@ module _ (t : Typed) (facts : Facts) (h : AreFacts t.service facts) (never : Has
         (of_kind service (kind_in x.scope w) (of_local x.scope (f p) w) kind (sym (kind_in_is x.scope w) ∙ e)
         (local_up x.scope (f p) (f p) w (all_itself _ (f p) (row_fits t h.few f (shown_fact facts) f (f_fits t facts h) p x at))))
 
-    is_known : (e : Term) (kind : Kind) → HasKindAt service x.scope e kind → AllLiterals service e
+    is_known : (e : Term) (kind : Kind) → HasKindAt service x.scope e kind → HasLiterals service e
         → seen service (known service names e) ≡ cover.known service (looked service F p) e
     is_known e kind k l =
         known_at t h.few f (shown_fact facts) f (f_fits t facts h) (cells_of service f) (cells_agree t h.few f (shown_fact facts) f) p x at e kind k l
@@ -101,7 +102,7 @@ module _ (t : Typed) (facts : Facts) (h : AreFacts t.service facts) (never : Has
     not_lacks (Html s) k b never = elim (cases_Bool (lacks (Html s) k)) [ inl e ↦ absurd (never e) | inr e ↦ e ]
 
     mutual
-      has_gaps : (e : Term) (kind : Kind) → HasKindAt service x.scope e kind → AllLiterals service e → ((w : List ℕ) → Misses service names e w → ⊥)
+      has_gaps : (e : Term) (kind : Kind) → HasKindAt service x.scope e kind → HasLiterals service e → ((w : List ℕ) → Misses service names e w → ⊥)
           → EachPair IsNotLacked service (looked service F p) e
       has_gaps (int z) kind k l never = tt
       has_gaps (truth b) kind k l never = tt
@@ -113,10 +114,10 @@ module _ (t : Typed) (facts : Facts) (h : AreFacts t.service facts) (never : Has
       has_gaps (neg e) kind k l never = has_gaps e kinds.Int k.0 l never
       has_gaps (call g e) kind k l never = has_gaps e (fun_takes g) k.0 l never
       has_gaps (binary op a b) kind k l never =
-          let parts = among_both (literals_of service) (term_strings a) (term_strings b) l in
+          let parts = two_named (literals_of service) (term_strings a) (term_strings b) l in
           (has_gaps a k.0 k.1 parts.0 (λ w m. never w (inl m)), has_gaps b k.0 k.2 parts.1 (λ w m. never w (inr m)))
       has_gaps (plug b ps) kind k l never =
-          let parts = among_both (literals_of service) (term_strings b) (filling_strings ps) l in (
+          let parts = two_named (literals_of service) (term_strings b) (filling_strings ps) l in (
             has_gaps b kinds.Html k.0 parts.0 (λ w m. never w (inl m)),
             have_gaps ps (known service names b) (cover.known service (looked service F p) b) (is_kind b kinds.Html k.0)
                 (is_known b kinds.Html k.0 parts.0) k.1 parts.1
@@ -124,11 +125,11 @@ module _ (t : Typed) (facts : Facts) (h : AreFacts t.service facts) (never : Has
           )
 
       have_gaps : (ps : Fillings) (v : Abstract) (u : cover.Abstract) → Fits kinds.Html v → seen service v ≡ u → AreTyped service (names_at x.scope) ps
-          → AreAmong (literals_of service) (filling_strings ps) → ((w : List ℕ) → FillingMisses service names ps v w → ⊥)
+          → AreNamed (literals_of service) (filling_strings ps) → ((w : List ℕ) → FillingMisses service names ps v w → ⊥)
           → EachFilling IsNotLacked service (looked service F p) ps u
       have_gaps no_more v u k e a l never = tt
       have_gaps (filling g e ps) v u k s a l never =
-          let parts = among_both (literals_of service) (term_strings e) (filling_strings ps) l in
+          let parts = two_named (literals_of service) (term_strings e) (filling_strings ps) l in
           let i = name_number service.gaps g in
           let one = known service names e in
           let fit = is_kind e a.0.1 a.0.3 in
@@ -157,7 +158,7 @@ module _ (t : Typed) (facts : Facts) (h : AreFacts t.service facts) (never : Has
     shown_is : (e : Term) → page_of x.act ≡ Some e → shown_fact facts p ≡ Some (own.summary_of (known service names e))
     shown_is e k = page_is t facts h p x at ∙ ap (summary_at service names) k
 
-    page_below : (e : Term) → page_of x.act ≡ Some e → HasKindAt service x.scope e kinds.Html → AllLiterals service e
+    page_below : (e : Term) → page_of x.act ≡ Some e → HasKindAt service x.scope e kinds.Html → HasLiterals service e
         → IsBelow (summary_of (cover.known service (looked service F p) e)) (F.shown p)
     page_below e k i l =
         same_below _ _ (ap summary_of (sym (is_known e kinds.Html i l)) ∙ summary_seen service (known service names e) (is_kind e kinds.Html i)
@@ -187,9 +188,9 @@ module _ (t : Typed) (facts : Facts) (h : AreFacts t.service facts) (never : Has
           kinds = locals_of p x at;
           leads = obeyed.0 p x at;
           gaps = act_gaps p x at x.act refl ((typed_flow t h.few f (shown_fact facts)).acts p x at)
-              (points_good service (woven t h.few f (shown_fact facts)) p x at);
+              (point_literals service (woven t h.few f (shown_fact facts)) p x at);
           shows = act_shows p x at x.act refl ((typed_flow t h.few f (shown_fact facts)).acts p x at)
-              (points_good service (woven t h.few f (shown_fact facts)) p x at);
+              (point_literals service (woven t h.few f (shown_fact facts)) p x at);
         };
       }
 

@@ -39,19 +39,20 @@ use Rattle.bw_analyse.specs.declared.abstracts.Abstract.{Abstract}
 use Rattle.bw_analyse.specs.declared.arrows.Arrow.{Arrow}
 use Rattle.bw_analyse.specs.Abstracts.{is_below, both, least_of}
 use Rattle.bw_analyse.specs.Fits.{Fits, AllFit, kinds_of, FitsCell}
-use Rattle.bw_analyse.specs.KindLaws.{AllUp, all_itself, all_up, least_fits, both_fits}
+use Rattle.bw_analyse.specs.Lawful.KindLaws.{AllUp, all_itself, all_up, least_fits, both_fits}
 use Rattle.bw_analyse.specs.Known.{local_names, of_local, of_shared, of_literal, constant_at, look, known}
 use Rattle.bw_analyse.specs.Least.{flow_of, rows, IsLeastSolution}
 use Rattle.bw_analyse.specs.Rounds.{left_at, left_by, added_by, next_local, next_shared, next_row, Placed, arrows_to, empty_row, empty, round}
 use Rattle.bw_analyse.specs.Rows.{each_below}
-use Rattle.bw_analyse.specs.StepLaws.{HasFew, TwoUp, OptionUp, expression_up, left_up, added_up, local_up, shared_up}
-use Rattle.bw_analyse.specs.SystemLaws.{get_below, behind_all, all_at, literal_up}
-use Rattle.bw_analyse.specs.TypedSystem.{few_of, typed_system}
+use Rattle.bw_analyse.specs.Lawful.StepLaws.{HasFew, TwoUp, OptionUp, expression_up, left_up, added_up, local_up, shared_up}
+use Rattle.bw_analyse.specs.Lawful.SystemLaws.{get_below, behind_all, all_at, literal_up}
+use Rattle.bw_analyse.specs.Lawful.TypedSystem.{few_of, typed_system}
 use Rattle.bw_sound.specs.Found.Seen.{seen, seen_some, scope_of, cells_of, facts_of}
 use Rattle.bw_sound.specs.Found.Laws.{LeastCellsAreLeast}
-use Rattle.bw_sound.proofs.Found.Literals.{AllLiterals, points_good, inits_good, each_at}
+use Rattle.bw_check.proofs.Within.Named.{HasLiterals, point_literals}
+use Rattle.bw_sound.proofs.Found.Literals.{first_is_literal}
 use Rattle.bw_sound.proofs.Found.Rounds.{OneFits, of_made, what_of, flow_seen}
-use Rattle.bw_sound.proofs.Found.Seen.{AreLiteral, known_seen, literal_seen, seen_both, seen_below, template_seen}
+use Rattle.bw_sound.proofs.Found.Seen.{known_seen, literal_seen, seen_both, seen_below, template_seen}
 use Rattle.bw_sound.proofs.Found.Shared.{one_literal}
 use Rattle.bw_sound.proofs.Found.Steps.{look_seen, left_seen, added_seen, shared_flow_seen}
 
@@ -139,7 +140,7 @@ module _ (t : Typed) (many : length (literals_of t.service) < 2 ^ 32) (base : �
       scope_at : (p : ℕ) (x : Step) → slice_get flow p ≡ Some x → (F c).scope p ≡ local_names x.scope
       scope_at p x e = ap (λ o. local_names (scope_of o)) e
 
-      pub known_at : (p : ℕ) (x : Step) → slice_get flow p ≡ Some x → (e : Term) (kind : Kind) → HasKindAt service x.scope e kind → AllLiterals service e
+      pub known_at : (p : ℕ) (x : Step) → slice_get flow p ≡ Some x → (e : Term) (kind : Kind) → HasKindAt service x.scope e kind → HasLiterals service e
           → seen service (known service (look service x.scope (g p) (g n)) e) ≡ cover.known service (facts.look service (F c) p) e
       known_at p x at e kind k l =
           known_seen service known_gaps (let f = few.gaps in omega arith) many (names_at x.scope) (look service x.scope (g p) (g n))
@@ -152,13 +153,13 @@ module _ (t : Typed) (many : length (literals_of t.service) < 2 ^ 32) (base : �
           → option_map (seen service) (left_by service x.scope (g p) (g n) b w x.act) ≡ facts.left service (F c) p (what_of x.act b) w
       left_is p x at w b =
           left_seen service (F c) p x.scope (g p) (g n) (scope_at p x at) (row_fits p x at) last_fits (λ w m. a.local p x w at m) a.shared template
-          (known_at p x at) w x.act b (typed_flow.acts p x at) (points_good service woven p x at)
+          (known_at p x at) w x.act b (typed_flow.acts p x at) (point_literals service woven p x at)
 
       added_is : (p : ℕ) (x : Step) → slice_get flow p ≡ Some x → (w : List ℕ) → facts.is_shared service w ≡ true → (b : Bool)
           → option_map (seen service) (added_by service x.scope (g p) (g n) w x.act) ≡ least.added service (F c) p (what_of x.act b) w
       added_is p x at w m b =
           added_seen service (F c) p x.scope (g p) (g n) (scope_at p x at) (row_fits p x at) last_fits (λ w m. a.local p x w at m) a.shared template
-          (known_at p x at) w m x.act b (typed_flow.acts p x at) (points_good service woven p x at)
+          (known_at p x at) w m x.act b (typed_flow.acts p x at) (point_literals service woven p x at)
 
       -- a local at a place
       local_joined : (q : ℕ) (y : Step) → slice_get flow q ≡ Some y → (i : ℕ) (l : Local) → slice_get y.scope i ≡ Some l
@@ -198,8 +199,7 @@ module _ (t : Typed) (many : length (literals_of t.service) < 2 ^ 32) (base : �
           (least_of v.kind)) =
           one_literal service woven typed_service j v s (seen service (least_of v.kind))
           ∙ ap (λ z. least.join z (seen service (least_of v.kind)))
-          (sym (literal_seen service known_gaps v.init (each_at (λ (u : Shared). AreLiteral (literals_of service) u.init) service.shared (inits_good
-          service woven) j v s)))
+          (sym (literal_seen service known_gaps v.init (first_is_literal service woven j v s)))
           ∙ seen_both service v.kind (of_literal service v.init) (least_of v.kind) literal (least_fits v.kind) in
           ap (joined_shared service (F c) edges v.name) first
           ∙ (shared_flow_seen service (F c) v.name v.kind (λ (x : Placed). added_by service x.step.scope (g x.place) (g n) v.name x.step.act) flow

@@ -19,8 +19,8 @@ use Rattle.bw_analyse.specs.declared.abstracts.Abstract.TheVariants.{Nothing, St
 use Rattle.bw_analyse.specs.Abstracts.{plugged_by}
 use Rattle.bw_analyse.specs.Facts as own
 use Rattle.bw_analyse.specs.Fits.{Fits}
-use Rattle.bw_analyse.specs.KindLaws.{up_itself, up_fill, up_plug}
-use Rattle.bw_analyse.specs.StepLaws.{OptionUp}
+use Rattle.bw_analyse.specs.Lawful.KindLaws.{up_itself, up_fill, up_plug}
+use Rattle.bw_analyse.specs.Lawful.StepLaws.{OptionUp}
 use Rattle.bw_sound.specs.Found.Seen.{seen, seen_some}
 
 -- ---- kinds

@@ -1,19 +1,19 @@
 -- Where the show of a number stands, and where an exit does.
-use Rattle.std.specs.Prelude.{◌≡◌, ◌⊎◌, ℕ, ◌<◌, ◌≤◌, ◌&&◌, nat_eq, Bool, true, false, List, length, get_or, slice_get, Option, Some, None}
+use Rattle.std.specs.Prelude.{◌≡◌, ◌⊎◌, ℕ, ◌<◌, ◌≤◌, ◌&&◌, nat_eq, Bool, true, List, length, get_or, slice_get, Option, Some, None}
 use Rattle.std.proofs.Common.{refl, sym, ap, ◌∙◌, inl, inr, arith}
 use Rattle.std.specs.List.{position_or_len}
-use Rattle.std.proofs.lemmas.Bool.{false≢true, cases_lt}
+use Rattle.std.proofs.lemmas.Bool.{and_parts, false≢true, cases_lt}
 use Rattle.std.proofs.lemmas.Bool.Decides.{nat_tests}
 use Rattle.std.proofs.lemmas.List.Sums.{fails_before_first, passes_at_first}
 use Rattle.std.proofs.lemmas.Option.{get_or_from_slice_get, slice_get_within, slice_get-get_or}
 use Rattle.bw_flow.specs.declared.point.Received.{Received}
-use Rattle.bw_flow.specs.Flows.{is_join}
+use Rattle.bw_flow.specs.Flows.{is_join, is_show}
 use Rattle.bw_flow.specs.Steps.{Act, sets, tests, goes_over, shows, exits, joins, Step}
-use Rattle.bw_flow.proofs.Numbered.{all_have_numbers}
+use Rattle.bw_flow.proofs.Numbered.{no_join, all_have_numbers}
 use Rattle.bw_lang.specs.declared.service.Service.{Service}
 use Rattle.bw_lang.specs.Service.Term.{Term}
 use Rattle.bw_analyse.specs.Least.{flow_of}
-use Rattle.bw_sound.specs.Found.Seen.{is_show, is_show_of, place_of, ends, ends_at}
+use Rattle.bw_sound.specs.Found.Seen.{is_show_of, place_of, ends, ends_at}
 
 -- ---- the first place
 
@@ -37,10 +37,6 @@ pub record ShowsAt (service : Service) (k p : ℕ) : Type 0 where
   pub acts : step.act ≡ shows term received
   pub number : step.number ≡ k
 
-both : (a b : Bool) → (a && b) ≡ true → (a ≡ true) × (b ≡ true)
-both true b e = (refl, e)
-both false b e = absurd (false≢true e)
-
 same_number : (a b : ℕ) → nat_eq a b ≡ true → a ≡ b
 same_number a b e = grind (arith, nat_tests)
 
@@ -55,7 +51,7 @@ by_act service k p x joins at is h n = absurd (false≢true h)
 
 by_step : (service : Service) (k p : ℕ) (x : Step) → slice_get (flow_of service) p ≡ Some x → is_show_of k x ≡ true → ShowsAt service k p
 by_step service k p x at h =
-    let parts = both (nat_eq x.number k) (is_show x.act) h in by_act service k p x x.act at refl parts.1 (same_number x.number k parts.0)
+    let parts = and_parts (nat_eq x.number k) (is_show x.act) h in by_act service k p x x.act at refl parts.1 (same_number x.number k parts.0)
 
 -- where some point stands at the place of a number, the show of that number does
 pub show_found : (service : Service) (k : ℕ) (x : Step) → slice_get (flow_of service) (place_of service k) ≡ Some x → ShowsAt service k (place_of service k)
@@ -64,14 +60,6 @@ show_found service k x at =
     let p = place_of service k in
     let l = slice_get_within flow p x at in
     by_step service k p (get_or flow p x) (slice_get-get_or flow p x l) (passes_at_first (is_show_of k) flow x l)
-
-no_join : (a : Act) → is_show a ≡ true → is_join a ≡ false
-no_join (shows e rs) h = refl
-no_join (sets v e) h = absurd (false≢true h)
-no_join (tests e) h = absurd (false≢true h)
-no_join (goes_over v e) h = absurd (false≢true h)
-no_join (exits e) h = absurd (false≢true h)
-no_join joins h = absurd (false≢true h)
 
 is_itself : (k : ℕ) → nat_eq k k ≡ true
 is_itself k = grind (arith, nat_tests)

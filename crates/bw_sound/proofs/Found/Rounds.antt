@@ -8,7 +8,7 @@ use Rattle.bw_lang.specs.declared.service.Shared.{Shared}
 use Rattle.bw_lang.specs.declared.stmt.Kind.{Kind}
 use Rattle.bw_lang.specs.Table.Names.{same}
 use Rattle.bw_types.specs.Scopes.{is_among}
-use Rattle.bw_types.proofs.Seek.{same_is}
+use Rattle.bw_lang.proofs.SameNames.{same_is}
 use Rattle.bw_flow.specs.declared.point.Local.{Local}
 use Rattle.bw_flow.specs.Places.{Among, HasNexts}
 use Rattle.bw_flow.specs.Steps.{Act, sets, tests, goes_over, shows, exits, joins, Step}
@@ -21,7 +21,7 @@ use Rattle.bw_cover.specs.Least.{join_if, joined_local, joined_shared}
 use Rattle.bw_analyse.specs.declared.abstracts.Abstract.{Abstract}
 use Rattle.bw_analyse.specs.declared.arrows.Arrow.{Arrow}
 use Rattle.bw_analyse.specs.Fits.{Fits, AllFit}
-use Rattle.bw_analyse.specs.KindLaws.{both_fits}
+use Rattle.bw_analyse.specs.Lawful.KindLaws.{both_fits}
 use Rattle.bw_analyse.specs.Known.{local_names, shared_names, of_name, of_local, of_shared}
 use Rattle.bw_analyse.specs.Rounds.{arrows_from, arrows_to, join_some, joined}
 use Rattle.bw_sound.specs.Found.Seen.{seen}

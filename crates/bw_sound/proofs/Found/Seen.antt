@@ -1,10 +1,9 @@
 -- What is known, by its members: each operation on it is that of the laws of covering.
-use Rattle.std.specs.Prelude.{◌≡◌, ℕ, suc, ◌+◌, ◌<◌, ◌||◌, Bool, true, false, not, cond, if◌then◌else◌, List, [], ◌∷◌, ◌++◌, map, length}
+use Rattle.std.specs.Prelude.{◌≡◌, ℕ, suc, ◌+◌, ◌<◌, ◌||◌, Bool, true, false, not, cond, if◌then◌else◌, List, [], ◌∷◌, map, length}
 use Rattle.std.specs.Prelude.{nat_lt, position, ◌^◌, Some, None}
 use Rattle.std.proofs.Common.{refl, sym, ap, ◌∙◌, ◌⊎◌, ◌≤◌, subst, inl, inr, arith}
-use Rattle.std.specs.List.{AllByRecursion, position_or_len}
-use Rattle.std.proofs.lemmas.Bool.{cases_Bool, ltb-true, ltb-false}
-use Rattle.std.proofs.lemmas.Bool.Decides.{nat_tests}
+use Rattle.std.specs.List.{position_or_len}
+use Rattle.std.proofs.lemmas.Bool.{cases_Bool, le-ltb, lt-ltb, ltb-true, ltb-false}
 use Rattle.bw_lang.specs.declared.expr.Fun.{Fun}
 use Rattle.bw_lang.specs.declared.expr.Fun.TheVariants as funs
 use Rattle.bw_lang.specs.declared.expr.Op.{Op}
@@ -31,9 +30,9 @@ use Rattle.bw_types.specs.Scopes.{Scope, is_among, name_kind, template_names, te
 use Rattle.bw_types.specs.declared.fault.GapKind.{GapKind}
 use Rattle.bw_types.specs.declared.fault.GapKind.TheVariants.{Content, Attribute}
 use Rattle.bw_types.specs.Typing.{Fits as TakesKind, HasKind, AreTyped}
-use Rattle.bw_types.proofs.Seek.{same_is}
+use Rattle.bw_lang.proofs.SameNames.{same_is}
 use Rattle.bw_sum.specs.Constants.{constant_of}
-use Rattle.bw_analyse.specs.KnownLaws.{known_up, pair_up}
+use Rattle.bw_analyse.specs.Lawful.KnownLaws.{known_up, pair_up}
 use Rattle.bw_cover.specs.Abstracts as cover
 use Rattle.bw_cover.specs.Facts as facts
 use Rattle.bw_cover.specs.Least as least
@@ -41,9 +40,10 @@ use Rattle.bw_analyse.specs.declared.abstracts.Abstract.{Abstract}
 use Rattle.bw_analyse.specs.declared.abstracts.Abstract.TheVariants.{Nothing, Str, Html}
 use Rattle.bw_analyse.specs.Abstracts.{is_below, both, plugged_by}
 use Rattle.bw_analyse.specs.Fits.{Fits}
-use Rattle.bw_analyse.specs.KindLaws.{Up, up_itself, fits_alike}
+use Rattle.bw_analyse.specs.Lawful.KindLaws.{Up, up_itself, fits_alike}
 use Rattle.bw_analyse.specs.Known as list
 use Rattle.bw_analyse.specs.Known.{any, one_string, constant_at, summed_by, combined_by, called_by, known, known_filled}
+use Rattle.bw_check.proofs.Within.Named.{IsNamed, AreNamed, two_named}
 use Rattle.bw_sound.specs.Found.Seen.{seen}
 use Rattle.std.proofs.Math.Bool.{or-false}
 
@@ -58,19 +58,12 @@ same_graph G H s = λ i. record {
   lack = λ g. s.lack g i;
 }
 
--- these strings are among the literals
-abbrev pub AreAmong : List (List ℕ) → List (List ℕ) → Type 0
-AreAmong L strings = AllByRecursion (λ s. name_number L s < length L) strings
-
+-- the literal is no string, or one of these
 abbrev pub AreLiteral : List (List ℕ) → Literal → Type 0
-AreLiteral L (literals.Str s) = name_number L s < length L
+AreLiteral L (literals.Str s) = IsNamed L s
 AreLiteral L (literals.Int n) = Unit {0}
 AreLiteral L (literals.Bool b) = Unit {0}
 AreLiteral L (literals.Tmpl w) = Unit {0}
-
-pub among_both : (L xs ys : List (List ℕ)) → AreAmong L (xs ++ ys) → AreAmong L xs × AreAmong L ys
-among_both L [] ys h = (tt, h)
-among_both L (x ∷ xs) ys h = let r = among_both L xs ys h.1 in ((h.0, r.0), r.1)
 
 -- the literal of the number of a string that is there is that string
 text_is : (L : List (List ℕ)) (s : List ℕ) → name_number L s < length L → text_of L (name_number L s) ≡ s
@@ -86,18 +79,12 @@ text_is (x ∷ xs) s h = by_test (same s x) refl h (text_is xs s)
     by_test false t h ih = one_more (name_number xs s) ∙ ih (omega arith)
 
 -- the place of a template by its name
-pub nat_below : (m n : ℕ) → m < n → nat_lt m n ≡ true
-nat_below m n h = grind (arith, nat_tests)
-
-nat_above : (m n : ℕ) → n ≤ m → nat_lt m n ≡ false
-nat_above m n h = grind (arith, nat_tests)
-
 one_less : (m n : ℕ) → nat_lt (1 + m) (suc n) ≡ nat_lt m n
 one_less m n = by_test (cases_Bool (nat_lt m n))
   where
     by_test : (nat_lt m n ≡ true) ⊎ (nat_lt m n ≡ false) → nat_lt (1 + m) (suc n) ≡ nat_lt m n
-    by_test (inl e) = nat_below (1 + m) (suc n) (let l : m < n = ltb-true m n e in omega arith) ∙ sym e
-    by_test (inr e) = nat_above (1 + m) (suc n) (let l : n ≤ m = ltb-false m n e in omega arith) ∙ sym e
+    by_test (inl e) = lt-ltb (1 + m) (suc n) (let l : m < n = ltb-true m n e in omega arith) ∙ sym e
+    by_test (inr e) = le-ltb (1 + m) (suc n) (let l : n ≤ m = ltb-false m n e in omega arith) ∙ sym e
 
 place_is : (w : List ℕ) (ts : List Template)
     → position (λ (t : Template). same w t.name) ts ≡ (if is_among w (map (λ (t : Template). t.name) ts) then Some (name_number (map (λ (t : Template). t.name)
@@ -117,7 +104,7 @@ place_is w ts = (λ i. cond (nat_lt (place_map w ts i) (length ts)) (Some (place
         by_test : (b : Bool) → nat_lt (name_number (map (λ (t : Template). t.name) ts) w) (length ts) ≡ is_among w (map (λ (t : Template). t.name) ts)
             → nat_lt (cond (not b) (1 + name_number (map (λ (t : Template). t.name) ts) w) 0)
             (length (t ∷ ts)) ≡ (b || is_among w (map (λ (t : Template). t.name) ts))
-        by_test true h = nat_below 0 (length (t ∷ ts)) (omega arith)
+        by_test true h = lt-ltb 0 (length (t ∷ ts)) (omega arith)
         by_test false h = one_less (name_number (map (λ (t : Template). t.name) ts) w) (length ts) ∙ h
 
 module _ (service : Service) where
@@ -242,7 +229,7 @@ module _ (service : Service) where
       fits e kind h = (known_up service few many scope m m kinded e kind h).0
 
       mutual
-        pub known_seen : (e : Term) (kind : Kind) → HasKind service scope e kind → AreAmong L (term_strings e)
+        pub known_seen : (e : Term) (kind : Kind) → HasKind service scope e kind → AreNamed L (term_strings e)
             → seen service (known service m e) ≡ cover.known service n e
         known_seen (int z) kind h a = refl
         known_seen (truth b) kind h a = refl
@@ -254,16 +241,16 @@ module _ (service : Service) where
         known_seen (neg e) kind h a = refl
         known_seen (call f e) kind h a = called_seen f
         known_seen (binary op l r) kind h a =
-            combined_seen op (known service m l) ∙ ap (cover.combined_by op) (known_seen l h.0 h.1 (among_both L (term_strings l) (term_strings r) a).0)
+            combined_seen op (known service m l) ∙ ap (cover.combined_by op) (known_seen l h.0 h.1 (two_named L (term_strings l) (term_strings r) a).0)
         known_seen (plug b ps) kind h a =
-            let both_ = among_both L (term_strings b) (filling_strings ps) a in
+            let both_ = two_named L (term_strings b) (filling_strings ps) a in
             filled_seen ps (known service m b) (cover.known service n b) (fits b kinds.Html h.0) (known_seen b kinds.Html h.0 both_.0) h.1 both_.1
 
         filled_seen : (ps : Fillings) (v : Abstract) (u : cover.Abstract) → Fits kinds.Html v → seen service v ≡ u → AreTyped service scope ps
-            → AreAmong L (filling_strings ps) → seen service (known_filled service m ps v) ≡ cover.known_filled service n ps u
+            → AreNamed L (filling_strings ps) → seen service (known_filled service m ps v) ≡ cover.known_filled service n ps u
         filled_seen no_more v u k e t a = e
         filled_seen (filling w x ps) v u k e t a =
-            let both_ = among_both L (term_strings x) (filling_strings ps) a in
+            let both_ = two_named L (term_strings x) (filling_strings ps) a in
             let g = name_number service.gaps w in
             let one = known_seen x t.0.1 t.0.3 both_.0 in
             filled_seen ps (plugged_by v g (known service m x)) (cover.plugged_by u g (cover.known service n x))

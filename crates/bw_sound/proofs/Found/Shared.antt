@@ -13,11 +13,10 @@ use Rattle.bw_lang.specs.Service.Order.{declarations_of, IsWoven}
 use Rattle.bw_lang.specs.Service.Sorted.{shared_of}
 use Rattle.bw_types.specs.Scopes.{is_among, name_of}
 use Rattle.bw_types.specs.Typing.{IsTypedService}
-use Rattle.bw_types.proofs.Seek.{same_is}
+use Rattle.bw_lang.proofs.SameNames.{same_is, same_self}
 use Rattle.bw_cover.specs.Abstracts.{Abstract}
 use Rattle.bw_cover.specs.Facts.{literal_known}
 use Rattle.bw_cover.specs.Least.{join, join_if, joined_literals}
-use Rattle.bw_cover.proofs.Names.{same_self}
 use Rattle.bw_flow.proofs.Names.{head_differs, tail_pairs}
 
 abbrev names : List Shared → List (List ℕ)

@@ -11,7 +11,7 @@ use Rattle.bw_lang.specs.declared.stmt.Receive.{Receive}
 use Rattle.bw_lang.specs.Table.Names.{same}
 use Rattle.bw_lang.specs.Service.Term.{Term}
 use Rattle.bw_types.specs.Scopes.{is_among, template_of}
-use Rattle.bw_types.proofs.Seek.{same_is}
+use Rattle.bw_lang.proofs.SameNames.{same_is}
 use Rattle.bw_flow.specs.declared.point.Local.{Local}
 use Rattle.bw_flow.specs.declared.point.Received.{Received}
 use Rattle.bw_flow.specs.Places.{HasNexts}
@@ -29,7 +29,7 @@ use Rattle.bw_analyse.specs.Fits.{Fits, AllFit}
 use Rattle.bw_analyse.specs.Known.{any, local_names, of_local, of_shared, constant_at, look, known}
 use Rattle.bw_analyse.specs.Rounds.{received_by, receives, left_by, is_local, added_by, join_some, joined, Placed, placed}
 use Rattle.bw_sound.specs.Found.Seen.{seen, seen_some}
-use Rattle.bw_sound.proofs.Found.Literals.{AllLiterals, ActLiterals}
+use Rattle.bw_check.proofs.Within.Named.{HasLiterals, ActLiterals}
 use Rattle.bw_sound.proofs.Found.Rounds.{locals_there, variables_there, OneFits, what_of, joined_one, shared_append}
 
 among_is : (scope : List Local) (w : List ℕ) → is_among w (local_names scope) ≡ is_local scope w
@@ -105,7 +105,7 @@ module _ (service : Service) where
         ∙ ap (λ names. if is_among w names then f.local p w else if facts.is_shared service w then f.shared w else facts.template_known service w)
         (sym scope_is)
 
-    module _ (known_is : (e : Term) (kind : Kind) → HasKindAt service scope e kind → AllLiterals service e
+    module _ (known_is : (e : Term) (kind : Kind) → HasKindAt service scope e kind → HasLiterals service e
         → seen service (known service (look service scope row shared) e) ≡ cover.known service (facts.look service f p) e) where
       pub left_seen : (w : List ℕ) (act : Act) (b : Bool) → IsTypedAct service scope act → ActLiterals service act
           → option_map (seen service) (left_by service scope row shared b w act) ≡ facts.left service f p (what_of act b) w

@@ -3,6 +3,7 @@ use Rattle.std.specs.Prelude.{ℕ, Bool, true, false, ◌&&◌, nat_eq, List, []
 use Rattle.std.specs.List.{position_or_len}
 use Rattle.bw_lang.specs.declared.service.Service.{Service}
 use Rattle.bw_flow.specs.declared.point.Local.{Local}
+use Rattle.bw_flow.specs.Flows.{is_show}
 use Rattle.bw_flow.specs.Steps.{Act, sets, tests, goes_over, shows, exits, joins, Step}
 use Rattle.bw_strings.specs.Asking.{has_string}
 use Rattle.bw_strings.specs.Literals.{literals_of}
@@ -59,15 +60,6 @@ ends joins = false
 abbrev pub ends_at : Option Step → Bool
 ends_at None = false
 ends_at (Some x) = ends x.act
-
--- whether a point is a show
-abbrev pub is_show : Act → Bool
-is_show (shows e rs) = true
-is_show (sets v e) = false
-is_show (tests e) = false
-is_show (goes_over v e) = false
-is_show (exits e) = false
-is_show joins = false
 
 -- whether it is the show of this number
 abbrev pub is_show_of : ℕ → Step → Bool

@@ -11,17 +11,17 @@ use Rattle.bw_check.proofs.Pages.{page_listed}
 use Rattle.bw_check.proofs.bench.judge_outline.Goals as goal
 
 pub judge_received-requires-clause-page : goal.judge_received-requires-clause-page
-judge_received-requires-clause-page c = subst (IsPageGraph c.args.bench.typed.now.service) c.requires.graph c.requires.known
+judge_received-requires-clause-page c = subst (IsPageGraph c.args.bench.basis.now.typed.now.service) c.requires.graph c.requires.known
 
 pub judge_received-requires-clause-shape : goal.judge_received-requires-clause-shape
 judge_received-requires-clause-shape c =
-    subst (λ page. IsShape c.args.bench.typed.now.service page c.args.bench.schema.now c.args.outline.now) c.requires.graph c.requires.shape
+    subst (λ page. IsShape c.args.bench.basis.now.typed.now.service page c.args.bench.basis.now.schema.now c.args.outline.now) c.requires.graph c.requires.shape
 
 pub returns-in-Ok : goal.returns-in-Ok
 returns-in-Ok c =
-    let s = c.args.bench.typed.now.service in
+    let s = c.args.bench.basis.now.typed.now.service in
     let facts = c.args.bench.facts.now in
-    let schema = c.args.bench.schema.now in
+    let schema = c.args.bench.basis.now.schema.now in
     let elements =
     subst (λ page. Lists (IsFault (template_items s) (graph (literals_of s) page) (root_of page) schema c.args.point.now.number) c.in-Ok.elements)
     c.requires.graph c.in-Ok.ensures.exact in

@@ -4,5 +4,5 @@ use Rattle.bw_check.proofs.bench.judge_page.Goals as goal
 
 pub judge_graph-faults-requires-clause-known : goal.judge_graph-faults-requires-clause-known
 judge_graph-faults-requires-clause-known c =
-    subst (IsPageGraph c.args.bench.typed.now.service) (sym c.in_ok-page.ensures)
+    subst (IsPageGraph c.args.bench.basis.now.typed.now.service) (sym c.in_ok-page.ensures)
     (c.pages_are_graphs.ensures c.args.bench.facts.now c.args.place c.requires.facts c.requires.page)

@@ -14,12 +14,12 @@ judge_fields-requires c = c.received_have_numbers.ensures c.args.place (seen c.a
 
 pub returns-in-Show : goal.returns-in-Show
 returns-in-Show c =
-    let s = c.args.bench.typed.now.service in
+    let s = c.args.bench.basis.now.typed.now.service in
     let facts = c.args.bench.facts.now in
     let p = c.args.place in
     let root = show_root s facts p (seen c.args.point.now) _ _ c.requires.point (ap act c.in-Show.is) c.requires.page in
     if_ok c.judge_fields.result (λ l h.
     subst (λ rs. Lists (IsFieldFault (template_items s) (page_at s facts p) (length s.templates) s c.args.point.now.number rs) l)
     (sym (ap (λ w. received_at (act w)) c.in-Show.is))
-    (h (page_graph s facts p) c.args.bench.schema.now (c.requires.page, root, c.requires.shape)))
+    (h (page_graph s facts p) c.args.bench.basis.now.schema.now (c.requires.page, root, c.requires.shape)))
     c.judge_fields.ensures.exact

@@ -20,7 +20,7 @@ pub map_chunks-requires-clause-accepts : goal.map_chunks-requires-clause-accepts
 map_chunks-requires-clause-accepts g c κs within = λ start p chunk. (
   c.requires.facts,
   (
-    all_of_chunk (HasPage c.args.bench.typed.now.service) c.args.pieces.now c.dealt-size.result start p.now chunk c.requires.pages,
+    all_of_chunk (HasPage c.args.bench.basis.now.typed.now.service) c.args.pieces.now c.dealt-size.result start p.now chunk c.requires.pages,
     record { shared = c.type_bounds.sync-P.shared },
   ),
 )
@@ -28,7 +28,7 @@ map_chunks-requires-clause-accepts g c κs within = λ start p chunk. (
 pub loop-list-init : goal.loop-list-init
 loop-list-init g c = record {
   joined =
-      of_no_chunk (IsPageFault c.args.bench.typed.now.service c.args.bench.schema.now c.args.bench.facts.now)
+      of_no_chunk (IsPageFault c.args.bench.basis.now.typed.now.service c.args.bench.basis.now.schema.now c.args.bench.facts.now)
       c.args.pieces.now c.dealt-size.result c.new-faults.result c.new-faults.ensures;
   count = omega arith;
   parts = refl;
@@ -36,7 +36,7 @@ loop-list-init g c = record {
 
 pub loop-list-preserved : goal.loop-list-preserved
 loop-list-preserved g c =
-    let P = IsPageFault c.args.bench.typed.now.service c.args.bench.schema.now c.args.bench.facts.now in
+    let P = IsPageFault c.args.bench.basis.now.typed.now.service c.args.bench.basis.now.schema.now c.args.bench.facts.now in
     let xs = c.loop-list.yielded in
     let parts = c.loop-list.invariant.parts ∙ ap (λ l. xs ++ l) c.in-Some.ensures.steps.0 in
     let here = in_turn xs c.in-Some.list c.next.new.self.rest.items _ (sym c.into_iter-list-iterator.ensures.into_iter_gives.0 ∙ parts) c.in-Some.list in
@@ -54,5 +54,6 @@ pub returns : goal.returns
 returns g c =
     let all : length c.loop-list.yielded ≡ vec_len c.in_ok-lists.lists =
     omega (arith, c.loop-list.invariant.count, c.in-None.ensures.steps.0, c.into_iter-list-iterator.ensures.into_iter_gives.1) in
-    of_chunks (IsPageFault c.args.bench.typed.now.service c.args.bench.schema.now c.args.bench.facts.now) c.args.pieces.now c.dealt-size.result
+    of_chunks (IsPageFault c.args.bench.basis.now.typed.now.service c.args.bench.basis.now.schema.now c.args.bench.facts.now)
+    c.args.pieces.now c.dealt-size.result
     (length c.loop-list.yielded) c.loop-list.faults c.dealt-size.ensures.some (all ∙ c.in_ok-lists.ensures.len) c.loop-list.invariant.joined

@@ -5,7 +5,8 @@ use Rattle.bw_check.proofs.pieces.judge_pieces.Given as goal
 
 abbrev pub invariant-loop-list : goal.invariant-loop-list
 invariant-loop-list g l = record {
-  joined : Lists (IsFaultOfSome l.fn.bench.typed.now.service l.fn.bench.schema.now l.fn.bench.facts.now (take (length l.yielded * l.size) l.pieces)) l.faults;
+  joined : Lists
+      (IsFaultOfSome l.fn.bench.basis.now.typed.now.service l.fn.bench.basis.now.schema.now l.fn.bench.facts.now (take (length l.yielded * l.size) l.pieces)) l.faults;
   count : length l.yielded + l.list-iterator.rest.len ≡ l.initial.list-iterator.rest.len;
   parts : l.initial.list-iterator.rest.items ≡ l.yielded ++ l.list-iterator.rest.items;
 }

@@ -4,4 +4,5 @@ use Rattle.bw_judge.specs.Content.{OfContent}
 use Rattle.bw_judge.proofs.content.judge_columns.Given as goal
 
 abbrev pub invariant-loop-number : goal.invariant-loop-number
-invariant-loop-number l = Adds (OfContent l.spot l.has l.text l.tags (flag l.given) l.number) l.fn.faults l.faults
+invariant-loop-number l =
+    Adds (OfContent l.allowed.spot l.allowed.has.now l.allowed.text l.allowed.tags.now (flag l.given) l.number) l.fn.faults l.faults

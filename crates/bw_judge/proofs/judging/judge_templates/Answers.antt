@@ -9,6 +9,7 @@ loop-n-preserved c =
     let xs = c.args.order.now in
     let i = c.loop-n.n-index in
     let x = get_or xs i 0 in
-    adds_more (OfOutline c.args.templates.now c.args.literals.now c.args.outline.now c.args.schema.now c.args.point) xs i x c.args.faults.now
+    adds_more (OfOutline c.args.basis.now.templates.now c.args.basis.now.literals.now c.args.outline.now
+    c.args.basis.now.schema.now c.args.point) xs i x c.args.faults.now
     c.loop-n.faults c.judge_template.new.faults (get_or_default xs i 0 x c.loop-n-test.true) c.loop-n-test.true c.loop-n.invariant
     c.in_ok-judge_template.ensures

@@ -5,4 +5,4 @@ use Rattle.bw_judge.proofs.judging.judge_templates.Given as goal
 
 abbrev pub invariant-loop-n : goal.invariant-loop-n
 invariant-loop-n l =
-    Adds (OfSome (OfOutline l.templates l.literals l.outline l.schema l.point) (take l.n-index l.order)) l.initial.faults l.faults
+    Adds (OfSome (OfOutline l.basis.templates.now l.basis.literals.now l.outline l.basis.schema.now l.point) (take l.n-index l.order)) l.initial.faults l.faults

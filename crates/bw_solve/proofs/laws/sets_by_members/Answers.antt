@@ -1,4 +1,4 @@
-use Rattle.bw_solve.specs.SetLaws.{has_within, within_by, merge_has}
+use Rattle.bw_solve.specs.Lawful.SetLaws.{has_within, within_by, merge_has}
 use Rattle.bw_solve.proofs.laws.sets_by_members.Goals as goal
 
 pub returns : goal.returns

@@ -9,9 +9,9 @@ use Rattle.bw_solve.proofs.Sums.{added_same, added_at, work_falls, moved_total, 
 use Rattle.bw_solve.specs.System.{family, members, IsLeast}
 use Rattle.bw_solve.proofs.Flags.{waits_few}
 use Rattle.bw_solve.proofs.Faults.{cause_by_round, passed_more}
-use Rattle.bw_solve.proofs.Change.{set_partial, set_closed, set_closed_here, set_members, set_size, set_gaps, members_reached, members_above}
+use Rattle.bw_solve.proofs.Change.{Put, put, members_reached, members_above}
 use Rattle.bw_solve.proofs.solver.solve.Goals as goal
-use Rattle.bw_solve.proofs.solver.solve.Goals.{In-Some, In_ok-value, After-index, In_default}
+use Rattle.bw_solve.proofs.solver.solve.Goals.{In-Some, In_ok-value, After-index, After-size-in-Some, In_default}
 use Rattle.bw_solve.proofs.solver.solve.Given.{Over}
 
 two_steps : (a b c : ℕ) → a ≤ b → b ≤ c → a ≤ c
@@ -42,6 +42,32 @@ old_is : (g : Over) (c : After-index g) → c.in-Some.cell < g.S.System.cells c.
 old_is g c h =
     let lt : c.in-Some.cell < length c.loop-cell.values.items = omega arith in
     get_or_read c.loop-cell.values.items c.in-Some.cell c.index.result.now lt c.index.ensures (g.S.System.empty c.args.system.now c.in-Some.cell)
+
+-- ---- where a cell gets the value that its transfer gives
+
+put_here : (g : Over) (c : In_ok-value g) → c.in-Some.cell < g.S.System.cells c.args.system.now
+    → Put g.met.S.Value.Lattice.laws (g.met.S.System.laws c.args.system.now) c.loop-cell.values.items c.in-Some.cell c.in_ok-value.value
+put_here g c in_range =
+    put g.met.S.Value.Lattice.laws (g.met.S.System.laws c.args.system.now) c.loop-cell.values.items c.in-Some.cell c.in_ok-value.value (omega arith) in_range
+    c.loop-cell.invariant.partial (value_is g c)
+
+-- the size of the old value is counted with the others
+old_within : (g : Over) (c : In_ok-value g) → c.in-Some.cell < g.S.System.cells c.args.system.now
+    → let f : ℕ → g.row.S-Value.Denot = family (g.S.System.empty c.args.system.now) c.loop-cell.values.items in
+    g.S.Value.Lattice.size (f c.in-Some.cell) ≤ members g.S.Value.Lattice.size f (g.S.System.cells c.args.system.now)
+old_within g c in_range =
+    added_at (λ d. g.S.Value.Lattice.size (family (g.S.System.empty c.args.system.now) c.loop-cell.values.items d)) (g.S.System.cells c.args.system.now)
+    c.in-Some.cell in_range
+
+-- what the size of the old value was counted as
+old_counted : (g : Over) (c : After-size-in-Some g) → c.in-Some.cell < g.S.System.cells c.args.system.now
+    → let old = family (g.S.System.empty c.args.system.now) c.loop-cell.values.items c.in-Some.cell in
+    c.size-in-Some.result ≡ min (g.S.Value.Lattice.size old) 18446744073709551615
+old_counted g c in_range =
+    let in_list : c.in-Some.cell < length c.loop-cell.values.items = omega arith in
+    c.size-in-Some.ensures ∙ ap (λ v. min (g.S.Value.Lattice.size v) 18446744073709551615)
+    (get_or_read c.loop-cell.values.items c.in-Some.cell c.index-in-Some.result.now in_list c.index-in-Some.ensures
+    (g.S.System.empty c.args.system.now c.in-Some.cell))
 
 pub index_mut-requires : goal.index_mut-requires
 index_mut-requires g c = omega (arith, cell_in_range g (goal.at.index_mut-requires g c).In-Some)
@@ -94,20 +120,8 @@ loop-cell-preserved-then-below g c =
 pub overflow_sub-size : goal.overflow_sub-size
 overflow_sub-size g c =
     let a = goal.at.overflow_sub-size g c in
-    let sys = g.met.S.System.laws c.args.system.now in
     let h = cell_in_range g a.In-Some in
-    let cell = c.in-Some.cell in
-    let f : ℕ → g.row.S-Value.Denot = family (g.S.System.empty c.args.system.now) c.loop-cell.values.items in
-    let p = c.loop-cell.invariant.partial in
-    let lt : cell < length c.loop-cell.values.items = omega arith in
-    let old = get_or_read c.loop-cell.values.items cell c.index-in-Some.result.now lt c.index-in-Some.ensures (g.S.System.empty c.args.system.now cell) in
-    let new = value_is g a.In_ok-value in
-    let rises : g.S.Value.Lattice.below (f cell) c.in_ok-value.value ≡ true = subst (λ w. g.S.Value.Lattice.below (f cell) w ≡ true) (sym new)
-    (p.rising cell h) in
-    let grows = g.met.S.Value.Lattice.laws.size_grows (f cell) c.in_ok-value.value
-    (sys.fits_alike cell (f cell) c.in_ok-value.value h (p.fitting cell h) (value_fits g a.In_ok-value h)) rises in
-    let e = ap g.S.Value.Lattice.size old in
-    min_grows _ _ c.size-in-Some.result c.size.result _ (c.size-in-Some.ensures ∙ ap (λ n. min n 18446744073709551615) e) c.size.ensures grows
+    min_grows _ _ c.size-in-Some.result c.size.result _ (old_counted g a.After-size-in-Some h) c.size.ensures (put_here g a.In_ok-value h).size_grows
 
 pub returns-in_err-total-clause-causes : goal.returns-in_err-total-clause-causes
 returns-in_err-total-clause-causes g c =
@@ -140,80 +154,53 @@ loop-cell-init g c =
 pub returns-in_err-total-2-clause-causes : goal.returns-in_err-total-2-clause-causes
 returns-in_err-total-2-clause-causes g c =
     let a = goal.at.returns-in_err-total-2-clause-causes g c in
+    let v = a.In_ok-value in
     let p = err_from_is_err_and c.from_residual-in_err-total-2.result c.from_residual-in_err-total-2.ensures.1 in
-    let L = g.met.S.Value.Lattice.laws in
-    let sys = g.met.S.System.laws c.args.system.now in
     let h = cell_in_range g a.In-Some in
-    let cell = c.in-Some.cell in
-    let size = g.S.Value.Lattice.size in
-    let cells = g.S.System.cells c.args.system.now in
-    let empty = g.S.System.empty c.args.system.now in
-    let lt : cell < length c.loop-cell.values.items = omega arith in
-    let new = value_is g a.In_ok-value in
-    let old = ap size (get_or_read c.loop-cell.values.items cell c.index-in-Some.result.now lt c.index-in-Some.ensures (empty cell)) in
-    let P = set_partial L sys c.loop-cell.values.items cell c.in_ok-value.value lt h c.loop-cell.invariant.partial new in
-    let m = set_members L sys c.loop-cell.values.items cell c.in_ok-value.value lt h c.loop-cell.invariant.partial new in
-    let z = set_size L sys c.loop-cell.values.items cell c.in_ok-value.value lt h c.loop-cell.invariant.partial new in
-    let k = added_at (λ d. size (family empty c.loop-cell.values.items d)) cells cell h in
-    let t = moved_le c.loop-cell.total _ _ _ _ c.size.result c.size-in-Some.result c.args.limit _ c.loop-cell.invariant.total m c.size.ensures
-    (c.size-in-Some.ensures ∙ ap (λ n. min n 18446744073709551615) old) z k c.loop-cell.invariant.small c.requires in
-    let r = members_reached L sys _ P P.reached.0 refl in
-    rw (p.1, p.2) (cause_by_round size cells empty (g.S.System.transfer c.args.system.now) c.args.limit P.reached.0 c.in_err-total-2.field-0.0
+    let n = put_here g v h in
+    let t = moved_le c.loop-cell.total _ _ _ _ c.size.result c.size-in-Some.result c.args.limit _ c.loop-cell.invariant.total n.members_are
+    c.size.ensures (old_counted g a.After-size-in-Some h) n.size_grows (old_within g v h) c.loop-cell.invariant.small c.requires in
+    let r = members_reached g.met.S.Value.Lattice.laws (g.met.S.System.laws c.args.system.now) _ n.partial n.partial.reached.0 refl in
+    rw (p.1, p.2) (cause_by_round g.S.Value.Lattice.size (g.S.System.cells c.args.system.now) (g.S.System.empty c.args.system.now)
+    (g.S.System.transfer c.args.system.now) c.args.limit
+    n.partial.reached.0 c.in_err-total-2.field-0.0
     (passed_more c.args.limit (c.loop-cell.total + (c.size.result - c.size-in-Some.result)) _ _ (two_steps _ _ _ t r) c.in_err-total-2.ensures.passed))
 
 pub loop-cell-smaller : goal.loop-cell-smaller
 loop-cell-smaller g c =
     let a = goal.at.loop-cell-smaller g c in
-    let L = g.met.S.Value.Lattice.laws in
-    let sys = g.met.S.System.laws c.args.system.now in
-    let inv = c.loop-cell.invariant in
     let h = cell_in_range g a.In-Some in
-    let cell = c.in-Some.cell in
-    let cells = g.S.System.cells c.args.system.now in
-    let lt : cell < length c.loop-cell.values.items = omega arith in
-    let new = value_is g a.In_ok-value in
     let grew = ap (g.S.Value.Lattice.below c.in_ok-value.value) (sym (old_is g a.After-index h)) ∙ sym c.if-below.ensures in
-    work_falls _ _ _ _ _ (set_gaps L sys c.loop-cell.values.items cell c.in_ok-value.value lt h inv.partial new grew)
-    (waits_few c.loop-cell.waiting.items c.wake.new.waiting.items cells (let e = inv.flags in let k = c.wake.ensures.len in omega arith))
+    work_falls _ _ _ _ _ ((put_here g a.In_ok-value h).gaps_fall grew)
+    (waits_few c.loop-cell.waiting.items c.wake.new.waiting.items (g.S.System.cells c.args.system.now)
+    (let e = c.loop-cell.invariant.flags in let k = c.wake.ensures.len in omega arith))
 
 pub loop-cell-preserved : goal.loop-cell-preserved
 loop-cell-preserved g c =
     let a = goal.at.loop-cell-preserved g c in
-    let L = g.met.S.Value.Lattice.laws in
-    let sys = g.met.S.System.laws c.args.system.now in
+    let v = a.In_ok-value in
     let inv = c.loop-cell.invariant in
     let h = cell_in_range g a.In-Some in
-    let cell = c.in-Some.cell in
-    let size = g.S.Value.Lattice.size in
-    let cells = g.S.System.cells c.args.system.now in
-    let empty = g.S.System.empty c.args.system.now in
-    let lt : cell < length c.loop-cell.values.items = omega arith in
-    let new = value_is g a.In_ok-value in
-    let old = ap size (get_or_read c.loop-cell.values.items cell c.index-in-Some.result.now lt c.index-in-Some.ensures (empty cell)) in
-    let m = set_members L sys c.loop-cell.values.items cell c.in_ok-value.value lt h inv.partial new in
-    let z = set_size L sys c.loop-cell.values.items cell c.in_ok-value.value lt h inv.partial new in
+    let n = put_here g v h in
+    let f : ℕ → g.row.S-Value.Denot = family (g.S.System.empty c.args.system.now) (set c.loop-cell.values.items c.in-Some.cell c.in_ok-value.value) in
+    let readers = g.S.System.readers c.args.system.now c.in-Some.cell in
+    let apart : (d : ℕ) → d < g.S.System.cells c.args.system.now → get_or c.wake.new.waiting.items d false ≡ false → ¬ (Contains readers d) = λ d hd off k.
+    let there = subst (λ xs. Contains xs d) (sym c.readers.ensures.value) k in
+    c.wake.ensures.apart d there.0 (subst (λ n. d < n) (sym inv.flags) hd) off there.1
+    (get_or_default c.readers.result.now there.0 0 d there.1 ∙ there.2) in
     record {
       flags = omega (arith, c.wake.ensures.len);
       len = inv.len;
-      partial = set_partial L sys c.loop-cell.values.items cell c.in_ok-value.value lt h inv.partial new;
-      closed = λ d hd off.
-          let apart : ¬ (Contains (g.S.System.readers c.args.system.now cell) d) = λ k.
-          let there = subst (λ xs. Contains xs d) (sym c.readers.ensures.value) k in
-          c.wake.ensures.apart d there.0 (subst (λ n. d < n) (sym inv.flags) hd) off there.1
-          (get_or_default c.readers.result.now there.0 0 d there.1 ∙ there.2) in
-          elim (cases_eq d cell) [
-            | inl same ↦ subst (λ k. g.S.Value.Lattice.below (g.S.System.transfer c.args.system.now k
-                (family empty (set c.loop-cell.values.items cell c.in_ok-value.value)))
-                (family empty (set c.loop-cell.values.items cell c.in_ok-value.value) k) ≡ true) (sym same)
-                (set_closed_here L sys c.loop-cell.values.items cell c.in_ok-value.value lt h inv.partial new
-                (subst (λ k. ¬ (Contains (g.S.System.readers c.args.system.now cell) k)) same apart))
-            | inr other ↦ set_closed L sys c.loop-cell.values.items cell c.in_ok-value.value lt h inv.partial new d hd apart
-                (inv.closed d hd (sym (get_or-set_other c.loop-cell.waiting.items cell d false false other) ∙ c.wake.ensures.before d off))
-          ];
+      partial = n.partial;
+      closed = λ d hd off. elim (cases_eq d c.in-Some.cell) [
+        | inl same ↦ subst (λ k. g.S.Value.Lattice.below (g.S.System.transfer c.args.system.now k f) (f k) ≡ true) (sym same)
+            (n.closed_here (subst (λ k. ¬ (Contains readers k)) same (apart d hd off)))
+        | inr other ↦ n.closed d hd (apart d hd off)
+            (inv.closed d hd (sym (get_or-set_other c.loop-cell.waiting.items c.in-Some.cell d false false other) ∙ c.wake.ensures.before d off))
+      ];
       total = c.in_ok-total-2.ensures.sum.0
-          ∙ moved_total c.loop-cell.total _ _ _ _ c.size.result c.size-in-Some.result c.args.limit _ inv.total m c.size.ensures
-          (c.size-in-Some.ensures ∙ ap (λ n. min n 18446744073709551615) old) z
-          (added_at (λ d. size (family empty c.loop-cell.values.items d)) cells cell h) inv.small c.requires
+          ∙ moved_total c.loop-cell.total _ _ _ _ c.size.result c.size-in-Some.result c.args.limit _ inv.total n.members_are c.size.ensures
+          (old_counted g a.After-size-in-Some h) n.size_grows (old_within g v h) inv.small c.requires
           (subst (λ n. n ≤ c.args.limit) c.in_ok-total-2.ensures.sum.0 c.in_ok-total-2.ensures.sum.1);
       small = c.in_ok-total-2.ensures.sum.1;
     }

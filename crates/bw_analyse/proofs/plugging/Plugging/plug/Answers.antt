@@ -1,9 +1,9 @@
 use Rattle.std.proofs.Common.{[], sym, ap, ◌∙◌, subst}
 use Rattle.std.proofs.lemmas.Result.{IfOk-weaker}
 use Rattle.bw_solve.specs.Sets.{IsSet, merge}
-use Rattle.bw_solve.specs.SetLaws.{merge_set}
+use Rattle.bw_solve.specs.Lawful.SetLaws.{merge_set}
 use Rattle.bw_sum.specs.Edges.{edge_cmp}
-use Rattle.bw_sum.specs.SummaryLaws.{edge_cmp_total}
+use Rattle.bw_sum.specs.Lawful.SummaryLaws.{edge_cmp_total}
 use Rattle.bw_analyse.specs.Abstracts.{plugged_by}
 use Rattle.bw_analyse.specs.Apart.{edges_of, with_edges}
 use Rattle.bw_analyse.proofs.PlugLaws.{bare_apart, plugged_apart}

@@ -1,8 +1,8 @@
 use Rattle.std.proofs.Common.{sym, ap, ◌∙◌, subst}
 use Rattle.bw_solve.specs.Sets.{IsSet, merge}
-use Rattle.bw_solve.specs.SetLaws.{merge_set}
+use Rattle.bw_solve.specs.Lawful.SetLaws.{merge_set}
 use Rattle.bw_sum.specs.Edges.{edge_cmp}
-use Rattle.bw_sum.specs.SummaryLaws.{edge_cmp_total}
+use Rattle.bw_sum.specs.Lawful.SummaryLaws.{edge_cmp_total}
 use Rattle.bw_analyse.specs.Apart.{with_edges}
 use Rattle.bw_analyse.proofs.PlugLaws.{nothing_more}
 use Rattle.bw_analyse.proofs.plugging.Plugging.settled.Goals as goal

@@ -1,6 +1,6 @@
 use Rattle.std.proofs.Common.{◌∙◌, [], ◌∷◌, sym, ap}
 use Rattle.bw_solve.specs.Sets.{merge}
-use Rattle.bw_solve.specs.SetLaws.{merge_set}
+use Rattle.bw_solve.specs.Lawful.SetLaws.{merge_set}
 use Rattle.bw_faults.specs.Order.{fault_cmp, fault_total}
 use Rattle.bw_faults.proofs.Lists.{inserted, was_there}
 use Rattle.bw_faults.proofs.faults.Faults.add.Goals as goal

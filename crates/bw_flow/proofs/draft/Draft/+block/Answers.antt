@@ -1,23 +1,32 @@
 use Rattle.std.proofs.lemmas.Result.{on_ok_weaker}
-use Rattle.bw_flow.proofs.Drafts.{comes_next, comes_last}
+use Rattle.bw_flow.proofs.Drafts.{comes_next, comes_last, room_for, rises, head_length, block_length}
 use Rattle.bw_flow.proofs.DraftStatements.{declared_one, assigned_one, shown_one, exited_one, if_one, if_other_one, while_one, each_one}
 use Rattle.bw_flow.proofs.DraftStatements.{block_one}
-use Rattle.std.proofs.Common.{◌∙◌, ◌+◌}
+use Rattle.std.proofs.Common.{◌+◌, ◌≤◌, ◌∙◌, Option, length, ap, arith, rules}
+use Rattle.bw_lang.specs.declared.stmt.Block.TheDeep.{deep-Stmt}
+use Rattle.bw_lang.specs.declared.stmt.Stmt.{Stmt}
+use Rattle.bw_lang.specs.declared.stmt.Stmt.TheVariants.{If}
+use Rattle.bw_lang.specs.Service.Code.{Code, done, code_size}
+use Rattle.bw_lang.specs.Service.CodeView.{before}
+use Rattle.bw_flow.specs.declared.lowering.TheConstants.{MAX_POINTS}
+use Rattle.bw_flow.specs.Layout.{count}
+use Rattle.bw_flow.specs.Drawing.{Drawn}
+use Rattle.bw_flow.proofs.Codes.{stmt_size_at_read}
 use Rattle.bw_flow.proofs.draft.Draft.+block.Goals as goal
 
 pub block-loop-stmt-preserved : goal.block-loop-stmt-preserved
 block-loop-stmt-preserved size c =
     comes_next c.args.typed.now.service c.args.self.now c.loop-stmt.self c.statement.new.self c.as_slice-stmt-items.result.now c.loop-stmt.stmt-index
-    c.args.inside c.args.next c.in_ok-end.end
-    c.in_ok-behind.behind c.saturating_sub-later.result c.begins.result c.stmt-item.result c.stmt-item.is c.loop-stmt-test.true c.loop-stmt.invariant
-    (c.in_ok-behind.ensures ∙ (λ i. c.len-in-loop-stmt.ensures i + c.in_ok-stmt_points.ensures i)) c.saturating_sub-later.ensures c.begins.ensures
+    c.args.inside c.args.next (c.len.result + c.block_points.result)
+    (c.len-in-loop-stmt.result + c.stmt_points.result) c.saturating_sub-later.result c.begins.result c.stmt-item.result c.stmt-item.is c.loop-stmt-test.true c.loop-stmt.invariant
+    (λ i. c.len-in-loop-stmt.ensures i + c.stmt_points.ensures i) c.saturating_sub-later.ensures c.begins.ensures
     c.in_ok-statement.ensures
 
 pub block-returns : goal.block-returns
 block-returns size c =
     comes_last c.args.typed.now.service c.args.self.now c.loop-stmt.self c.leave.new.self c.as_slice-stmt-items.result.now c.args.block.now
     c.loop-stmt.stmt-index c.args.inside c.args.next
-    c.in_ok-end.end c.depth-depth.result c.loop-stmt-test.false c.loop-stmt.invariant c.as_slice-stmt-items.ensures c.depth-depth.ensures c.leave.ensures
+    (c.len.result + c.block_points.result) c.depth-depth.result c.loop-stmt-test.false c.loop-stmt.invariant c.as_slice-stmt-items.ensures c.depth-depth.ensures c.leave.ensures
 
 pub statement-returns-in-Declare : goal.statement-returns-in-Declare
 statement-returns-in-Declare size c =
@@ -76,3 +85,33 @@ statement-returns-in_ok-block-in-Some-2 size c =
     i.test i.yes c.in-Some.no i.no f.fork.number c.args.inside c.args.next f.fork.join c.args.stmt.now
     i.is c.in-Some.is f.ensures.number f.ensures.join f.ensures.point c.in_ok-block-in-Some.ensures c.in_ok-block-in-Some-2.ensures)
     c.join-in-Some.ensures
+
+pub block-statement-requires : goal.block-statement-requires
+block-statement-requires size c =
+    let xs = c.as_slice-stmt-items.result.now in
+    let i = c.loop-stmt.stmt-index in
+    let is = c.as_slice-stmt-items.ensures in
+    let end = c.len.result + c.block_points.result in
+    let s = stmt_size_at_read xs i c.stmt-item.result c.loop-stmt-test.true in
+    let within : end ≤ MAX_POINTS = omega (arith, c.requires.room, c.len.ensures, c.block_points.ensures) in
+    let rise =
+    rises c.args.typed.now.service c.args.self.now c.loop-stmt.self xs i c.args.inside c.args.next end c.loop-stmt.invariant
+    (omega (arith, c.len.ensures, c.block_points.ensures, ap count is)) in (
+      omega (arith, s.1, ap deep-Stmt c.stmt-item.is, ap code_size is),
+      (
+        room_for c.args.typed.now.service c.args.self.now c.loop-stmt.self xs i c.args.inside c.args.next end MAX_POINTS c.stmt-item.result
+            c.stmt-item.is c.loop-stmt-test.true c.loop-stmt.invariant within,
+        omega (arith, c.requires.inside, rise),
+      ),
+    )
+
+pub statement-block-requires-in-Some-2 : goal.statement-block-requires-in-Some-2
+statement-block-requires-in-Some-2 size c =
+    let i = c.in-If in
+    let f = c.in_ok-fork-in-Some.ensures in
+    let long = λ (d : Drawn). length d.steps in
+    let head = ap long f.point ∙ head_length c.args.self.now c.args.inside _ _ in
+    let first = ap long c.in_ok-block-in-Some.ensures ∙ block_length c.args.typed.now.service c.if_else_head.new.self i.yes c.args.inside _ in
+    let whole =
+    ap (λ (s : Stmt). count (before s done)) i.is ∙ ap (λ (o : Option Code). count (before (If i.test i.yes o) done)) c.in-Some.is in
+    (search rules, (omega (arith, c.requires.room, head, first, whole), omega (arith, c.requires.inside, head, first)))

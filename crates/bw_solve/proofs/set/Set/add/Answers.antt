@@ -2,7 +2,7 @@ use Rattle.std.proofs.Common.{◌≡◌, [], ◌∷◌, sym, ◌∙◌, ap, subs
 use Rattle.std.specs.List.{AllByRecursion}
 use Rattle.std.specs.declared.cmp.Ordering.TheVariants.{Less}
 use Rattle.bw_solve.specs.Sets.{IsSet, merge}
-use Rattle.bw_solve.specs.SetLaws.{merge_set}
+use Rattle.bw_solve.specs.Lawful.SetLaws.{merge_set}
 use Rattle.bw_solve.proofs.Walk.{merge_last}
 use Rattle.bw_solve.proofs.set.Set.add.Goals as goal
 use Rattle.bw_solve.proofs.set.Set.add.Given.{Over}

@@ -1,4 +1,4 @@
-use Rattle.bw_solve.specs.SetLaws.{merge_set}
+use Rattle.bw_solve.specs.Lawful.SetLaws.{merge_set}
 use Rattle.bw_solve.proofs.set.Set.union.Goals as goal
 
 pub invariant_of-result : goal.invariant_of-result

@@ -1,6 +1,6 @@
 use Rattle.std.proofs.Common.{◌≡◌, ◌≤◌, ◌++◌, length, sym, subst, ap, ◌∙◌, arith}
 use Rattle.std.proofs.lemmas.List.{at_drop_all, append-nil}
-use Rattle.bw_strings.specs.StringLaws.{below_none}
+use Rattle.bw_strings.specs.Lawful.StringLaws.{below_none}
 use Rattle.bw_sum.specs.Labels.{AreLabels, labels_at}
 use Rattle.bw_sum.proofs.NewLabels.{labels_at_are}
 use Rattle.bw_sum.proofs.labels.Labels.at_tracks.Goals as goal
