@@ -1,5 +1,5 @@
 -- The check: what its answers exclude, and what is said where it refuses.
-use Rattle.std.proofs.Common.{◌≡◌, ◌≢◌, ℕ, List, [], refl, sym, subst, arith}
+use Rattle.std.proofs.Common.{◌≡◌, ◌≢◌, ℕ, List, [], refl, sym, subst, arith, Option, ap, ◌∙◌}
 use Rattle.bw_check.specs.Accepts.{Accepts, IsCheckFault}
 use Rattle.bw_check.specs.declared.fault.CheckFault.{CheckFault}
 use Rattle.bw_check.specs.declared.fault.CheckFault.TheVariants as checks
@@ -17,11 +17,14 @@ use Rattle.bw_types.specs.Tables.{with_kinds, with_uses}
 use Rattle.bw_types.specs.declared.typed.Typed.{Typed}
 use Rattle.bigwig.specs.Asked.{checked, typed}
 use Rattle.bigwig.specs.FaultLines.{check_text, page_names}
-use Rattle.bigwig.specs.Questions.{IsStop}
-use Rattle.bigwig.specs.Reports.{SaysText, SaysWhy}
-use Rattle.bigwig.specs.declared.status.Refusal.TheVariants as refusals
+use Rattle.bigwig.specs.Behind.{Shown}
+use Rattle.bigwig.specs.Codes.{status_for}
+use Rattle.bigwig.specs.Questions.{IsStop, Said}
+use Rattle.bigwig.specs.Reports.{SaysWhy}
+use Rattle.bigwig.specs.declared.status.Refusal.{Refusal}
+use Rattle.bigwig.specs.declared.status.Status.TheVariants.{ServiceRefused}
 use Rattle.bigwig.specs.declared.stop.Stop.{Stop}
-use Rattle.bigwig.proofs.Stops.{text_stops}
+use Rattle.bigwig.specs.declared.stop.Stop.TheVariants as stop
 
 -- ---- services that read and are well typed
 
@@ -48,8 +51,8 @@ typed_of tree w = record {
 }
 
 -- the service that the two questions give is one
-pub typed_given : (content : List ℕ) (tree same : Service) → Reads content tree → (typed tree).gives same → IsTyped same
-typed_given content tree same r g = (content, subst (Reads content) (sym g.0) r, subst IsWellTyped (sym g.0) g.1)
+pub typed_given : (how : Option Shown) (content : List ℕ) (tree same : Service) → Reads content tree → (typed how tree).gives same → IsTyped same
+typed_given how content tree same r g = (content, subst (Reads content) (sym g.0) r, subst IsWellTyped (sym g.0) g.1)
 
 -- ---- one answer
 
@@ -61,13 +64,17 @@ not_refused t by (checks.TooMany n) a f some = let few = a.1.limits.points in om
 not_refused t by checks.Memory a f some = some refl
 
 -- the names are those of the service's templates, and the lines of the fault tell why it isn't accepted
-pub refused_why : (tree : Service) (by : Schema) (formats : List Format) (names : List (List ℕ)) (fault : CheckFault) (s : Stop) → names ≡ page_names tree → SaysWhy names fault s
-    → IsCheckFault tree by fault → IsStop (checked tree by formats) s
-refused_why tree by formats names (checks.Refused l) s same h f =
-    text_stops (checked tree by formats) refusals.Service (check_text (page_names tree) (checks.Refused l)) s
-    (subst (λ n. SaysText refusals.Service (check_text n (checks.Refused l)) s) same h) (checks.Refused l, f, (λ e. cc), refl)
-refused_why tree by formats names (checks.TooLarge n) s same h f =
-    text_stops (checked tree by formats) refusals.Service (check_text (page_names tree) (checks.TooLarge n)) s h (checks.TooLarge n, f, (λ e. cc), refl)
-refused_why tree by formats names (checks.TooMany n) s same h f =
-    text_stops (checked tree by formats) refusals.Service (check_text (page_names tree) (checks.TooMany n)) s h (checks.TooMany n, f, (λ e. cc), refl)
-refused_why tree by formats names checks.Memory s same h f = subst (IsStop (checked tree by formats)) (sym h) tt
+pub refused_why : (how : Option Shown) (tree : Service) (by : Schema) (formats : List Format) (names : List (List ℕ)) (fault : CheckFault) (s : Stop)
+    → names ≡ page_names tree → SaysWhy how names fault s → IsCheckFault tree by fault → IsStop (checked how tree by formats) s
+refused_why how tree by formats names fault (stop.Says refusal text) same h f = (
+  fault,
+  f,
+  h.1,
+  h.2,
+  h.3,
+  ap (λ (r : Refusal). let s : Said = record { status = status_for r; text = text.items } in s) h.0
+      ∙ ap (λ (t : List ℕ). let s : Said = record { status = ServiceRefused; text = t } in s)
+      (h.4 ∙ ap (λ n. check_text how h.2 n fault) same),
+)
+refused_why how tree by formats names fault stop.ReadFault same h f = absurd h
+refused_why how tree by formats names fault stop.Memory same h f = tt

@@ -23,11 +23,13 @@ use Rattle.bigwig.specs.Asked.{page, page_file, rules, schema, built_in, judged,
 use Rattle.bigwig.specs.Asked.{command, file, read, typed, service_file, checked, checked_with, checked_by, accepted_file, accepted_text}
 use Rattle.bigwig.specs.Asked.Work.{prints}
 use Rattle.bigwig.specs.Asked.{accepted, replayed, at_port, turned, work, asked, usage_line}
+use Rattle.bigwig.specs.Behind.{Shown, shown_file}
 use Rattle.bigwig.specs.Commands.{command_of}
 use Rattle.bigwig.specs.Lines.{no_file_line}
 use Rattle.bigwig.specs.Questions.{Said, Question, ◌>>=◌, found, line}
 use Rattle.bigwig.specs.declared.command.Command.{Command}
 use Rattle.bigwig.specs.declared.command.Command.TheVariants.{Check, Replay, Serve, Valid, Make, Light}
+use Rattle.bigwig.specs.declared.command.Judging.{Judging}
 use Rattle.bigwig.specs.declared.status.Status.{Status}
 use Rattle.bigwig.specs.declared.status.Status.TheVariants.{Usage, NoFile, ServiceRefused, SchemaRefused, PageRefused, FormatsRefused}
 use Rattle.bigwig.proofs.Checks.{IsTyped, typed_of, typed_given, not_refused}
@@ -87,8 +89,8 @@ one_said : (status : Status) (s t : Said) (x y : List ℕ) → s ≡ record { st
     → s.status ≡ t.status
 one_said status s t x y e f = ap (λ (x : Said). x.status) e ∙ ap (λ (x : Said). x.status) (sym f)
 
-pub read_decided : (content : List ℕ) → IsDecided (read content)
-read_decided content = record {
+pub read_decided : (how : Option Shown) (content : List ℕ) → IsDecided (read how content)
+read_decided how content = record {
   once = reads_once content;
   not_both = λ t s p r. r.2 (read_or_refused content t r.0 p r.1);
   one_status = λ s t p r. one_said ServiceRefused s t _ _ p.3 r.3;
@@ -98,17 +100,17 @@ read_decided content = record {
 none_and_first : (l : List TypeFault) (fault : TypeFault) → l ≡ [] → first_member l ≡ Some fault → ⊥
 none_and_first l fault none first = let nothing : first_member l ≡ None = ap first_member none in cc
 
-pub typed_decided : (tree : Service) → IsDecided (typed tree)
-typed_decided tree = record {
+pub typed_decided : (how : Option Shown) (tree : Service) → IsDecided (typed how tree)
+typed_decided how tree = record {
   once = λ a b p r. p.0 ∙ sym r.0;
   not_both = λ t s p r. none_and_first (faults_of tree) r.0 p.1 r.1;
-  one_status = λ s t p r. one_said ServiceRefused s t _ _ p.2 r.2;
+  one_status = λ s t p r. one_said ServiceRefused s t _ _ p.4 r.4;
 }
 
-pub service_file_decided : (disk : Disk) (name : List ℕ) → IsDecided (service_file disk name)
-service_file_decided disk name =
-    then (file disk name >>= read) typed (then (file disk name) read (file_decided disk name) (λ content _. read_decided content))
-    (λ tree _. typed_decided tree)
+pub service_file_decided : (how : Option Shown) (disk : Disk) (name : List ℕ) → IsDecided (service_file how disk name)
+service_file_decided how disk name =
+    then (file disk name >>= read how) (typed how)
+    (then (file disk name) (read how) (file_decided disk name) (λ content _. read_decided how content)) (λ tree _. typed_decided how tree)
 
 pub page_decided : (content : List ℕ) → IsDecided (page content)
 page_decided content = record {
@@ -170,33 +172,36 @@ lit_decided given content = record {
   one_status = λ s t p r. one_said FormatsRefused s t _ _ p.1 r.1;
 }
 
-pub checked_decided : (tree : Service) (by : Schema) (given : List Format) → IsTyped tree → IsDecided (checked tree by given)
-checked_decided tree by given w = record {
+pub checked_decided : (how : Option Shown) (tree : Service) (by : Schema) (given : List Format) → IsTyped tree → IsDecided (checked how tree by given)
+checked_decided how tree by given w = record {
   once = λ a b p r. p.0 ∙ sym r.0;
   not_both = λ both s p r. not_refused (typed_of tree w) by r.0 p.1 r.1 r.2;
-  one_status = λ s t p r. one_said ServiceRefused s t _ _ p.3 r.3;
+  one_status = λ s t p r. one_said ServiceRefused s t _ _ p.5 r.5;
 }
 
-pub accepted_file_decided : (disk : Disk) (name : List ℕ) (named form : Option (List ℕ)) → IsDecided (accepted_file disk name named form)
-accepted_file_decided disk name named form =
-    then (service_file disk name) (checked_by disk named form) (service_file_decided disk name)
-    (λ tree g. then (schema disk named) (checked_with disk form tree) (schema_decided disk named)
-    (λ by _. then (formats disk form) (checked tree by) (formats_decided disk form)
-    (λ given _. checked_decided tree by given (typed_given g.1.0 g.0 tree g.1.2 g.2))))
+pub accepted_file_decided : (disk : Disk) (name : List ℕ) (judging : Judging) (form : Option (List ℕ)) → IsDecided (accepted_file disk name judging form)
+accepted_file_decided disk name judging form =
+    let how = shown_file judging.source disk name in
+    then (service_file how disk name) (checked_by how disk judging.schema form) (service_file_decided how disk name)
+    (λ tree g. then (schema disk judging.schema) (checked_with how disk form tree) (schema_decided disk judging.schema)
+    (λ by _. then (formats disk form) (checked how tree by) (formats_decided disk form)
+    (λ given _. checked_decided how tree by given (typed_given how g.1.0 g.0 tree g.1.2 g.2))))
 
 pub accepted_text_decided : (text : List ℕ) → IsDecided (accepted_text text)
 accepted_text_decided text =
-    then (read text >>= typed) (λ tree. built_in >>= (λ by. checked tree by [])) (then (read text) typed (read_decided text) (λ tree _. typed_decided tree))
-    (λ tree g. then built_in (λ by. checked tree by []) (rules_decided _) (λ by _. checked_decided tree by [] (typed_given text g.0 tree g.1 g.2)))
+    then (read None text >>= typed None) (λ tree. built_in >>= (λ by. checked None tree by []))
+    (then (read None text) (typed None) (read_decided None text) (λ tree _. typed_decided None tree))
+    (λ tree g. then built_in (λ by. checked None tree by []) (rules_decided _)
+    (λ by _. checked_decided None tree by [] (typed_given None text g.0 tree g.1 g.2)))
 
 pub work_decided : (disk : Disk) (c : Command) → IsDecided (work disk c)
 work_decided disk (Check service judging) =
-    then (accepted_file disk service judging.schema None) accepted (accepted_file_decided disk service judging.schema None) (λ ruled _. found_decided _)
+    then (accepted_file disk service judging None) accepted (accepted_file_decided disk service judging None) (λ ruled _. found_decided _)
 work_decided disk (Replay service requests judging form most) =
-    then (accepted_file disk service judging.schema form) (replayed disk requests most) (accepted_file_decided disk service judging.schema form)
+    then (accepted_file disk service judging form) (replayed disk requests most) (accepted_file_decided disk service judging form)
     (λ ruled _. then (file disk requests) _ (file_decided disk requests) (λ stream _. found_decided _))
 work_decided disk (Serve service judging form port most) =
-    then (accepted_file disk service judging.schema form) (at_port port most) (accepted_file_decided disk service judging.schema form)
+    then (accepted_file disk service judging form) (at_port port most) (accepted_file_decided disk service judging form)
     (λ ruled _. found_decided _)
 work_decided disk (Valid name named) =
     then (page_file disk name) (ruled disk named) (then (file disk name) page (file_decided disk name) (λ content _. page_decided content))

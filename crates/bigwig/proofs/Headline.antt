@@ -158,19 +158,19 @@ formats_given : (disk : Disk) (form : Option (List ℕ)) (given : List Format) �
 formats_given disk None given g = g
 formats_given disk (Some name) given g = (g.0, g.1, g.2)
 
-formats_of : (disk : Disk) (name : List ℕ) (named form : Option (List ℕ)) (ruled : Ruled) → (accepted_file disk name named form).gives ruled
-    → AreFormatsOf disk form ruled.formats
-formats_of disk name named form ruled g =
+formats_of : (disk : Disk) (name : List ℕ) (judging : Judging) (form : Option (List ℕ)) (ruled : Ruled)
+    → (accepted_file disk name judging form).gives ruled → AreFormatsOf disk form ruled.formats
+formats_of disk name judging form ruled g =
     subst (AreFormatsOf disk form) (sym (ap (λ (r : Ruled). r.formats) g.2.2.2.0)) (formats_given disk form g.2.2.0 g.2.2.1)
 
-service_of : (disk : Disk) (name : List ℕ) (named form : Option (List ℕ)) (ruled : Ruled) → (accepted_file disk name named form).gives ruled
-    → IsServiceOf disk name named ruled.service ruled.schema
-service_of disk name named form ruled g =
+service_of : (disk : Disk) (name : List ℕ) (judging : Judging) (form : Option (List ℕ)) (ruled : Ruled)
+    → (accepted_file disk name judging form).gives ruled → IsServiceOf disk name judging.schema ruled.service ruled.schema
+service_of disk name judging form ruled g =
     let content = g.1.1.0 in
     let tree = g.1.0 in
     let service : tree ≡ ruled.service = sym g.1.2.0 ∙ sym (ap (λ (r : Ruled). r.service) g.2.2.2.0) in
     let by : g.2.0 ≡ ruled.schema = sym (ap (λ (r : Ruled). r.schema) g.2.2.2.0) in
-    let rules = rules_given disk named g.2.0 g.2.1 in
+    let rules = rules_given disk judging.schema g.2.0 g.2.1 in
     record {
       content = content;
       found = g.1.1.1;
@@ -213,8 +213,8 @@ replay_done disk name requests judging form most w before after s g d is =
       service = ruled.service;
       schema = ruled.schema;
       formats = ruled.formats;
-      formats_are = formats_of disk name judging.schema form ruled g.1;
-      is = service_of disk name judging.schema form ruled g.1;
+      formats_are = formats_of disk name judging form ruled g.1;
+      is = service_of disk name judging form ruled g.1;
       stream = stream;
       found = g.2.1;
       answered = λ keys k.
@@ -276,8 +276,8 @@ serve_done : (disk : Disk) (name : List ℕ) (judging : Judging) (form : Option 
 serve_done disk name judging form port most w before after s g d ends =
     let ruled = g.0 in
     let serving : IsServing ruled port most before after s = subst (λ x. IsDone x before after s) g.2 d in
-    serving_answers disk name judging.schema form ruled port most before after s (service_of disk name judging.schema form ruled g.1)
-    (formats_of disk name judging.schema form ruled g.1) serving ends
+    serving_answers disk name judging.schema form ruled port most before after s (service_of disk name judging form ruled g.1)
+    (formats_of disk name judging form ruled g.1) serving ends
 
 light_done : (disk : Disk) (form texts : List ℕ) (w : Work) (before after : Outside) (s : Status) → (work disk (Light form texts)).gives w
     → IsDone w before after s → s ≡ status.Done → IsLit disk form texts before after

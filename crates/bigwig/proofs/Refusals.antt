@@ -9,9 +9,11 @@ use Rattle.bigwig.specs.Asked.{command, file, read, typed, service_file, checked
 use Rattle.bigwig.specs.Asked.{at_port, turned, page, page_file, rules, schema, built_in, formats_in, formats_file, formats, judged, ruled}
 use Rattle.bigwig.specs.Asked.{lit, lit_file, work, asked}
 use Rattle.bigwig.specs.Asked.Work.{replays}
+use Rattle.bigwig.specs.Behind.{Shown, shown_file}
 use Rattle.bigwig.specs.Questions.{Said, Question, ◌>>=◌, found}
 use Rattle.bigwig.specs.declared.command.Command.{Command}
 use Rattle.bigwig.specs.declared.command.Command.TheVariants.{Check, Replay, Serve, Valid, Make, Light}
+use Rattle.bigwig.specs.declared.command.Judging.{Judging}
 use Rattle.bigwig.specs.declared.status.Status.{Status}
 use Rattle.bigwig.specs.declared.status.Status.TheVariants.{Usage, NoFile, ServiceRefused, SchemaRefused, PageRefused, FormatsRefused}
 
@@ -37,15 +39,16 @@ then_refuses q next first others s (inr x) = others x.0 s x.2
 file_refuses : (disk : Disk) (name : List ℕ) → Refuses (file disk name)
 file_refuses disk name s x = says_so s _ x.1 refl
 
-read_refuses : (content : List ℕ) → Refuses (read content)
-read_refuses content s x = says_so s _ x.3 refl
+read_refuses : (how : Option Shown) (content : List ℕ) → Refuses (read how content)
+read_refuses how content s x = says_so s _ x.3 refl
 
-typed_refuses : (tree : Service) → Refuses (typed tree)
-typed_refuses tree s x = says_so s _ x.2 refl
+typed_refuses : (how : Option Shown) (tree : Service) → Refuses (typed how tree)
+typed_refuses how tree s x = says_so s _ x.4 refl
 
-service_file_refuses : (disk : Disk) (name : List ℕ) → Refuses (service_file disk name)
-service_file_refuses disk name =
-    then_refuses (file disk name >>= read) typed (then_refuses (file disk name) read (file_refuses disk name) read_refuses) typed_refuses
+service_file_refuses : (how : Option Shown) (disk : Disk) (name : List ℕ) → Refuses (service_file how disk name)
+service_file_refuses how disk name =
+    then_refuses (file disk name >>= read how) (typed how)
+    (then_refuses (file disk name) (read how) (file_refuses disk name) (read_refuses how)) (typed_refuses how)
 
 rules_refuse : (content : List ℕ) → Refuses (rules content)
 rules_refuse content s x = says_so s _ x.3 refl
@@ -61,28 +64,30 @@ formats_refuse : (disk : Disk) (form : Option (List ℕ)) → Refuses (formats d
 formats_refuse disk None s x = absurd x
 formats_refuse disk (Some name) s x = formats_file_refuses disk name s x
 
-checked_refuses : (tree : Service) (by : Schema) (given : List Format) → Refuses (checked tree by given)
-checked_refuses tree by given s x = says_so s _ x.3 refl
+checked_refuses : (how : Option Shown) (tree : Service) (by : Schema) (given : List Format) → Refuses (checked how tree by given)
+checked_refuses how tree by given s x = says_so s _ x.5 refl
 
-accepted_file_refuses : (disk : Disk) (name : List ℕ) (named form : Option (List ℕ)) → Refuses (accepted_file disk name named form)
-accepted_file_refuses disk name named form =
-    then_refuses (service_file disk name) (checked_by disk named form) (service_file_refuses disk name)
-    (λ tree. then_refuses (schema disk named) (checked_with disk form tree) (schema_refuses disk named)
-    (λ by. then_refuses (formats disk form) (checked tree by) (formats_refuse disk form) (checked_refuses tree by)))
+accepted_file_refuses : (disk : Disk) (name : List ℕ) (judging : Judging) (form : Option (List ℕ)) → Refuses (accepted_file disk name judging form)
+accepted_file_refuses disk name judging form =
+    let how = shown_file judging.source disk name in
+    then_refuses (service_file how disk name) (checked_by how disk judging.schema form) (service_file_refuses how disk name)
+    (λ tree. then_refuses (schema disk judging.schema) (checked_with how disk form tree) (schema_refuses disk judging.schema)
+    (λ by. then_refuses (formats disk form) (checked how tree by) (formats_refuse disk form) (checked_refuses how tree by)))
 
 accepted_text_refuses : (text : List ℕ) → Refuses (accepted_text text)
 accepted_text_refuses text =
-    then_refuses (read text >>= typed) (λ tree. built_in >>= (λ by. checked tree by [])) (then_refuses (read text) typed (read_refuses text) typed_refuses)
-    (λ tree. then_refuses built_in (λ by. checked tree by []) (rules_refuse _) (λ by. checked_refuses tree by []))
+    then_refuses (read None text >>= typed None) (λ tree. built_in >>= (λ by. checked None tree by []))
+    (then_refuses (read None text) (typed None) (read_refuses None text) (typed_refuses None))
+    (λ tree. then_refuses built_in (λ by. checked None tree by []) (rules_refuse _) (λ by. checked_refuses None tree by []))
 
 work_refuses : (disk : Disk) (c : Command) → Refuses (work disk c)
 work_refuses disk (Check service judging) =
-    then_refuses (accepted_file disk service judging.schema None) accepted (accepted_file_refuses disk service judging.schema None) (λ ruled s x. absurd x)
+    then_refuses (accepted_file disk service judging None) accepted (accepted_file_refuses disk service judging None) (λ ruled s x. absurd x)
 work_refuses disk (Replay service requests judging form most) =
-    then_refuses (accepted_file disk service judging.schema form) (replayed disk requests most) (accepted_file_refuses disk service judging.schema form)
+    then_refuses (accepted_file disk service judging form) (replayed disk requests most) (accepted_file_refuses disk service judging form)
     (λ ruled. then_refuses (file disk requests) (λ stream. found (replays ruled stream most)) (file_refuses disk requests) (λ stream s x. absurd x))
 work_refuses disk (Serve service judging form port most) =
-    then_refuses (accepted_file disk service judging.schema form) (at_port port most) (accepted_file_refuses disk service judging.schema form)
+    then_refuses (accepted_file disk service judging form) (at_port port most) (accepted_file_refuses disk service judging form)
     (λ ruled s x. absurd x)
 work_refuses disk (Valid name named) =
     then_refuses (page_file disk name) (ruled disk named) (then_refuses (file disk name) page (file_refuses disk name) (λ content s x. says_so s _ x.1 refl))

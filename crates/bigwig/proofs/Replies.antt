@@ -26,6 +26,7 @@ use Rattle.bigwig.specs.Outcomes.Comes.{done, read_fault, no_memory}
 use Rattle.bigwig.specs.Outcomes.IsServing.{no_port, no_line, links_served}
 use Rattle.bigwig.specs.Questions.{Said, Question, ◌>>=◌, IsStop, found, line}
 use Rattle.bigwig.specs.Reports.{IsReported, SaysLine}
+use Rattle.bigwig.specs.declared.command.Judging.{Judging}
 use Rattle.bigwig.specs.declared.status.Refusal.{Refusal}
 use Rattle.bigwig.specs.declared.status.Refusal.TheVariants as refusals
 use Rattle.bigwig.specs.declared.status.Status.{Status}
@@ -40,15 +41,15 @@ use Rattle.bigwig.proofs.Reaching.{course_is_fit}
 -- ---- accepted services
 
 -- a service that was found is accepted by the schema that was found
-found_accepted : (disk : Disk) (name : List ℕ) (named form : Option (List ℕ)) (ruled : Ruled) → (accepted_file disk name named form).gives ruled
+found_accepted : (disk : Disk) (name : List ℕ) (judging : Judging) (form : Option (List ℕ)) (ruled : Ruled) → (accepted_file disk name judging form).gives ruled
     → IsRuled ruled.service ruled.formats ruled
-found_accepted disk name named form ruled g = (refl, subst (λ (r : Ruled). Accepts r.service r.schema) (sym g.2.2.2.0) g.2.2.2.1, refl)
+found_accepted disk name judging form ruled g = (refl, subst (λ (r : Ruled). Accepts r.service r.schema) (sym g.2.2.2.0) g.2.2.2.1, refl)
 
 -- and where no more is asked for, that is said
-pub accepted_said : (told : Option Disk) (name : List ℕ) (named form : Option (List ℕ)) (ruled : Ruled) (work : Work) → (accepted ruled).gives work
-    → IfSome told (λ d. (accepted_file d name named form).gives ruled) → IfSome told (λ d. (accepted_file d name named form >>= accepted).gives work)
-accepted_said None name named form ruled work e g = tt
-accepted_said (Some d) name named form ruled work e g = (ruled, g, e)
+pub accepted_said : (told : Option Disk) (name : List ℕ) (judging : Judging) (form : Option (List ℕ)) (ruled : Ruled) (work : Work) → (accepted ruled).gives work
+    → IfSome told (λ d. (accepted_file d name judging form).gives ruled) → IfSome told (λ d. (accepted_file d name judging form >>= accepted).gives work)
+accepted_said None name judging form ruled work e g = tt
+accepted_said (Some d) name judging form ruled work e g = (ruled, g, e)
 
 -- ---- the requests of a file
 
@@ -137,27 +138,28 @@ requests_replied left (Some d) name next file formats most old new unread end r 
     (subst (λ f. Answers f ruled.service most old new end) form (subst (λ s. Answers formats s most old new end) same answers))
     (subst (λ f. RepliesAreGood f ruled.service old) form (subst (λ s. RepliesAreGood formats s old) same good))))
 
--- the service is the one that the world was made with
-pub by_service : (told : Option Disk) (q : Disk → Ruled → Question Work) (service seen : Service) (formats : List Format) (held now : Option (List ℕ))
-    (keys later : Option Coming) (unread : Option (List ℕ)) (steps after : ℕ) (r : Status) → seen ≡ service
-    → IfSome told (λ d. (ruled : Ruled) → IsRuled seen formats ruled → Replies (q d ruled) held now keys later unread steps after r)
+-- the service and the formats are those that the server was made with
+pub by_service : (told : Option Disk) (q : Disk → Ruled → Question Work) (service seen : Service) (formats kept : List Format) (held now : Option (List ℕ))
+    (keys later : Option Coming) (unread : Option (List ℕ)) (steps after : ℕ) (r : Status) → seen ≡ service → kept ≡ formats
+    → IfSome told (λ d. (ruled : Ruled) → IsRuled seen kept ruled → Replies (q d ruled) held now keys later unread steps after r)
     → IfSome told (λ d. (ruled : Ruled) → IsRuled service formats ruled → Replies (q d ruled) held now keys later unread steps after r)
-by_service told q service seen formats held now keys later unread steps after r e h =
-    subst (λ s. IfSome told (λ d. (ruled : Ruled) → IsRuled s formats ruled → Replies (q d ruled) held now keys later unread steps after r)) e h
+by_service told q service seen formats kept held now keys later unread steps after r e f h =
+    subst (λ k. IfSome told (λ d. (ruled : Ruled) → IsRuled service k ruled → Replies (q d ruled) held now keys later unread steps after r)) f
+    (subst (λ s. IfSome told (λ d. (ruled : Ruled) → IsRuled s kept ruled → Replies (q d ruled) held now keys later unread steps after r)) e h)
 
 -- the service was found, and then its requests were answered, whose file is asked for by the text of its name
-pub replies_found : (told later_told : Option Disk) (name : List ℕ) (named form : Option (List ℕ)) (requests text : List ℕ) (most : ℕ) (ruled : Ruled)
+pub replies_found : (told later_told : Option Disk) (name : List ℕ) (judging : Judging) (form : Option (List ℕ)) (requests text : List ℕ) (most : ℕ) (ruled : Ruled)
     (held now : Option (List ℕ)) (keys later : Option Coming) (unread : Option (List ℕ)) (steps after : ℕ) (r : Status) → later_told ≡ told
-    → text ≡ requests → IfSome told (λ d. (accepted_file d name named form).gives ruled)
+    → text ≡ requests → IfSome told (λ d. (accepted_file d name judging form).gives ruled)
     → IfSome later_told (λ d. (x : Ruled) → IsRuled ruled.service ruled.formats x → Replies (replayed d text most x) held now keys later unread steps after r)
-    → IfSome told (λ d. Replies (accepted_file d name named form >>= replayed d requests most) held now keys later unread steps after r)
-replies_found None later_told name named form requests text most ruled held now keys later unread steps after r e t g h = tt
-replies_found (Some d) later_told name named form requests text most ruled held now keys later unread steps after r e t g h =
+    → IfSome told (λ d. Replies (accepted_file d name judging form >>= replayed d requests most) held now keys later unread steps after r)
+replies_found None later_told name judging form requests text most ruled held now keys later unread steps after r e t g h = tt
+replies_found (Some d) later_told name judging form requests text most ruled held now keys later unread steps after r e t g h =
     let all = subst
     (λ o. IfSome o (λ d. (x : Ruled) → IsRuled ruled.service ruled.formats x → Replies (replayed d text most x) held now keys later unread steps after r)) e h in
-    let is = found_accepted d name named form ruled g in
+    let is = found_accepted d name judging form ruled g in
     λ o.
-    comes_then (accepted_file d name named form) (replayed d requests most) ruled _ _ r g
+    comes_then (accepted_file d name judging form) (replayed d requests most) ruled _ _ r g
     (subst (λ n. Replies (replayed d n most ruled) held now keys later unread steps after r) t (all ruled is) o)
 
 -- ---- links
@@ -198,23 +200,25 @@ serving_comes ruled seen formats port most o after asked coming returned s e f i
     (x.0, x.1, x.2, given_so ruled _ links given x.0 x.1 x.2 unprinted after x.3 refl refl refl refl, x.4, x.5) in
     done (serves ruled port most) refl (links_served ends (subst (λ x. Asks o.asked x port) (sym same) asks) line all)
 
--- the service is the one that the world was made with
-pub by_same_service : (port most : ℕ) (service seen : Service) (formats : List Format) (before after : Outside) (s : Status) → seen ≡ service
-    → ((ruled : Ruled) (u v : Option (List ℕ)) → IsRuled seen formats ruled
+-- the service and the formats are those that the server was made with
+pub by_same_service : (port most : ℕ) (service seen : Service) (formats kept : List Format) (before after : Outside) (s : Status) → seen ≡ service
+    → kept ≡ formats → ((ruled : Ruled) (u v : Option (List ℕ)) → IsRuled seen kept ruled
     → Comes (at_port port most ruled) (record before { unread = u }) (record after { unread = v }) s)
     → (ruled : Ruled) (u v : Option (List ℕ)) → IsRuled service formats ruled
     → Comes (at_port port most ruled) (record before { unread = u }) (record after { unread = v }) s
-by_same_service port most service seen formats before after s e h =
-    subst (λ t. (ruled : Ruled) (u v : Option (List ℕ)) → IsRuled t formats ruled
-    → Comes (at_port port most ruled) (record before { unread = u }) (record after { unread = v }) s) e h
+by_same_service port most service seen formats kept before after s e f h =
+    subst (λ k. (ruled : Ruled) (u v : Option (List ℕ)) → IsRuled service k ruled
+    → Comes (at_port port most ruled) (record before { unread = u }) (record after { unread = v }) s) f
+    (subst (λ t. (ruled : Ruled) (u v : Option (List ℕ)) → IsRuled t kept ruled
+    → Comes (at_port port most ruled) (record before { unread = u }) (record after { unread = v }) s) e h)
 
 -- the service was found, and then its port was served
-pub port_comes : (told : Option Disk) (name : List ℕ) (named form : Option (List ℕ)) (port most : ℕ) (ruled : Ruled) (before after : Outside) (s : Status)
-    → IfSome told (λ d. (accepted_file d name named form).gives ruled)
+pub port_comes : (told : Option Disk) (name : List ℕ) (judging : Judging) (form : Option (List ℕ)) (port most : ℕ) (ruled : Ruled) (before after : Outside) (s : Status)
+    → IfSome told (λ d. (accepted_file d name judging form).gives ruled)
     → ((x : Ruled) (u v : Option (List ℕ)) → IsRuled ruled.service ruled.formats x
     → Comes (at_port port most x) (record before { unread = u }) (record after { unread = v }) s)
-    → IfSome told (λ d. Comes (accepted_file d name named form >>= at_port port most) before after s)
-port_comes None name named form port most ruled before after s g h = tt
-port_comes (Some d) name named form port most ruled before after s g h =
-    comes_then (accepted_file d name named form) (at_port port most) ruled before after s g
-    (h ruled before.unread after.unread (found_accepted d name named form ruled g))
+    → IfSome told (λ d. Comes (accepted_file d name judging form >>= at_port port most) before after s)
+port_comes None name judging form port most ruled before after s g h = tt
+port_comes (Some d) name judging form port most ruled before after s g h =
+    comes_then (accepted_file d name judging form) (at_port port most) ruled before after s g
+    (h ruled before.unread after.unread (found_accepted d name judging form ruled g))

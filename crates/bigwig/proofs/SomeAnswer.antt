@@ -1,5 +1,5 @@
 -- Each question has an answer: it gives a value, or something is said.
-use Rattle.std.proofs.Common.{◌≡◌, ◌≢◌, ◌⊎◌, ◌≤◌, Bool, true, false, codes, ℕ, List, [], ◌∷◌, length, Option, None, Some, Result, Ok, Err, IsUtf8, refl, sym, ap, ◌∙◌, inl, inr, arith}
+use Rattle.std.proofs.Common.{◌≡◌, ◌≢◌, ◌⊎◌, ◌≤◌, Bool, true, false, codes, ℕ, List, [], ◌∷◌, length, Option, None, Some, Result, Ok, Err, IsUtf8, refl, sym, ap, ◌∙◌, inl, inr, arith, ◌++◌, subst}
 use Rattle.std.specs.Str.{is_utf8}
 use Rattle.std.specs.Str.Lines.{lines}
 use Rattle.std.proofs.lemmas.Bool.{cases_lt}
@@ -10,6 +10,10 @@ use Rattle.bw_format.specs.declared.file.FormatFault.TheVariants as fault
 use Rattle.bw_format.specs.declared.format.Format.{Format}
 use Rattle.bw_format.proofs.SomeAnswer.{some_answer}
 use Rattle.bw_lang.specs.Document.Forest.{Forest}
+use Rattle.bw_diagnose.specs.Known.{AreDrafts}
+use Rattle.bw_diagnose.proofs.Read.{drafts_read}
+use Rattle.bw_lang.specs.Service.Reads.{Reads}
+use Rattle.bw_lang.specs.declared.declaration.Draft.{Draft}
 use Rattle.bw_lang.specs.declared.service.Service.{Service}
 use Rattle.bw_lights.proofs.SomeLights.{some_lights}
 use Rattle.bw_make.specs.Made.{made}
@@ -27,6 +31,7 @@ use Rattle.bigwig.specs.Asked.{page, page_file, rules, schema, built_in, judged,
 use Rattle.bigwig.specs.Asked.Work.{prints}
 use Rattle.bigwig.specs.Asked.{command, file, read, typed, service_file, service_text, checked, checked_with, checked_by, accepted_file, accepted_text}
 use Rattle.bigwig.specs.Asked.{accepted, replayed, at_port, turned, work, asked, usage_line}
+use Rattle.bigwig.specs.Behind.{Shown, AreShown, shown_file, content_of, behind_syntax, behind_type, blamed_in}
 use Rattle.bigwig.specs.Commands.{command_of}
 use Rattle.bigwig.specs.FaultLines.{check_text, page_names}
 use Rattle.bigwig.specs.Laws.{HasVerdict, Checks}
@@ -34,6 +39,7 @@ use Rattle.bigwig.specs.Lines.{syntax_line, type_line, no_file_line, no_page_lin
 use Rattle.bigwig.specs.Questions.{Said, Question, ◌>>=◌, found, line}
 use Rattle.bigwig.specs.declared.command.Command.{Command}
 use Rattle.bigwig.specs.declared.command.Command.TheVariants.{Check, Replay, Serve, Valid, Make, Light}
+use Rattle.bigwig.specs.declared.command.Judging.{Judging}
 use Rattle.bigwig.specs.declared.status.Status.TheVariants.{Usage, NoFile, ServiceRefused, SchemaRefused, PageRefused, FormatsRefused}
 
 abbrev pub HasAnswer : {A : Type 0} → Question A → Type 0
@@ -63,10 +69,10 @@ command_some words = option_some (command_of words) (record { status = Usage; te
 file_some : (disk : Disk) (name : List ℕ) → HasAnswer (file disk name)
 file_some disk name = option_some (disk name) (record { status = NoFile; text = line (no_file_line name) })
 
-read_some : (content : List ℕ) → HasAnswer (read content)
-read_some content = elim (always content) as (λ _. HasAnswer (read content)) [
+read_some : (how : Option Shown) (content : List ℕ) → HasAnswer (read how content)
+read_some how content = elim (always content) as (λ _. HasAnswer (read how content)) [
   | inl x ↦ inl x
-  | inr x ↦ inr (record { status = ServiceRefused; text = line (syntax_line x.0) }, (x.0, x.2, x.1, refl))
+  | inr x ↦ inr (record { status = ServiceRefused; text = line (syntax_line x.0) ++ behind_syntax how x.0 }, (x.0, x.2, x.1, refl))
 ]
 
 -- a list of faults is empty or has a first one
@@ -74,19 +80,34 @@ none_or_first : (l : List TypeFault) → (l ≡ []) ⊎ ((fault : TypeFault) × 
 none_or_first [] = inl refl
 none_or_first (f ∷ l) = inr (f, refl)
 
-typed_some : (tree : Service) → HasAnswer (typed tree)
-typed_some tree = elim (none_or_first (faults_of tree)) as (λ _. HasAnswer (typed tree)) [
+-- what is shown is written for some declarations, since it reads as a service
+abbrev HasDrafts : Option Shown → Type 0
+HasDrafts how = (drafts : List Draft) × AreShown how drafts
+
+file_drafts : (source : Bool) (disk : Disk) (name content : List ℕ) (tree : Service) → disk name ≡ Some content → Reads content tree
+    → HasDrafts (shown_file source disk name)
+file_drafts true disk name content tree e r =
+    (r.drafts, subst (λ t. AreDrafts t r.drafts) (sym (ap content_of e)) (drafts_read content tree r))
+file_drafts false disk name content tree e r = ([], tt)
+
+typed_some : (how : Option Shown) (tree : Service) → HasDrafts how → HasAnswer (typed how tree)
+typed_some how tree has = elim (none_or_first (faults_of tree)) as (λ _. HasAnswer (typed how tree)) [
   | inl x ↦ inl (tree, (refl, x))
-  | inr x ↦ inr (record { status = ServiceRefused; text = line (type_line x.0) }, (x.0, x.1, refl))
+  | inr x ↦ inr (
+    record { status = ServiceRefused; text = line (type_line x.0) ++ behind_type how has.0 (blamed_in tree) x.0 },
+    (x.0, x.1, has.0, has.1, refl),
+  )
 ]
 
-service_text_some : (text : List ℕ) → HasAnswer (service_text text)
-service_text_some text = then_some (read text) typed (read_some text) (λ tree _. typed_some tree)
+service_text_some : (text : List ℕ) → HasAnswer (service_text None text)
+service_text_some text = then_some (read None text) (typed None) (read_some None text) (λ tree _. typed_some None tree ([], tt))
 
-service_file_some : (disk : Disk) (name : List ℕ) → HasAnswer (service_file disk name)
-service_file_some disk name =
-    then_some (file disk name >>= read) typed (then_some (file disk name) read (file_some disk name) (λ content _. read_some content))
-    (λ tree _. typed_some tree)
+service_file_some : (source : Bool) (disk : Disk) (name : List ℕ) → HasAnswer (service_file (shown_file source disk name) disk name)
+service_file_some source disk name =
+    let how = shown_file source disk name in
+    then_some (file disk name >>= read how) (typed how)
+    (then_some (file disk name) (read how) (file_some disk name) (λ content _. read_some how content))
+    (λ tree g. typed_some how tree (file_drafts source disk name g.0 tree g.1 g.2))
 
 page_some : (content : List ℕ) → HasAnswer (page content)
 page_some content = elim (page_or_none content) as (λ _. HasAnswer (page content)) [
@@ -147,35 +168,39 @@ lit_some bytes given g content = elim (are_texts_or_not content) as (λ _. HasAn
 ]
 
 -- the check's own question has the check's verdict
-checked_some : (tree : Service) (by : Schema) (given : List Format) → HasVerdict tree by → HasAnswer (checked tree by given)
-checked_some tree by given (inl x) = inl (record { service = tree; schema = by; formats = given }, (refl, x))
-checked_some tree by given (inr x) = inr (record { status = ServiceRefused; text = check_text (page_names tree) x.0 }, (x.0, x.1, x.2, refl))
+checked_some : (how : Option Shown) (tree : Service) (by : Schema) (given : List Format) → HasDrafts how → HasVerdict tree by
+    → HasAnswer (checked how tree by given)
+checked_some how tree by given has (inl x) = inl (record { service = tree; schema = by; formats = given }, (refl, x))
+checked_some how tree by given has (inr x) =
+    inr (record { status = ServiceRefused; text = check_text how has.0 (page_names tree) x.0 }, (x.0, x.1, x.2, has.0, has.1, refl))
 
-accepted_file_some : (disk : Disk) (name : List ℕ) (named form : Option (List ℕ))
-    → ((tree : Service) (by : Schema) → (service_file disk name).gives tree → (schema disk named).gives by → HasVerdict tree by)
-    → HasAnswer (accepted_file disk name named form)
-accepted_file_some disk name named form verdicts =
-    then_some (service_file disk name) (checked_by disk named form) (service_file_some disk name)
-    (λ tree g. then_some (schema disk named) (checked_with disk form tree) (schema_some disk named)
-    (λ by k. then_some (formats disk form) (checked tree by) (formats_some disk form) (λ given _. checked_some tree by given (verdicts tree by g k))))
+accepted_file_some : (disk : Disk) (name : List ℕ) (judging : Judging) (form : Option (List ℕ))
+    → ((tree : Service) (by : Schema) → (service_file None disk name).gives tree → (schema disk judging.schema).gives by → HasVerdict tree by)
+    → HasAnswer (accepted_file disk name judging form)
+accepted_file_some disk name judging form verdicts =
+    let how = shown_file judging.source disk name in
+    then_some (service_file how disk name) (checked_by how disk judging.schema form) (service_file_some judging.source disk name)
+    (λ tree g. then_some (schema disk judging.schema) (checked_with how disk form tree) (schema_some disk judging.schema)
+    (λ by k. then_some (formats disk form) (checked how tree by) (formats_some disk form)
+    (λ given _. checked_some how tree by given (file_drafts judging.source disk name g.1.0 g.0 g.1.1 g.1.2) (verdicts tree by g k))))
 
 accepted_text_some : (text : List ℕ)
-    → ((tree : Service) (by : Schema) → (service_text text).gives tree → built_in.gives by → HasVerdict tree by) → HasAnswer (accepted_text text)
+    → ((tree : Service) (by : Schema) → (service_text None text).gives tree → built_in.gives by → HasVerdict tree by) → HasAnswer (accepted_text text)
 accepted_text_some text verdicts =
-    then_some (service_text text) (λ tree. built_in >>= (λ by. checked tree by [])) (service_text_some text)
-    (λ tree g. then_some built_in (λ by. checked tree by []) (rules_some _) (λ by k. checked_some tree by [] (verdicts tree by g k)))
+    then_some (service_text None text) (λ tree. built_in >>= (λ by. checked None tree by [])) (service_text_some text)
+    (λ tree g. then_some built_in (λ by. checked None tree by []) (rules_some _) (λ by k. checked_some None tree by [] ([], tt) (verdicts tree by g k)))
 
 work_some : (disk : Disk) (c : Command) → ((tree : Service) (by : Schema) → Checks disk c tree by → HasVerdict tree by) → HasAnswer (work disk c)
 work_some disk (Check service judging) verdicts =
-    then_some (accepted_file disk service judging.schema None) accepted
-    (accepted_file_some disk service judging.schema None (λ tree by g k. verdicts tree by (g, k))) (λ ruled _. found_some _)
+    then_some (accepted_file disk service judging None) accepted
+    (accepted_file_some disk service judging None (λ tree by g k. verdicts tree by (g, k))) (λ ruled _. found_some _)
 work_some disk (Replay service requests judging form most) verdicts =
-    then_some (accepted_file disk service judging.schema form) (replayed disk requests most)
-    (accepted_file_some disk service judging.schema form (λ tree by g k. verdicts tree by (g, k)))
+    then_some (accepted_file disk service judging form) (replayed disk requests most)
+    (accepted_file_some disk service judging form (λ tree by g k. verdicts tree by (g, k)))
     (λ ruled _. then_some (file disk requests) _ (file_some disk requests) (λ stream _. found_some _))
 work_some disk (Serve service judging form port most) verdicts =
-    then_some (accepted_file disk service judging.schema form) (at_port port most)
-    (accepted_file_some disk service judging.schema form (λ tree by g k. verdicts tree by (g, k))) (λ ruled _. found_some _)
+    then_some (accepted_file disk service judging form) (at_port port most)
+    (accepted_file_some disk service judging form (λ tree by g k. verdicts tree by (g, k))) (λ ruled _. found_some _)
 work_some disk (Valid name named) verdicts =
     then_some (page_file disk name) (ruled disk named) (page_file_some disk name)
     (λ tree _. then_some (schema disk named) (judged tree) (schema_some disk named) (λ by _. judged_some tree by))

@@ -68,7 +68,8 @@ grouped_so seen q f g (Err (stop.Says refusal text)) h = elim h as (λ _. IsStop
 grouped_so seen q f g (Err stop.ReadFault) h = tt
 grouped_so seen q f g (Err stop.Memory) h = tt
 
-pub told_grouped : {A B C D : Type 0} (seen : D → C) (told : Option Disk) (q : Disk → Question A) (f : A → Question B) (g : B → Question C)
-    (r : Result D Stop) → IfSome told (λ d. IsAnswer seen (q d >>= (λ a. f a >>= g)) r) → IfSome told (λ d. IsAnswer seen (q d >>= f >>= g) r)
+pub told_grouped : {A B C D : Type 0} (seen : D → C) (told : Option Disk) (q : Disk → Question A) (f : Disk → A → Question B)
+    (g : Disk → B → Question C) (r : Result D Stop) → IfSome told (λ d. IsAnswer seen (q d >>= (λ a. f d a >>= g d)) r)
+    → IfSome told (λ d. IsAnswer seen (q d >>= f d >>= g d) r)
 told_grouped seen None q f g r h = tt
-told_grouped seen (Some d) q f g r h = grouped_so seen (q d) f g r h
+told_grouped seen (Some d) q f g r h = grouped_so seen (q d) (f d) (g d) r h

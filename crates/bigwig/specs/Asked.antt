@@ -1,5 +1,5 @@
 -- The questions of each command, in their order. A later command, option or file is one line more.
-use Rattle.std.specs.Prelude.{◌≡◌, ◌≢◌, ◌≤◌, ℕ, List, [], length, Option, None, Some, Ok, Err, codes, IsUtf8}
+use Rattle.std.specs.Prelude.{◌≡◌, ◌≢◌, ◌≤◌, ℕ, List, [], ◌++◌, length, Option, None, Some, Ok, Err, codes, IsUtf8}
 use Rattle.std.specs.Str.Lines.{lines}
 use Rattle.bw_check.specs.Accepts.{Accepts, IsCheckFault}
 use Rattle.bw_check.specs.declared.fault.CheckFault.{CheckFault}
@@ -10,6 +10,7 @@ use Rattle.bw_format.specs.declared.file.FormatFault.TheVariants as faults
 use Rattle.bw_format.specs.declared.format.Format.{Format}
 use Rattle.bw_lang.specs.Document.Forest.{Forest}
 use Rattle.bw_lang.specs.Service.Reads.{Reads}
+use Rattle.bw_lang.specs.declared.declaration.Draft.{Draft}
 use Rattle.bw_lang.specs.declared.service.Service.{Service}
 use Rattle.bw_lights.specs.Lights.{AreLights}
 use Rattle.bw_make.specs.Made.{made}
@@ -29,6 +30,7 @@ use Rattle.bw_types.specs.Faults.{IsWellTyped, first_fault}
 use Rattle.bw_types.specs.declared.fault.TypeFault.{TypeFault}
 use Rattle.bw_valid.specs.Breaches.{breach}
 use Rattle.bw_valid.specs.declared.breach.Breach.{Breach}
+use Rattle.bigwig.specs.Behind.{Shown, shown_file, AreShown, behind_syntax, behind_type, blamed_in}
 use Rattle.bigwig.specs.Commands.{command_of}
 use Rattle.bigwig.specs.FaultLines.{check_text, page_names}
 use Rattle.bigwig.specs.Lines.{syntax_line, type_line, no_file_line, no_page_line, breach_line, schema_line, format_line, no_texts_line}
@@ -36,6 +38,7 @@ use Rattle.bigwig.specs.Making.{made_text}
 use Rattle.bigwig.specs.Questions.{Question, ◌>>=◌, found, line}
 use Rattle.bigwig.specs.declared.command.Command.{Command}
 use Rattle.bigwig.specs.declared.command.Command.TheVariants.{Check, Replay, Serve, Valid, Make, Light}
+use Rattle.bigwig.specs.declared.command.Judging.{Judging}
 use Rattle.bigwig.specs.declared.lighting.TheConstants.{MAX_TEXTS_BYTES}
 use Rattle.bigwig.specs.declared.status.Status.TheVariants.{Usage, NoFile, ServiceRefused, SchemaRefused, PageRefused, FormatsRefused}
 
@@ -57,28 +60,29 @@ file disk name = record {
   says = λ said. (disk name ≡ None) × (said ≡ record { status = NoFile; text = line (no_file_line name) });
 }
 
--- which service does the content read as?
-abbrev pub read : List ℕ → Question Service
-read content = record {
+-- which service does the content read as? Where it is refused, it is shown so.
+abbrev pub read : Option Shown → List ℕ → Question Service
+read how content = record {
   gives = λ tree. Reads content tree;
   says = λ said. (fault : SyntaxFault) × IsServiceRefused content fault × (fault ≢ reading.Memory)
-      × (said ≡ record { status = ServiceRefused; text = line (syntax_line fault) });
+      × (said ≡ record { status = ServiceRefused; text = line (syntax_line fault) ++ behind_syntax how fault });
 }
 
 -- is it well typed?
-abbrev pub typed : Service → Question Service
-typed tree = record {
+abbrev pub typed : Option Shown → Service → Question Service
+typed how tree = record {
   gives = λ same. (same ≡ tree) × IsWellTyped tree;
-  says = λ said. (fault : TypeFault) × (first_fault tree ≡ Some fault) × (said ≡ record { status = ServiceRefused; text = line (type_line fault) });
+  says = λ said. (fault : TypeFault) × (first_fault tree ≡ Some fault) × (drafts : List Draft) × AreShown how drafts
+      × (said ≡ record { status = ServiceRefused; text = line (type_line fault) ++ behind_type how drafts (blamed_in tree) fault });
 }
 
 -- the service of a text
-abbrev pub service_text : List ℕ → Question Service
-service_text content = read content >>= typed
+abbrev pub service_text : Option Shown → List ℕ → Question Service
+service_text how content = read how content >>= typed how
 
 -- the service of a file
-abbrev pub service_file : Disk → List ℕ → Question Service
-service_file disk name = file disk name >>= read >>= typed
+abbrev pub service_file : Option Shown → Disk → List ℕ → Question Service
+service_file how disk name = file disk name >>= read how >>= typed how
 
 -- which schema does the content read as?
 abbrev pub rules : List ℕ → Question Schema
@@ -121,24 +125,26 @@ pub record Ruled : Type 0 where
   pub formats : List Format
 
 -- does the check accept the service by the schema?
-abbrev pub checked : Service → Schema → List Format → Question Ruled
-checked tree by formats = record {
+abbrev pub checked : Option Shown → Service → Schema → List Format → Question Ruled
+checked how tree by formats = record {
   gives = λ ruled. (ruled ≡ record { service = tree; schema = by; formats = formats }) × Accepts tree by;
-  says = λ said. (fault : CheckFault) × IsCheckFault tree by fault × (fault ≢ checks.Memory)
-      × (said ≡ record { status = ServiceRefused; text = check_text (page_names tree) fault });
+  says = λ said. (fault : CheckFault) × IsCheckFault tree by fault × (fault ≢ checks.Memory) × (drafts : List Draft) × AreShown how drafts
+      × (said ≡ record { status = ServiceRefused; text = check_text how drafts (page_names tree) fault });
 }
 
 -- the formats that are named, and then the check
-abbrev pub checked_with : Disk → Option (List ℕ) → Service → Schema → Question Ruled
-checked_with disk form tree by = formats disk form >>= checked tree by
+abbrev pub checked_with : Option Shown → Disk → Option (List ℕ) → Service → Schema → Question Ruled
+checked_with how disk form tree by = formats disk form >>= checked how tree by
 
 -- the schema that is named, the formats, and then the check
-abbrev pub checked_by : Disk → Option (List ℕ) → Option (List ℕ) → Service → Question Ruled
-checked_by disk named form tree = schema disk named >>= checked_with disk form tree
+abbrev pub checked_by : Option Shown → Disk → Option (List ℕ) → Option (List ℕ) → Service → Question Ruled
+checked_by how disk named form tree = schema disk named >>= checked_with how disk form tree
 
--- the service of a file, where it is accepted: the file is read before the schema
-abbrev pub accepted_file : Disk → List ℕ → Option (List ℕ) → Option (List ℕ) → Question Ruled
-accepted_file disk name named form = service_file disk name >>= checked_by disk named form
+-- the service of a file, where it is accepted: the file is read before the schema. It is shown where that is asked for.
+abbrev pub accepted_file : Disk → List ℕ → Judging → Option (List ℕ) → Question Ruled
+accepted_file disk name judging form =
+    service_file (shown_file judging.source disk name) disk name
+    >>= checked_by (shown_file judging.source disk name) disk judging.schema form
 
 -- What is left to do where every question went well: to print; to answer a stream of at most so many requests; or to
 -- serve at most so many links at a port.
@@ -161,7 +167,7 @@ at_port port most ruled = found (serves ruled port most)
 
 -- the service of a text, without formats, where it is accepted by the built-in schema
 abbrev pub accepted_text : List ℕ → Question Ruled
-accepted_text text = service_text text >>= (λ tree. built_in >>= (λ by. checked tree by []))
+accepted_text text = service_text None text >>= (λ tree. built_in >>= (λ by. checked None tree by []))
 
 -- its turns, and what is printed of them
 abbrev pub turned : ℕ → Ruled → Question Work
@@ -215,9 +221,9 @@ lights disk form texts = formats_file disk form >>= lit_file disk texts
 
 -- the questions of a command, and the work that they lead to
 abbrev pub work : Disk → Command → Question Work
-work disk (Check service judging) = accepted_file disk service judging.schema None >>= accepted
-work disk (Replay service requests judging form most) = accepted_file disk service judging.schema form >>= replayed disk requests most
-work disk (Serve service judging form port most) = accepted_file disk service judging.schema form >>= at_port port most
+work disk (Check service judging) = accepted_file disk service judging None >>= accepted
+work disk (Replay service requests judging form most) = accepted_file disk service judging form >>= replayed disk requests most
+work disk (Serve service judging form port most) = accepted_file disk service judging form >>= at_port port most
 work disk (Valid name named) = page_file disk name >>= ruled disk named
 work disk (Make count workers) = made_work count
 work disk (Light form texts) = lights disk form texts

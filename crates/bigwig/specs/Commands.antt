@@ -1,5 +1,5 @@
 -- The commands that the words of the command line give.
-use Rattle.std.specs.Prelude.{◌≤◌, ⊤, ℕ, Bool, ◌&&◌, is_none, List, [], ◌∷◌, Option, None, Some, bytes_eq, codes, if◌then◌else◌}
+use Rattle.std.specs.Prelude.{◌≤◌, ⊤, ℕ, Bool, false, not, ◌&&◌, is_none, List, [], ◌∷◌, Option, None, Some, bytes_eq, codes, if◌then◌else◌}
 use Rattle.clap.specs.Kinds.{Kinds}
 use Rattle.clap.specs.Words.{fault_of}
 use Rattle.bigwig.specs.Numbers.{number_in, number_or}
@@ -10,15 +10,21 @@ use Rattle.bigwig.specs.declared.command.Judging.{Judging}
 use Rattle.bigwig.specs.declared.command.TheConstants.{DEFAULT_PORT, MAX_LINKS, MAX_PORT, MAX_REQUESTS, MAX_WORKERS}
 use Rattle.bw_make.specs.declared.TheConstants.{MAX_PAGES}
 
--- what a service is judged by: the schema that is named, if one is, and by how many workers
-abbrev pub judging_of : Option (List ℕ) → Option ℕ → Option Judging
-judging_of schema (Some workers) = Some (record { schema = schema; workers = workers })
-judging_of schema None = None
+-- a flag is written
+abbrev pub is_written : Option (List ℕ) → Bool
+is_written None = false
+is_written (Some t) = bytes_eq t (codes "true")
+
+-- what a service is judged by: the schema that is named, if one is, and by how many workers; and whether its source is
+-- shown where it is refused
+abbrev pub judging_of : Option (List ℕ) → Option ℕ → Bool → Option Judging
+judging_of schema (Some workers) source = Some (record { schema = schema; workers = workers; source = source })
+judging_of schema None source = None
 
 abbrev pub judging_by : Written → Option Judging
-judging_by w = judging_of w.schema (number_or 1 MAX_WORKERS 1 w.workers)
+judging_by w = judging_of w.schema (number_or 1 MAX_WORKERS 1 w.workers) (is_written w.source)
 
--- no option is there but the schema and the workers
+-- no option is there but the schema, the workers and the flag
 abbrev pub has_judging_alone : Written → Bool
 has_judging_alone w = is_none w.limit && (is_none w.port && is_none w.formats)
 
@@ -50,7 +56,7 @@ serve_by w =
 
 -- no option is there but the schema
 abbrev pub has_schema_alone : Written → Bool
-has_schema_alone w = is_none w.workers && (is_none w.limit && (is_none w.port && is_none w.formats))
+has_schema_alone w = is_none w.workers && (is_none w.limit && (is_none w.port && (is_none w.formats && not (is_written w.source))))
 
 -- valid PAGE
 abbrev pub valid_of : Option (List ℕ) → Option (List ℕ) → Option (List ℕ) → Option Command
@@ -62,7 +68,7 @@ valid_by w = if has_schema_alone w then valid_of w.first w.second w.schema else 
 
 -- no option is there but the workers
 abbrev pub has_workers_alone : Written → Bool
-has_workers_alone w = is_none w.schema && (is_none w.limit && (is_none w.port && is_none w.formats))
+has_workers_alone w = is_none w.schema && (is_none w.limit && (is_none w.port && (is_none w.formats && not (is_written w.source))))
 
 -- make N
 abbrev pub make_of : Option ℕ → Option (List ℕ) → Option ℕ → Option Command
@@ -79,7 +85,8 @@ make_by w = if has_workers_alone w then make_of (count_of w.first) w.second (num
 
 -- no option is there
 abbrev pub has_no_option : Written → Bool
-has_no_option w = is_none w.schema && (is_none w.workers && (is_none w.limit && (is_none w.port && is_none w.formats)))
+has_no_option w =
+    is_none w.schema && (is_none w.workers && (is_none w.limit && (is_none w.port && (is_none w.formats && not (is_written w.source)))))
 
 -- light FORMATS TEXTS
 abbrev pub light_of : Option (List ℕ) → Option (List ℕ) → Option Command

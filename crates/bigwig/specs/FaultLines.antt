@@ -3,8 +3,10 @@ use Rattle.std.specs.Prelude.{◌==◌, ℕ, List, [], ◌∷◌, ◌++◌, map,
 use Rattle.bw_check.specs.declared.fault.CheckFault.{CheckFault}
 use Rattle.bw_check.specs.declared.fault.CheckFault.TheVariants.{Refused, TooLarge, TooMany, Memory}
 use Rattle.bw_faults.specs.declared.fault.Fault.{Fault}
+use Rattle.bw_lang.specs.declared.declaration.Draft.{Draft}
 use Rattle.bw_lang.specs.declared.service.Service.{Service}
 use Rattle.bw_types.specs.Scopes.{template_names}
+use Rattle.bigwig.specs.Behind.{Shown, behind_fault, behind_points, behind_facts}
 use Rattle.bigwig.specs.Lines.{points_line, shown}
 use Rattle.bigwig.specs.Questions.{line}
 
@@ -27,17 +29,20 @@ abbrev pub fault_line : List (List ℕ) → Fault → List ℕ
 fault_line names f =
     codes "fault " ++ (decimal f.number ++ (codes " point " ++ (decimal f.point ++ (fault_place names f f.template ++ map shown f.detail))))
 
--- a line for each fault
-abbrev pub fault_lines : List (List ℕ) → List Fault → List ℕ
-fault_lines names faults = flat_map (λ f. line (fault_line names f)) faults
+-- a line for each fault, and what is shown behind it
+abbrev pub fault_text : Option Shown → List Draft → List (List ℕ) → Fault → List ℕ
+fault_text how drafts names f = line (fault_line names f) ++ behind_fault how drafts f
+
+abbrev pub fault_lines : Option Shown → List Draft → List (List ℕ) → List Fault → List ℕ
+fault_lines how drafts names faults = flat_map (fault_text how drafts names) faults
 
 -- the analysis gives too many facts
 abbrev pub facts_line : List ℕ
 facts_line = codes "too many facts"
 
 -- what is printed where the check refuses a service: a line for each fault, or for the limit that is passed
-abbrev pub check_text : List (List ℕ) → CheckFault → List ℕ
-check_text names (Refused faults) = fault_lines names faults
-check_text names (TooLarge members) = line facts_line
-check_text names (TooMany points) = line (points_line points)
-check_text names Memory = []
+abbrev pub check_text : Option Shown → List Draft → List (List ℕ) → CheckFault → List ℕ
+check_text how drafts names (Refused faults) = fault_lines how drafts names faults
+check_text how drafts names (TooLarge members) = line facts_line ++ behind_facts how
+check_text how drafts names (TooMany points) = line (points_line points) ++ behind_points how
+check_text how drafts names Memory = []

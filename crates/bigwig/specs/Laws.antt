@@ -37,11 +37,11 @@ HasVerdict tree by = Accepts tree by ⊎ ((fault : CheckFault) × IsCheckFault t
 
 -- the command leads to a check of this service by this schema
 abbrev pub Checks : Disk → Command → Service → Schema → Type 0
-Checks disk (Check service judging) tree by = (service_file disk service).gives tree × (schema disk judging.schema).gives by
-Checks disk (Replay service requests judging form most) tree by = (service_file disk service).gives tree × (schema disk judging.schema).gives by
-Checks disk (Serve service judging form port most) tree by = (service_file disk service).gives tree × (schema disk judging.schema).gives by
+Checks disk (Check service judging) tree by = (service_file None disk service).gives tree × (schema disk judging.schema).gives by
+Checks disk (Replay service requests judging form most) tree by = (service_file None disk service).gives tree × (schema disk judging.schema).gives by
+Checks disk (Serve service judging form port most) tree by = (service_file None disk service).gives tree × (schema disk judging.schema).gives by
 Checks disk (Valid name named) tree by = ⊥
-Checks disk (Make count workers) tree by = (service_text (made count)).gives tree × built_in.gives by
+Checks disk (Make count workers) tree by = (service_text None (made count)).gives tree × built_in.gives by
 Checks disk (Light form texts) tree by = ⊥
 
 -- for all words and files some status is due, where the check has a verdict on the service that they lead to, if any

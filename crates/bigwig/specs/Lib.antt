@@ -1,10 +1,12 @@
 pub mod Asked
+pub mod Behind
 pub mod Checks
 pub mod Codes
 pub mod Commands
 pub mod FaultLines
 pub mod Laws
 pub mod Headline
+pub mod Lent
 pub mod Lines
 pub mod Making
 pub mod Numbers

@@ -1,7 +1,9 @@
 -- What the code stops with, and what comes of it.
-use Rattle.std.specs.Prelude.{◌≡◌, ℕ, List, Option, ⊤}
+use Rattle.std.specs.Prelude.{◌≡◌, ◌≢◌, ℕ, List, Option, ⊤}
 use Rattle.bw_check.specs.declared.fault.CheckFault.{CheckFault}
 use Rattle.bw_check.specs.declared.fault.CheckFault.TheVariants as checks
+use Rattle.bw_lang.specs.declared.declaration.Draft.{Draft}
+use Rattle.bigwig.specs.Behind.{Shown, AreShown}
 use Rattle.bigwig.specs.Codes.{status_for}
 use Rattle.bigwig.specs.FaultLines.{check_text}
 use Rattle.bigwig.specs.Outcomes.{Prints}
@@ -29,7 +31,9 @@ SaysText refusal text Memory = ⊤
 abbrev pub SaysLine : Refusal → List ℕ → Stop → Type 0
 SaysLine refusal text = SaysText refusal (line text)
 
--- why a service isn't accepted, whose templates have these names; want of memory has no text
-abbrev pub SaysWhy : List (List ℕ) → CheckFault → Stop → Type 0
-SaysWhy names checks.Memory stop = stop ≡ Memory
-SaysWhy names fault stop = SaysText refusals.Service (check_text names fault) stop
+-- why a service isn't accepted, whose templates have these names, and what is shown of it; want of memory has no text
+abbrev pub SaysWhy : Option Shown → List (List ℕ) → CheckFault → Stop → Type 0
+SaysWhy how names fault (Says refusal text) = (refusal ≡ refusals.Service) × (fault ≢ checks.Memory) × (drafts : List Draft) × AreShown how drafts
+    × (text.items ≡ check_text how drafts names fault)
+SaysWhy how names fault ReadFault = ⊥
+SaysWhy how names fault Memory = ⊤

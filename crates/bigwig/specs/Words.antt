@@ -1,14 +1,19 @@
--- The words of the command line, by clap: one simple command with three words and five options.
+-- The words of the command line, by clap: one simple command with three words, five options and a flag.
 use Rattle.std.specs.Prelude.{◌≡◌, true, List, [], Option, Some, codes, option_map}
 use Rattle.std.specs.Borrow.{Bor}
 use Rattle.clap.specs.Words.{App, Row, Rule, Text, new_app, new_rule, with_rule, matches_of, fault_of}
 use Rattle.clap.specs.Walk.{first_of}
 use Rattle.clap.specs.Simple.{on_top}
+use Rattle.clap.specs.declared.builder.action.ArgAction.TheVariants.{SetTrue}
 use Rattle.bigwig.specs.declared.words.Line.{Line}
 
 -- an option that takes one value
 abbrev pub option_rule : Text → Rule
 option_rule id = record (new_rule id) { long = Some id }
+
+-- an option without a value: what is written is `true` where it stands, and else `false`
+abbrev pub flag_rule : Text → Rule
+flag_rule id = record (new_rule id) { long = Some id; action = Some SetTrue }
 
 -- the command without arguments: there is no help and no version, and the words don't begin with the program's name
 abbrev pub bare : App
@@ -17,10 +22,10 @@ bare = on_top (λ s. record s { no_binary_name = true; disable_help_flag = true;
 -- the whole command
 unfoldable pub bigwig : App
 bigwig =
-    with_rule (with_rule (with_rule (with_rule (with_rule (with_rule (with_rule (with_rule bare
+    with_rule (with_rule (with_rule (with_rule (with_rule (with_rule (with_rule (with_rule (with_rule bare
     (new_rule (codes "command"))) (new_rule (codes "first"))) (new_rule (codes "second")))
     (option_rule (codes "schema"))) (option_rule (codes "workers"))) (option_rule (codes "limit")))
-    (option_rule (codes "port"))) (option_rule (codes "formats"))
+    (option_rule (codes "port"))) (option_rule (codes "formats"))) (flag_rule (codes "show-source"))
 
 -- clap takes the words
 abbrev pub IsTaken : List Text → Type 0
@@ -36,6 +41,7 @@ pub record Written : Type 0 where
   pub limit : Option Text
   pub port : Option Text
   pub formats : Option Text
+  pub source : Option Text
 
 -- the first values of clap's matches
 abbrev pub written_in : List Row → Written
@@ -48,6 +54,7 @@ written_in rows = record {
   limit = first_of (codes "limit") rows;
   port = first_of (codes "port") rows;
   formats = first_of (codes "formats") rows;
+  source = first_of (codes "show-source") rows;
 }
 
 -- what is written by these words
@@ -69,4 +76,5 @@ line_of l = record {
   limit = text_of l.limit;
   port = text_of l.port;
   formats = text_of l.formats;
+  source = text_of l.source;
 }

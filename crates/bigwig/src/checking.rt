@@ -4,19 +4,23 @@ ghost use Rattle.bw_out.specs.Causes.{Shows};
 ghost use Rattle.bigwig.specs.Asked as asked;
 ghost use Rattle.bigwig.specs.Asked.{accepted_file, work};
 ghost use Rattle.bigwig.specs.Asked.Work.{prints};
+ghost use Rattle.bigwig.specs.Behind.{shown_of};
 ghost use Rattle.bigwig.specs.Checks.{ruled_by};
 ghost use Rattle.bigwig.specs.Commands.{AreWorkers};
 ghost use Rattle.bigwig.specs.FaultLines as lines;
 ghost use Rattle.bigwig.specs.Questions.{IsAnswer, line};
 ghost use Rattle.bigwig.specs.declared.command.Command.TheVariants as commands;
 
-use crate::command::Judging;
+use crate::command::{Judging, Named};
 use crate::fault_lines::check_stop;
 use crate::formats::formats_for;
-use crate::loading::{load_service, typed_of};
+use crate::lent::Tools;
+use crate::loading::{Loaded, load_service, typed_of};
 use crate::schemas::{default_schema, load_schema};
+use crate::sight::shown_as;
 use crate::stop::Stop;
 use bw_check::{Checked, check};
+use bw_diagnose::Paper;
 use bw_format::Formats;
 use bw_lang::{Memory, Text, Words};
 use bw_out::{Files, Pulse};
@@ -35,24 +39,29 @@ pub struct Served {
 /// The service of a file, where it is accepted: the service file is read first, then the schema and the formats, and then
 /// comes the check.
 pub fn load_checked<R: Threads + Sync, F: Files, P: Pulse>(
-    rt: &R,
-    alloc: Global,
+    tools: &Tools<R, P>,
     files: &mut F,
-    name: &str,
-    judging: &Judging,
-    formats: &Option<Text>,
-    pulse: &P,
+    named: Named<'_, '_, '_>,
 ) -> Result<Served, Stop>
-    requires { AreWorkers judging.now.workers }
-    ensures answers { IfSome (F.told files.old) (λ disk. IsAnswer ruled_by (accepted_file disk name.now judging.now.schema formats.now) result) }
+    requires { AreWorkers named.judging.now.workers }
+    ensures answers { IfSome (F.told files.old) (λ disk.
+        IsAnswer ruled_by (accepted_file disk named.entry.service.now named.entry.judging.now named.entry.formats.now) result) }
     ensures told { F.told files.new ≡ F.told files.old }
     ensures read_fault { Shows (IsErrOf result Stop.ReadFault) (F.faults files.old) (F.faults files.new) }
 {
-    let typed = load_service(alloc, files, name)?;
-    match load_schema(alloc, files, &judging.schema) {
-        Ok(schema) => checked_with(rt, alloc, files, typed, schema, judging, formats, pulse),
+    let name = named.service.as_str();
+    let loaded = load_service(tools.alloc, files, name, named.judging.source)?;
+    let Loaded { typed, text } = loaded;
+    let how = shown_as(named.judging.source, name, &text);
+    match load_schema(tools.alloc, files, &named.judging.schema) {
+        Ok(schema) => {
+            let served = checked_with(tools, files, typed, schema, named, how);
+            drop(text);
+            served
+        }
         Err(stop) => {
             drop(typed);
+            drop(text);
             Err(stop)
         }
     }
@@ -60,22 +69,21 @@ pub fn load_checked<R: Threads + Sync, F: Files, P: Pulse>(
 
 /// The same of a service and a schema: the formats are read, and then comes the check.
 fn checked_with<R: Threads + Sync, F: Files, P: Pulse>(
-    rt: &R,
-    alloc: Global,
+    tools: &Tools<R, P>,
     files: &mut F,
     typed: Typed,
     schema: Schema,
-    judging: &Judging,
-    formats: &Option<Text>,
-    pulse: &P,
+    named: Named<'_, '_, '_>,
+    how: Option<Paper<'_>>,
 ) -> Result<Served, Stop>
-    requires { AreWorkers judging.now.workers }
-    ensures answers { IfSome (F.told files.old) (λ disk. IsAnswer ruled_by (asked.checked_with disk formats.now typed.service schema) result) }
+    requires { AreWorkers named.judging.now.workers }
+    ensures answers { IfSome (F.told files.old) (λ disk.
+        IsAnswer ruled_by (asked.checked_with (shown_of how.entry) disk named.entry.formats.now typed.service schema) result) }
     ensures told { F.told files.new ≡ F.told files.old }
     ensures read_fault { Shows (IsErrOf result Stop.ReadFault) (F.faults files.old) (F.faults files.new) }
 {
-    match formats_for(alloc, files, formats) {
-        Ok(formats) => checked(rt, alloc, typed, schema, formats, judging.workers, pulse),
+    match formats_for(tools.alloc, files, named.formats) {
+        Ok(formats) => checked(tools, typed, schema, formats, named.judging.workers, how),
         Err(stop) => {
             drop(typed);
             drop(schema);
@@ -86,20 +94,23 @@ fn checked_with<R: Threads + Sync, F: Files, P: Pulse>(
 
 /// That the service of a file is accepted.
 pub fn load_accepted<R: Threads + Sync, F: Files, P: Pulse>(
-    rt: &R,
-    alloc: Global,
+    tools: &Tools<R, P>,
     files: &mut F,
-    name: &str,
+    service: &Text,
     judging: &Judging,
-    pulse: &P,
 ) -> Result<(), Stop>
     requires { AreWorkers judging.now.workers }
     ensures answers { IfSome (F.told files.old) (λ disk.
-        IsAnswer (λ done. prints (line (codes "accepted"))) (work disk (commands.Check name.now judging.now)) result) }
+        IsAnswer (λ done. prints (line (codes "accepted"))) (work disk (commands.Check service.now judging.now)) result) }
     ensures told { F.told files.new ≡ F.told files.old }
     ensures read_fault { Shows (IsErrOf result Stop.ReadFault) (F.faults files.old) (F.faults files.new) }
 {
-    match load_checked(rt, alloc, files, name, judging, &None, pulse) {
+    let named = Named {
+        service,
+        judging,
+        formats: &None,
+    };
+    match load_checked(tools, files, named) {
         Ok(served) => {
             drop(served);
             Ok(())
@@ -110,19 +121,17 @@ pub fn load_accepted<R: Threads + Sync, F: Files, P: Pulse>(
 
 /// The service of a text, without formats, where it is accepted by the built-in schema.
 pub fn made_checked<R: Threads + Sync, P: Pulse>(
-    rt: &R,
-    alloc: Global,
+    tools: &Tools<R, P>,
     text: &[u8],
     workers: u32,
-    pulse: &P,
 ) -> Result<Served, Stop>
     requires { AreWorkers workers }
     ensures answers { IsAnswer ruled_by (asked.accepted_text text.now) result }
     ensures no_read { IsErrOf result Stop.ReadFault → ⊥ }
 {
-    let typed = typed_of(alloc, text)?;
-    match default_schema(alloc) {
-        Ok(schema) => checked(rt, alloc, typed, schema, Formats::none(), workers, pulse),
+    let typed = typed_of(tools.alloc, text, None)?;
+    match default_schema(tools.alloc) {
+        Ok(schema) => checked(tools, typed, schema, Formats::none(), workers, None),
         Err(stop) => {
             drop(typed);
             Err(stop)
@@ -131,31 +140,30 @@ pub fn made_checked<R: Threads + Sync, P: Pulse>(
 }
 
 /// The service, where the check accepts it by the schema. The names of its templates are taken first, for the lines of its
-/// faults: a refusal drops the service and the formats.
+/// faults: a refusal drops the service and the formats. Where it is refused, it is shown so.
 fn checked<R: Threads + Sync, P: Pulse>(
-    rt: &R,
-    alloc: Global,
+    tools: &Tools<R, P>,
     typed: Typed,
     schema: Schema,
     formats: Formats,
     workers: u32,
-    pulse: &P,
+    how: Option<Paper<'_>>,
 ) -> Result<Served, Stop>
     requires { AreWorkers workers }
-    ensures answers { IsAnswer ruled_by (asked.checked typed.service schema formats) result }
+    ensures answers { IsAnswer ruled_by (asked.checked (shown_of how.entry) typed.service schema formats) result }
     ensures no_read { IsErrOf result Stop.ReadFault → ⊥ }
 {
-    let Ok(names) = page_names(alloc, &typed) else {
+    let Ok(names) = page_names(tools.alloc, &typed) else {
         drop(typed);
         drop(schema);
         drop(formats);
         return Err(Stop::Memory);
     };
-    match check(rt, alloc, typed, schema, workers, pulse) {
+    match check(tools.rt, tools.alloc, typed, schema, workers, tools.pulse) {
         Ok(checked) => Ok(Served { checked, formats }),
         Err(fault) => {
             drop(formats);
-            Err(check_stop(alloc, names.as_slice(), &fault))
+            Err(check_stop(tools.alloc, names.as_slice(), &fault, how))
         }
     }
 }

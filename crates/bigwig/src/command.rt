@@ -33,6 +33,18 @@ pub struct Judging {
     pub schema: Option<Text>,
     /// How many workers judge it, from 1 to 16.
     pub workers: u32,
+    /// Whether its source is shown where it is refused.
+    pub source: bool,
+}
+
+/// What the words name of a service that is checked, and maybe served.
+#[derive(Clone, Copy)]
+pub struct Named<'s, 'j, 'f> {
+    /// The name of the service file.
+    pub service: &'s Text,
+    pub judging: &'j Judging,
+    /// The name of the file of formats. Where there is none, no field has a format.
+    pub formats: &'f Option<Text>,
 }
 
 /// What is asked for.
@@ -151,14 +163,29 @@ fn owned_option(alloc: Global, text: Option<&str>) -> Result<Option<Text>, Words
     }
 }
 
-/// What a service is judged by: the schema that is named, if one is, and by 1 worker where no number is named.
+/// Whether a flag is written.
+fn is_written(text: Option<&str>) -> bool
+    ensures { result ≡ spec.is_written (words.text_of text.entry) }
+{
+    match text {
+        Some(text) => text == "true",
+        None => false,
+    }
+}
+
+/// What a service is judged by: the schema that is named, if one is, and by 1 worker where no number is named; and whether
+/// its source is shown where it is refused.
 fn judging_by(alloc: Global, line: &Line<'_>) -> Result<Judging, WordsFault>
     ensures ok { IfOk result (λ j. (spec.judging_by (words.line_of line.now) ≡ Some j) × spec.AreWorkers j.workers) }
     ensures refused { IsErrOf result WordsFault.Refused → spec.judging_by (words.line_of line.now) ≡ None }
 {
     let workers = number_or(1, MAX_WORKERS, 1, line.workers).ok_or(WordsFault::Refused)?;
     let schema = owned_option(alloc, line.schema)?;
-    Ok(Judging { schema, workers })
+    Ok(Judging {
+        schema,
+        workers,
+        source: is_written(line.source),
+    })
 }
 
 /// `check SERVICE`.
@@ -245,6 +272,7 @@ fn valid_by(alloc: Global, line: &Line<'_>) -> Result<Command, WordsFault>
         || line.limit.is_some()
         || line.port.is_some()
         || line.formats.is_some()
+        || is_written(line.source)
         || line.second.is_some()
     {
         return Err(WordsFault::Refused);
@@ -265,6 +293,7 @@ fn make_by(line: &Line<'_>) -> Result<Command, WordsFault>
         || line.limit.is_some()
         || line.port.is_some()
         || line.formats.is_some()
+        || is_written(line.source)
         || line.second.is_some()
     {
         return Err(WordsFault::Refused);
@@ -285,6 +314,7 @@ fn light_by(alloc: Global, line: &Line<'_>) -> Result<Command, WordsFault>
         || line.limit.is_some()
         || line.port.is_some()
         || line.formats.is_some()
+        || is_written(line.source)
     {
         return Err(WordsFault::Refused);
     }

@@ -1,44 +1,115 @@
 //! The lines that tell why a service isn't accepted.
-ghost use Rattle.std.specs.Prelude.{◌≡◌, ◌++◌, [], map, decimal, slice_get, unwrap_or, IfOk, OnOk};
+ghost use Rattle.std.specs.Prelude.{◌≡◌, ◌≢◌, ◌++◌, List, [], map, decimal, slice_get, unwrap_or, IfOk, OnOk};
+ghost use Rattle.bw_check.specs.declared.fault.CheckFault.TheVariants as checks;
+ghost use Rattle.bw_lang.specs.declared.declaration.Draft.{Draft as Draft_};
+ghost use Rattle.bigwig.specs.Behind.{AreShown, behind_facts, behind_points, drafts_in, shown_in, shown_of};
 ghost use Rattle.bigwig.specs.FaultLines as spec;
 ghost use Rattle.bigwig.specs.Lines as lines;
 ghost use Rattle.bigwig.specs.Questions.{line};
 ghost use Rattle.bigwig.specs.Reports.{SaysWhy};
 
 use crate::lines::{points_line, shown};
-use crate::loading::refused;
+use crate::sight::{Sight, push_behind_facts, push_behind_fault, push_behind_points, sight_of};
 use crate::status::Refusal;
 use crate::stop::Stop;
 use bw_check::CheckFault;
+use bw_diagnose::Paper;
 use bw_faults::{Fault, Faults};
 use bw_lang::{Memory, TemplateId, Text};
 use itoa::Buffer;
 use std::alloc::Global;
 
-/// Why the service isn't accepted, whose templates have these names. Want of memory has no line.
-pub fn check_stop(alloc: Global, names: &[Text], fault: &CheckFault) -> Stop
-    ensures { SaysWhy names.now fault.now result }
+/// Why the service isn't accepted, whose templates have these names. Where its text is shown, it is shown so. Want of memory
+/// has no line.
+pub fn check_stop(alloc: Global, names: &[Text], fault: &CheckFault, how: Option<Paper<'_>>) -> Stop
+    ensures { SaysWhy (shown_of how.entry) names.now fault.now result }
 {
-    match fault {
-        CheckFault::Refused(faults) => match fault_lines(alloc, names, faults) {
-            Ok(lines) => Stop::Says(Refusal::Service, lines),
-            Err(Memory) => Stop::Memory,
-        },
-        CheckFault::TooLarge(_) => refused(Refusal::Service, facts_line(alloc)),
-        CheckFault::TooMany(points) => refused(Refusal::Service, points_line(alloc, *points)),
-        CheckFault::Memory => Stop::Memory,
+    match shown_stop(alloc, names, fault, how) {
+        Ok(text) => Stop::Says(Refusal::Service, text),
+        Err(Memory) => Stop::Memory,
     }
 }
 
-/// A line for each fault.
-fn fault_lines(alloc: Global, names: &[Text], faults: &Faults) -> Result<Vec<u8>, Memory>
-    ensures { IfOk result (λ text. text.items ≡ spec.fault_lines names.now faults.now) }
+/// The lines that say so.
+fn shown_stop(
+    alloc: Global,
+    names: &[Text],
+    fault: &CheckFault,
+    how: Option<Paper<'_>>,
+) -> Result<Vec<u8>, Memory>
+    ensures text { IfOk result (λ text. (drafts : List Draft_) × AreShown (shown_of how.entry) drafts
+        × (text.items ≡ spec.check_text (shown_of how.entry) drafts names.now fault.now)) }
+    ensures reason { IfOk result (λ text. fault.now ≢ checks.Memory) }
+{
+    let sight = sight_of(alloc, how)?;
+    check_lines(alloc, names, fault, &sight)
+}
+
+/// The same, with the text that is shown.
+fn check_lines(
+    alloc: Global,
+    names: &[Text],
+    fault: &CheckFault,
+    sight: &Option<Sight<'_>>,
+) -> Result<Vec<u8>, Memory>
+    ensures text { IfOk result (λ text. text.items ≡ spec.check_text (shown_in sight.now) (drafts_in sight.now) names.now fault.now) }
+    ensures reason { IfOk result (λ text. fault.now ≢ checks.Memory) }
+{
+    match fault {
+        CheckFault::Refused(faults) => fault_lines(alloc, names, faults, sight),
+        CheckFault::TooLarge(_) => facts_text(alloc, sight),
+        CheckFault::TooMany(points) => points_text(alloc, *points, sight),
+        CheckFault::Memory => Err(Memory),
+    }
+}
+
+/// There are too many facts.
+fn facts_text(alloc: Global, sight: &Option<Sight<'_>>) -> Result<Vec<u8>, Memory>
+    ensures { IfOk result (λ text. text.items ≡ line spec.facts_line ++ behind_facts (shown_in sight.now)) }
+{
+    let mut text = b"too many facts\n".to_vec(alloc)?;
+    push_behind_facts(&mut text, sight)?;
+    Ok(text)
+}
+
+/// There are too many points.
+fn points_text(alloc: Global, points: u64, sight: &Option<Sight<'_>>) -> Result<Vec<u8>, Memory>
+    ensures { IfOk result (λ text. text.items ≡ line (lines.points_line points) ++ behind_points (shown_in sight.now)) }
+{
+    let mut text = points_line(alloc, points)?;
+    text.push(b'\n')?;
+    push_behind_points(&mut text, sight)?;
+    Ok(text)
+}
+
+/// A line for each fault, and what is shown behind it.
+fn fault_lines(
+    alloc: Global,
+    names: &[Text],
+    faults: &Faults,
+    sight: &Option<Sight<'_>>,
+) -> Result<Vec<u8>, Memory>
+    ensures { IfOk result (λ text. text.items ≡ spec.fault_lines (shown_in sight.now) (drafts_in sight.now) names.now faults.now) }
 {
     let mut text = Vec::new(alloc);
     for fault in faults.as_slice() {
-        push_fault(&mut text, names, fault)?;
+        push_shown_fault(&mut text, alloc, names, fault, sight)?;
     }
     Ok(text)
+}
+
+/// One line more, of a fault, and what is shown behind it.
+fn push_shown_fault(
+    text: &mut Vec<u8>,
+    alloc: Global,
+    names: &[Text],
+    fault: &Fault,
+    sight: &Option<Sight<'_>>,
+) -> Result<(), Memory>
+    ensures { OnOk result (text.new.items ≡ text.old.items ++ spec.fault_text (shown_in sight.now) (drafts_in sight.now) names.now fault.now) }
+{
+    push_fault(text, names, fault)?;
+    push_behind_fault(text, alloc, sight, fault)
 }
 
 /// One line more, of a fault.
@@ -113,11 +184,4 @@ fn push_shown(text: &mut Vec<u8>, name: &[u8]) -> Result<(), Memory>
         text.push(shown(byte))?;
     }
     Ok(())
-}
-
-/// There are too many facts.
-fn facts_line(alloc: Global) -> Result<Vec<u8>, Memory>
-    ensures { IfOk result (λ line. line.items ≡ spec.facts_line) }
-{
-    Ok(b"too many facts".to_vec(alloc)?)
 }

@@ -1,25 +1,39 @@
 //! What the files give: the service.
-ghost use Rattle.std.specs.Prelude.{◌≡◌, ◌≢◌, List, ℕ, IfOk, IfErr, IfSome, IsErrOf, take, Some};
+ghost use Rattle.std.specs.Prelude.{◌≡◌, ◌≢◌, ◌++◌, List, ℕ, IfOk, IfErr, IfSome, IsErrOf, take, Some};
 ghost use Rattle.bw_lang.specs.Service.Reads.{IsReadable};
+ghost use Rattle.bw_lang.specs.declared.declaration.Draft.{Draft as Draft_};
 ghost use Rattle.bw_out.specs.Causes.{Shows};
+ghost use Rattle.bw_syntax.specs.declared.fault.SyntaxFault.TheVariants as faults;
+ghost use Rattle.bw_types.specs.declared.fault.TypeFault.TheVariants as types;
 ghost use Rattle.bigwig.specs.Asked.{file, typed, service_text, service_file};
+ghost use Rattle.bigwig.specs.Behind.{shown_of, shown_file, AreShown, IsBlamed, behind_syntax, behind_type};
 ghost use Rattle.bigwig.specs.Lines as lines;
-ghost use Rattle.bigwig.specs.Questions.{IsAnswer, IsStop};
-ghost use Rattle.bigwig.specs.Reports.{SaysLine};
+ghost use Rattle.bigwig.specs.Questions.{IsAnswer, IsStop, line};
+ghost use Rattle.bigwig.specs.Reports.{SaysLine, SaysText};
 ghost use Rattle.bigwig.specs.declared.status.Refusal.TheVariants as refusals;
 
 use crate::lines::{no_file_line, syntax_line, type_line};
+use crate::sight::{push_behind_syntax, push_behind_type, shown_as, sight_of};
 use crate::status::Refusal;
 use crate::stop::Stop;
+use bw_blame::{Blamed, blame};
+use bw_diagnose::Paper;
 use bw_lang::limits::MAX_FILE_BYTES;
 use bw_lang::{Memory, Service};
 use bw_out::{Failed, Files, ReadStop, read_up_to};
-use bw_syntax::read_service;
-use bw_types::{Typed, resolve};
+use bw_syntax::{SyntaxFault, read_service};
+use bw_types::{TypeFault, Typed, resolve};
 use std::alloc::Global;
 
 /// One byte more than a service file may have.
 const SERVICE_FRONT: usize = MAX_FILE_BYTES + 1;
+
+/// A service that is well typed, with the text of its file.
+#[derive(Drop)]
+pub struct Loaded {
+    pub typed: Typed,
+    pub text: Vec<u8>,
+}
 
 /// That this is refused, or isn't there, with the line that says why.
 pub fn refused(refusal: Refusal, line: Result<Vec<u8>, Memory>) -> Stop
@@ -79,35 +93,111 @@ pub fn fetch_bytes<F: Files>(
     }
 }
 
-/// The service of a file, which is closed again: of its first 1,048,577 bytes, which tell what all of them are.
-pub fn load_service<F: Files>(alloc: Global, files: &mut F, name: &str) -> Result<Typed, Stop>
-    ensures answers { IfSome (F.told files.old) (λ disk. IsAnswer (λ t. t.service) (service_file disk name.now) result) }
+/// That this is refused, with a text that has its ends of lines.
+pub fn refused_text(refusal: Refusal, text: Result<Vec<u8>, Memory>) -> Stop
+    ensures text { IfOk text (λ t. SaysText refusal t.items result) }
+    ensures memory { IfErr text (λ e. result ≡ Stop.Memory) }
+    ensures no_read { result ≢ Stop.ReadFault }
+{
+    match text {
+        Ok(text) => Stop::Says(refusal, text),
+        Err(Memory) => Stop::Memory,
+    }
+}
+
+/// The service of a file, which is closed again: of its first 1,048,577 bytes, which tell what all of them are. Where it is
+/// refused and `source` is set, its source is shown.
+pub fn load_service<F: Files>(
+    alloc: Global,
+    files: &mut F,
+    name: &str,
+    source: bool,
+) -> Result<Loaded, Stop>
+    ensures answers { IfSome (F.told files.old) (λ disk.
+        IsAnswer (λ l. l.typed.service) (service_file (shown_file source disk name.now) disk name.now) result) }
+    ensures text { IfOk result (λ l. IfSome (F.told files.old) (λ disk. disk name.now ≡ Some l.text.items)) }
     ensures told { F.told files.new ≡ F.told files.old }
     ensures read_fault { Shows (IsErrOf result Stop.ReadFault) (F.faults files.old) (F.faults files.new) }
 {
-    let bytes = fetch_bytes(alloc, files, name, SERVICE_FRONT)?;
-    typed_of(alloc, &bytes)
+    let text = fetch_bytes(alloc, files, name, SERVICE_FRONT)?;
+    match typed_of(alloc, &text, shown_as(source, name, &text)) {
+        Ok(typed) => Ok(Loaded { typed, text }),
+        Err(stop) => Err(stop),
+    }
 }
 
 /// The service that these bytes read as, where it is well typed.
-pub fn typed_of(alloc: Global, bytes: &[u8]) -> Result<Typed, Stop>
-    ensures answers { IsAnswer (λ t. t.service) (service_text bytes.now) result }
+pub fn typed_of(alloc: Global, bytes: &[u8], how: Option<Paper<'_>>) -> Result<Typed, Stop>
+    ensures answers { IsAnswer (λ t. t.service) (service_text (shown_of how.entry) bytes.now) result }
     ensures no_read { IsErrOf result Stop.ReadFault → ⊥ }
 {
     match read_service(alloc, bytes) {
-        Ok(service) => resolved(alloc, service),
-        Err(fault) => Err(refused(Refusal::Service, syntax_line(alloc, &fault))),
+        Ok(service) => resolved(alloc, service, how),
+        Err(fault) => Err(refused_text(Refusal::Service, syntax_text(alloc, how, &fault))),
     }
 }
 
-/// A service, where it is well typed.
-fn resolved(alloc: Global, service: Service) -> Result<Typed, Stop>
+/// The line of a text that is read as no service, and what is shown behind it. Want of memory has no line.
+fn syntax_text(
+    alloc: Global,
+    how: Option<Paper<'_>>,
+    fault: &SyntaxFault,
+) -> Result<Vec<u8>, Memory>
+    ensures text { IfOk result (λ text. text.items ≡ line (lines.syntax_line fault.now) ++ behind_syntax (shown_of how.entry) fault.now) }
+    ensures reason { IfOk result (λ text. fault.now ≢ faults.Memory) }
+{
+    let mut text = syntax_line(alloc, fault)?;
+    text.push(b'\n')?;
+    push_behind_syntax(&mut text, alloc, how, fault)?;
+    Ok(text)
+}
+
+/// A service, where it is well typed. What its first test that fails is about is sought first, where it is shown: a
+/// refusal drops the service.
+fn resolved(alloc: Global, service: Service, how: Option<Paper<'_>>) -> Result<Typed, Stop>
     requires { IsReadable service }
-    ensures answers { IsAnswer (λ t. t.service) (typed service) result }
+    ensures answers { IsAnswer (λ t. t.service) (typed (shown_of how.entry) service) result }
     ensures no_read { IsErrOf result Stop.ReadFault → ⊥ }
 {
+    let Ok(blamed) = blamed_if(alloc, &service, how) else {
+        drop(service);
+        return Err(Stop::Memory);
+    };
     match resolve(alloc, service) {
         Ok(typed) => Ok(typed),
-        Err(fault) => Err(refused(Refusal::Service, type_line(alloc, &fault))),
+        Err(fault) => Err(refused_text(Refusal::Service, type_text(alloc, how, blamed, &fault))),
     }
+}
+
+/// What the first test that fails is about, where it is shown.
+fn blamed_if(
+    alloc: Global,
+    service: &Service,
+    how: Option<Paper<'_>>,
+) -> Result<Option<Blamed>, Memory>
+    requires { IsReadable service.now }
+    ensures { IfOk result (IsBlamed (shown_of how.entry) service.now) }
+{
+    match how {
+        Some(_) => blame(alloc, service),
+        None => Ok(None),
+    }
+}
+
+/// The line of a service that isn't well typed, and what is shown behind it. Want of memory has no line.
+fn type_text(
+    alloc: Global,
+    how: Option<Paper<'_>>,
+    blamed: Option<Blamed>,
+    fault: &TypeFault,
+) -> Result<Vec<u8>, Memory>
+    ensures text { IfOk result (λ text. (drafts : List Draft_) × AreShown (shown_of how.entry) drafts
+        × (text.items ≡ line (lines.type_line fault.now) ++ behind_type (shown_of how.entry) drafts blamed fault.now)) }
+    ensures reason { IfOk result (λ text. fault.now ≢ types.Memory) }
+{
+    let sight = sight_of(alloc, how)?;
+    let mut text = type_line(alloc, fault)?;
+    text.push(b'\n')?;
+    push_behind_type(&mut text, alloc, &sight, blamed, fault)?;
+    Ok(text)
 }

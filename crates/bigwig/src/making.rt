@@ -12,6 +12,7 @@ ghost use Rattle.bigwig.specs.Questions.{IsAnswer, line};
 ghost use Rattle.bw_make.specs.declared.TheConstants.{MAX_PAGES};
 
 use crate::checking::{Served, made_checked};
+use crate::lent::Tools;
 use crate::report::{print_text, report};
 use crate::status::Status;
 use crate::stop::Stop;
@@ -29,12 +30,10 @@ use std::thread::Threads;
 
 /// `make`: makes a service of so many pages, checks it, runs its turns and prints what they sent.
 pub fn make_command<R: Threads + Sync, W: Sink, P: Pulse>(
-    rt: &R,
-    alloc: Global,
+    tools: &Tools<R, P>,
     count: u32,
     workers: u32,
     out: &mut W,
-    pulse: &P,
 ) -> Status
     requires count { (1 ≤ count) × (count ≤ MAX_PAGES) }
     requires workers { AreWorkers workers }
@@ -42,7 +41,7 @@ pub fn make_command<R: Threads + Sync, W: Sink, P: Pulse>(
     ensures others { (result ≢ Status.Usage) × ((result ≢ Status.ReadFault) × (result ≢ Status.DoorFault)) }
     ensures write_fault { Shows (result ≡ Status.WriteFault) (W.write_faults out.old) (W.write_faults out.new) }
 {
-    match made_text(rt, alloc, count, workers, pulse) {
+    match made_text(tools, count, workers) {
         Ok(text) => print_text(out, Status::Done, &text),
         Err(stop) => report(out, stop),
     }
@@ -50,24 +49,22 @@ pub fn make_command<R: Threads + Sync, W: Sink, P: Pulse>(
 
 /// What is printed of a made service.
 fn made_text<R: Threads + Sync, P: Pulse>(
-    rt: &R,
-    alloc: Global,
+    tools: &Tools<R, P>,
     count: u32,
     workers: u32,
-    pulse: &P,
 ) -> Result<Vec<u8>, Stop>
     requires count { (1 ≤ count) × (count ≤ MAX_PAGES) }
     requires workers { AreWorkers workers }
     ensures answers { IsAnswer (λ text. prints text.items) (made_work count) result }
     ensures no_read { IsErrOf result Stop.ReadFault → ⊥ }
 {
-    let Ok(text) = make(alloc, count) else {
+    let Ok(text) = make(tools.alloc, count) else {
         return Err(Stop::Memory);
     };
-    let served = made_checked(rt, alloc, text.as_bytes(), workers, pulse)?;
+    let served = made_checked(tools, text.as_bytes(), workers)?;
     let Served { checked, formats } = served;
     drop(formats);
-    match turns::<Brand>(alloc, checked, count, text.len(), Blank::new(1)) {
+    match turns::<Brand>(tools.alloc, checked, count, text.len(), Blank::new(1)) {
         Ok(lines) => Ok(lines),
         Err(Memory) => Err(Stop::Memory),
     }

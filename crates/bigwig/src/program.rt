@@ -5,12 +5,14 @@ ghost use Rattle.bw_out.specs.Told.{AreWords};
 ghost use Rattle.bigwig.specs.Asked.{asked, work};
 ghost use Rattle.bigwig.specs.Commands.{command_of, AreWorkers, IsInRange};
 ghost use Rattle.bigwig.specs.Headline.{Headline};
+ghost use Rattle.bigwig.specs.Lent.{AreSame, HasCauses, faults_of, seen_of};
 ghost use Rattle.bigwig.specs.Outcomes.{Comes, Speaks, outside};
 ghost use Rattle.bigwig.specs.declared.command.Command.TheVariants as commands;
 
 use crate::checking::load_accepted;
-use crate::command::{Command, Judging, read_words};
+use crate::command::{Command, Judging, Named, read_words};
 use crate::judging::load_valid;
+use crate::lent::{Lent, Tools};
 use crate::lighting::load_lights;
 use crate::making::make_command;
 use crate::replaying::replay_command;
@@ -69,37 +71,55 @@ pub fn run<R: Threads + Sync, F: Files, D: Door, K: Keys, W: Sink, P: Pulse, L: 
     ensures write_fault { Shows (result ≡ Status.WriteFault) (W.write_faults out.old) (W.write_faults out.new) }
     ensures door_fault { Shows (result ≡ Status.DoorFault) (D.faults door.old) (D.faults door.new) }
 {
-    match read_words(alloc, words) {
-        Ok(command) => obey(rt, alloc, &command, files, door, keys, out, pulse, steps),
-        Err(WordsFault::Refused) => print_line(out, Status::Usage, USAGE),
+    let tools = Tools { rt, alloc, pulse };
+    let mut lent = Lent {
+        files,
+        door,
+        keys,
+        out,
+        steps,
+    };
+    obey_words(&tools, words, &mut lent)
+}
+
+/// Reads the words, and does what they ask for.
+fn obey_words<R: Threads + Sync, F: Files, D: Door, K: Keys, W: Sink, P: Pulse, L: Ledger>(
+    tools: &Tools<R, P>,
+    words: &Words,
+    lent: &mut Lent<F, D, K, W, Steps<L>>,
+) -> Status
+    ensures comes { IfSome (F.told lent.old.files.now) (λ disk. Comes (asked words.now disk)
+        (seen_of F.Files D.Door K.Keys W.Channel lent.old) (seen_of F.Files D.Door K.Keys W.Channel lent.new) result) }
+    ensures headline { IfSome (F.told lent.old.files.now) (λ disk. Headline words.now disk
+        (seen_of F.Files D.Door K.Keys W.Channel lent.old) (seen_of F.Files D.Door K.Keys W.Channel lent.new) result) }
+    ensures usage { command_of words.now ≡ None → (result ≡ Status.Usage) ⊎ ((result ≡ Status.WriteFault) ⊎ (result ≡ Status.Memory)) }
+    ensures usage_only { result ≡ Status.Usage → command_of words.now ≡ None }
+    ensures causes { HasCauses result (faults_of F.Files D.Door W.Channel lent.old) (faults_of F.Files D.Door W.Channel lent.new) }
+    ensures same { AreSame lent.old lent.new }
+{
+    match read_words(tools.alloc, words) {
+        Ok(command) => obey(tools, &command, lent),
+        Err(WordsFault::Refused) => print_line(lent.out, Status::Usage, USAGE),
         Err(WordsFault::Memory) => Status::Memory,
     }
 }
 
 /// Does what a command asks for.
 fn obey<R: Threads + Sync, F: Files, D: Door, K: Keys, W: Sink, P: Pulse, L: Ledger>(
-    rt: &R,
-    alloc: Global,
+    tools: &Tools<R, P>,
     command: &Command,
-    files: &mut F,
-    door: &mut D,
-    keys: &mut K,
-    out: &mut W,
-    pulse: &P,
-    steps: &mut Steps<L>,
+    lent: &mut Lent<F, D, K, W, Steps<L>>,
 ) -> Status
     requires { IsInRange command.now }
-    ensures comes { IfSome (F.told files.old) (λ disk. Comes (work disk command.now)
-        (outside (W.held out.old) (K.coming keys.old) (D.asked door.old) (D.coming door.old) (D.returned door.old) (F.unread files.old) steps.old)
-        (outside (W.held out.new) (K.coming keys.new) (D.asked door.new) (D.coming door.new) (D.returned door.new) (F.unread files.new) steps.new) result) }
+    ensures comes { IfSome (F.told lent.old.files.now) (λ disk. Comes (work disk command.now)
+        (seen_of F.Files D.Door K.Keys W.Channel lent.old) (seen_of F.Files D.Door K.Keys W.Channel lent.new) result) }
     ensures not_usage { result ≢ Status.Usage }
-    ensures read_fault { Shows (result ≡ Status.ReadFault) (F.faults files.old) (F.faults files.new) }
-    ensures write_fault { Shows (result ≡ Status.WriteFault) (W.write_faults out.old) (W.write_faults out.new) }
-    ensures door_fault { Shows (result ≡ Status.DoorFault) (D.faults door.old) (D.faults door.new) }
+    ensures causes { HasCauses result (faults_of F.Files D.Door W.Channel lent.old) (faults_of F.Files D.Door W.Channel lent.new) }
+    ensures same { AreSame lent.old lent.new }
 {
     match command {
         Command::Check { service, judging } => {
-            check_command(rt, alloc, service, judging, files, out, pulse)
+            check_command(tools, service, judging, lent.files, lent.out)
         }
         Command::Replay {
             service,
@@ -107,34 +127,45 @@ fn obey<R: Threads + Sync, F: Files, D: Door, K: Keys, W: Sink, P: Pulse, L: Led
             judging,
             formats,
             most,
-        } => replay_command(
-            rt, alloc, service, requests, judging, formats, *most, files, keys, out, pulse, steps,
-        ),
+        } => {
+            let named = Named {
+                service,
+                judging,
+                formats,
+            };
+            replay_command(tools, named, requests, *most, lent)
+        }
         Command::Serve {
             service,
             judging,
             formats,
             port,
             most,
-        } => serve_command(
-            rt, alloc, service, judging, formats, *port, *most, files, door, keys, out, pulse,
-            steps,
-        ),
-        Command::Valid { page, schema } => valid_command(alloc, page, schema, files, out),
-        Command::Make { count, workers } => make_command(rt, alloc, *count, *workers, out, pulse),
-        Command::Light { formats, texts } => light_command(alloc, formats, texts, files, out),
+        } => {
+            let named = Named {
+                service,
+                judging,
+                formats,
+            };
+            serve_command(tools, named, *port, *most, lent)
+        }
+        Command::Valid { page, schema } => {
+            valid_command(tools.alloc, page, schema, lent.files, lent.out)
+        }
+        Command::Make { count, workers } => make_command(tools, *count, *workers, lent.out),
+        Command::Light { formats, texts } => {
+            light_command(tools.alloc, formats, texts, lent.files, lent.out)
+        }
     }
 }
 
 /// `check`: says whether a service is accepted.
 fn check_command<R: Threads + Sync, F: Files, W: Sink, P: Pulse>(
-    rt: &R,
-    alloc: Global,
+    tools: &Tools<R, P>,
     service: &Text,
     judging: &Judging,
     files: &mut F,
     out: &mut W,
-    pulse: &P,
 ) -> Status
     requires { AreWorkers judging.now.workers }
     ensures comes { IfSome (F.told files.old) (λ disk. Speaks (work disk (commands.Check service.now judging.now))
@@ -143,7 +174,7 @@ fn check_command<R: Threads + Sync, F: Files, W: Sink, P: Pulse>(
     ensures read_fault { Shows (result ≡ Status.ReadFault) (F.faults files.old) (F.faults files.new) }
     ensures write_fault { Shows (result ≡ Status.WriteFault) (W.write_faults out.old) (W.write_faults out.new) }
 {
-    match load_accepted(rt, alloc, files, service.as_str(), judging, pulse) {
+    match load_accepted(tools, files, service, judging) {
         Ok(()) => print_line(out, Status::Done, b"accepted"),
         Err(stop) => report(out, stop),
     }

@@ -8,18 +8,19 @@ ghost use Rattle.bw_world.specs.Stands.{StandsFor};
 ghost use Rattle.bigwig.specs.Asked.{Ruled, at_port, work};
 ghost use Rattle.bigwig.specs.Checks.{IsRuled, IsFitWorld};
 ghost use Rattle.bigwig.specs.Commands.{AreWorkers};
+ghost use Rattle.bigwig.specs.Lent.{AreSame, HasCauses, faults_of, seen_of};
 ghost use Rattle.bigwig.specs.Outcomes.{Comes, ServesLinks, outside, serving_line};
 ghost use Rattle.bigwig.specs.declared.command.Command.TheVariants as commands;
 
 use crate::checking::{Served, load_checked};
-use crate::command::Judging;
+use crate::command::Named;
+use crate::lent::{Lent, Tools};
 use crate::report::report;
+use crate::server::Server;
 use crate::status::Status;
-use bw_format::Formats;
-use bw_http::Intake;
 use bw_lang::{Memory, Text};
 use bw_out::{Door, Failed, Files, Keys, Pulse, Sink, Steps, WriteFault, write_parts};
-use bw_world::{World, answer};
+use bw_world::answer;
 use itoa::Buffer;
 use std::alloc::Global;
 use std::sync::ledger::Ledger;
@@ -27,135 +28,74 @@ use std::thread::Threads;
 
 /// `serve`: serves the links of a port.
 pub fn serve_command<R: Threads + Sync, F: Files, D: Door, K: Keys, W: Sink, P: Pulse, L: Ledger>(
-    rt: &R,
-    alloc: Global,
-    service: &Text,
-    judging: &Judging,
-    formats: &Option<Text>,
+    tools: &Tools<R, P>,
+    named: Named<'_, '_, '_>,
     port: u16,
     most: u32,
-    files: &mut F,
-    door: &mut D,
-    keys: &mut K,
-    out: &mut W,
-    pulse: &P,
-    steps: &mut Steps<L>,
+    lent: &mut Lent<F, D, K, W, Steps<L>>,
 ) -> Status
-    requires { AreWorkers judging.now.workers }
-    ensures comes { IfSome (F.told files.old) (λ disk. Comes (work disk (commands.Serve service.now judging.now formats.now port most))
-        (outside (W.held out.old) (K.coming keys.old) (D.asked door.old) (D.coming door.old) (D.returned door.old) (F.unread files.old) steps.old)
-        (outside (W.held out.new) (K.coming keys.new) (D.asked door.new) (D.coming door.new) (D.returned door.new) (F.unread files.new) steps.new) result) }
+    requires { AreWorkers named.judging.now.workers }
+    ensures comes { IfSome (F.told lent.old.files.now) (λ disk.
+        Comes (work disk (commands.Serve named.entry.service.now named.entry.judging.now named.entry.formats.now port most))
+        (seen_of F.Files D.Door K.Keys W.Channel lent.old) (seen_of F.Files D.Door K.Keys W.Channel lent.new) result) }
     ensures not_usage { result ≢ Status.Usage }
-    ensures read_fault { Shows (result ≡ Status.ReadFault) (F.faults files.old) (F.faults files.new) }
-    ensures write_fault { Shows (result ≡ Status.WriteFault) (W.write_faults out.old) (W.write_faults out.new) }
-    ensures door_fault { Shows (result ≡ Status.DoorFault) (D.faults door.old) (D.faults door.new) }
+    ensures causes { HasCauses result (faults_of F.Files D.Door W.Channel lent.old) (faults_of F.Files D.Door W.Channel lent.new) }
+    ensures same { AreSame lent.old lent.new }
 {
-    match load_checked(rt, alloc, files, service.as_str(), judging, formats, pulse) {
-        Ok(served) => serve_service(alloc, served, port, most, door, keys, out, steps),
-        Err(stop) => report(out, stop),
+    match load_checked(tools, lent.files, named) {
+        Ok(served) => serve_service(tools.alloc, served, port, most, lent),
+        Err(stop) => report(lent.out, stop),
     }
 }
 
-/// Serves links from the world in which nothing was requested yet. The memory for it is taken first.
-fn serve_service<D: Door, K: Keys, W: Sink, L: Ledger>(
+/// Serves links from the world in which nothing was requested yet.
+fn serve_service<F: Files, D: Door, K: Keys, W: Sink, L: Ledger>(
     alloc: Global,
     served: Served,
     port: u16,
     most: u32,
-    door: &mut D,
-    keys: &mut K,
-    out: &mut W,
-    steps: &mut Steps<L>,
+    lent: &mut Lent<F, D, K, W, Steps<L>>,
 ) -> Status
     ensures comes { (ruled : Ruled) (u v : Option (List ℕ)) → IsRuled served.checked.typed.service served.formats ruled → Comes (at_port port most ruled)
-        (outside (W.held out.old) (K.coming keys.old) (D.asked door.old) (D.coming door.old) (D.returned door.old) u steps.old)
-        (outside (W.held out.new) (K.coming keys.new) (D.asked door.new) (D.coming door.new) (D.returned door.new) v steps.new) result }
-    ensures others { (result ≢ Status.Usage) × (result ≢ Status.ReadFault) }
-    ensures write_fault { Shows (result ≡ Status.WriteFault) (W.write_faults out.old) (W.write_faults out.new) }
-    ensures door_fault { Shows (result ≡ Status.DoorFault) (D.faults door.old) (D.faults door.new) }
+        (record (seen_of F.Files D.Door K.Keys W.Channel lent.old) { unread = u })
+        (record (seen_of F.Files D.Door K.Keys W.Channel lent.new) { unread = v }) result }
+    ensures not_usage { result ≢ Status.Usage }
+    ensures causes { HasCauses result (faults_of F.Files D.Door W.Channel lent.old) (faults_of F.Files D.Door W.Channel lent.new) }
+    ensures files { lent.new.files.now ≡ lent.old.files.now }
+    ensures same { AreSame lent.old lent.new }
 {
-    let Served { checked, formats } = served;
-    match World::new(alloc, checked) {
-        Ok(mut world) => {
-            let status = serve_world(
-                alloc, &mut world, &formats, port, most, door, keys, out, steps,
-            );
-            drop(world);
-            drop(formats);
+    match Server::new(alloc, served) {
+        Ok(mut server) => {
+            let status = serve_port(&mut server, port, most, lent);
+            drop(server);
             status
         }
-        Err(Memory) => {
-            drop(formats);
-            Status::Memory
-        }
-    }
-}
-
-/// The same in a world. The memory for reading is taken first.
-fn serve_world<D: Door, K: Keys, W: Sink, L: Ledger>(
-    alloc: Global,
-    world: &mut World,
-    formats: &Formats,
-    port: u16,
-    most: u32,
-    door: &mut D,
-    keys: &mut K,
-    out: &mut W,
-    steps: &mut Steps<L>,
-) -> Status
-    requires stands { StandsFor world.old (model.empty world.old.service) }
-    requires sound { BeginsSound world.old.service }
-    ensures comes { (ruled : Ruled) (u v : Option (List ℕ)) → IsRuled world.old.service formats.now ruled → Comes (at_port port most ruled)
-        (outside (W.held out.old) (K.coming keys.old) (D.asked door.old) (D.coming door.old) (D.returned door.old) u steps.old)
-        (outside (W.held out.new) (K.coming keys.new) (D.asked door.new) (D.coming door.new) (D.returned door.new) v steps.new) result }
-    ensures others { (result ≢ Status.Usage) × (result ≢ Status.ReadFault) }
-    ensures write_fault { Shows (result ≡ Status.WriteFault) (W.write_faults out.old) (W.write_faults out.new) }
-    ensures door_fault { Shows (result ≡ Status.DoorFault) (D.faults door.old) (D.faults door.new) }
-{
-    match Intake::new(alloc) {
-        Ok(mut intake) => serve_port(
-            alloc,
-            world,
-            formats,
-            &mut intake,
-            port,
-            most,
-            door,
-            keys,
-            out,
-            steps,
-        ),
         Err(Memory) => Status::Memory,
     }
 }
 
-/// The same with an intake: listens, prints the line that says so, and then serves links.
-fn serve_port<D: Door, K: Keys, W: Sink, L: Ledger>(
-    alloc: Global,
-    world: &mut World,
-    formats: &Formats,
-    intake: &mut Intake,
+/// The same by a server that has answered nothing yet: listens, prints the line that says so, and then serves links.
+fn serve_port<F: Files, D: Door, K: Keys, W: Sink, L: Ledger>(
+    server: &mut Server,
     port: u16,
     most: u32,
-    door: &mut D,
-    keys: &mut K,
-    out: &mut W,
-    steps: &mut Steps<L>,
+    lent: &mut Lent<F, D, K, W, Steps<L>>,
 ) -> Status
-    requires stands { StandsFor world.old (model.empty world.old.service) }
-    requires sound { BeginsSound world.old.service }
-    ensures comes { (ruled : Ruled) (u v : Option (List ℕ)) → IsRuled world.old.service formats.now ruled → Comes (at_port port most ruled)
-        (outside (W.held out.old) (K.coming keys.old) (D.asked door.old) (D.coming door.old) (D.returned door.old) u steps.old)
-        (outside (W.held out.new) (K.coming keys.new) (D.asked door.new) (D.coming door.new) (D.returned door.new) v steps.new) result }
-    ensures others { (result ≢ Status.Usage) × (result ≢ Status.ReadFault) }
-    ensures write_fault { Shows (result ≡ Status.WriteFault) (W.write_faults out.old) (W.write_faults out.new) }
-    ensures door_fault { Shows (result ≡ Status.DoorFault) (D.faults door.old) (D.faults door.new) }
+    requires stands { StandsFor server.old.world (model.empty server.old.world.service) }
+    requires sound { BeginsSound server.old.world.service }
+    ensures comes { (ruled : Ruled) (u v : Option (List ℕ)) → IsRuled server.old.world.service server.old.formats ruled → Comes (at_port port most ruled)
+        (record (seen_of F.Files D.Door K.Keys W.Channel lent.old) { unread = u })
+        (record (seen_of F.Files D.Door K.Keys W.Channel lent.new) { unread = v }) result }
+    ensures not_usage { result ≢ Status.Usage }
+    ensures causes { HasCauses result (faults_of F.Files D.Door W.Channel lent.old) (faults_of F.Files D.Door W.Channel lent.new) }
+    ensures files { lent.new.files.now ≡ lent.old.files.now }
+    ensures same { AreSame lent.old lent.new }
 {
-    match door.listen(port) {
+    match lent.door.listen(port) {
         Err(Failed) => Status::DoorFault,
-        Ok(()) => match print_serving(out, port) {
+        Ok(()) => match print_serving(lent.out, port) {
             Err(WriteFault) => Status::WriteFault,
-            Ok(()) => serve_links(alloc, world, formats, intake, door, keys, most, steps),
+            Ok(()) => serve_links(server, lent.door, lent.keys, most, lent.steps),
         },
     }
 }
@@ -174,16 +114,14 @@ fn print_serving<W: Sink>(out: &mut W, port: u16) -> Result<(), WriteFault>
 /// Serves up to `most` links of a door over one world: answers one message of each. Each link is given back before the
 /// next is asked for, after a fault on it too, which ends that link alone.
 fn serve_links<D: Door, K: Keys, L: Ledger>(
-    alloc: Global,
-    world: &mut World,
-    formats: &Formats,
-    intake: &mut Intake,
+    server: &mut Server,
     door: &mut D,
     keys: &mut K,
     most: u32,
     steps: &mut Steps<L>,
 ) -> Status
-    ensures serves { (ruled : Ruled) (m : model.World) → IsRuled world.old.service formats.now ruled → StandsFor world.old m → IsFitWorld ruled m
+    ensures serves { (ruled : Ruled) (m : model.World) → IsRuled server.old.world.service server.old.formats ruled → StandsFor server.old.world m
+        → IsFitWorld ruled m
         → ServesLinks ruled m most (outside None (K.coming keys.old) (D.asked door.old) (D.coming door.old) (D.returned door.old) None steps.old)
         (outside None (K.coming keys.new) (D.asked door.new) (D.coming door.new) (D.returned door.new) None steps.new) result }
     ensures ends { (result ≡ Status.Done) ⊎ (result ≡ Status.DoorFault) }
@@ -195,8 +133,17 @@ fn serve_links<D: Door, K: Keys, L: Ledger>(
             Err(Failed) => return Status::DoorFault,
             Ok(None) => return Status::Done,
             Ok(Some(mut link)) => {
-                intake.clear();
-                let _end = answer(alloc, world, formats, intake, &mut link, keys, 1, steps);
+                server.intake.clear();
+                let _end = answer(
+                    server.alloc,
+                    &mut server.world,
+                    &server.formats,
+                    &mut server.intake,
+                    &mut link,
+                    keys,
+                    1,
+                    steps,
+                );
                 door.give_back(link);
             }
         }

@@ -1,11 +1,11 @@
 //! The words of the command line, read by clap.
 ghost use Rattle.std.specs.Prelude.{◌≡◌, ◌≢◌, [], map, IfOk, IsErrOf};
 ghost use Rattle.clap.specs.Words.{app_of, with_rule, new_rule, matches_of, found_of, rows_of};
-ghost use Rattle.bigwig.specs.Words.{bare, bigwig, option_rule, IsTaken, written_in, written_by, line_of};
+ghost use Rattle.bigwig.specs.Words.{bare, bigwig, option_rule, flag_rule, IsTaken, written_in, written_by, line_of};
 
 use bw_lang::{Memory, Words};
 use clap::error::ErrorKind;
-use clap::{Arg, ArgMatches, Command};
+use clap::{Arg, ArgAction, ArgMatches, Command};
 use std::alloc::{AllocError, Global};
 
 /// The parts of a command line, as they are written.
@@ -19,6 +19,8 @@ pub struct Line<'a> {
     pub limit: Option<&'a str>,
     pub port: Option<&'a str>,
     pub formats: Option<&'a str>,
+    /// `true` where the source of a refusal is shown, and else `false`.
+    pub source: Option<&'a str>,
 }
 
 /// Why words give no line or no command.
@@ -52,6 +54,17 @@ fn with_option<'a>(
     command.arg(Arg::new(alloc, id).long(id))
 }
 
+/// One more option, which takes none.
+fn with_flag<'a>(
+    alloc: Global,
+    command: Command<'a>,
+    id: &'a str,
+) -> Result<Command<'a>, AllocError>
+    ensures { IfOk result (λ r. app_of r ≡ with_rule (app_of command.entry) (flag_rule id.entry.now)) }
+{
+    command.arg(Arg::new(alloc, id).long(id).action(ArgAction::SetTrue))
+}
+
 /// The command line without words and options. It asks for neither help nor a version.
 fn bare<'a>(alloc: Global) -> Command<'a>
     ensures { app_of result ≡ bare }
@@ -62,7 +75,7 @@ fn bare<'a>(alloc: Global) -> Command<'a>
         .disable_version_flag(true)
 }
 
-/// The whole command line: a command word, up to two further words and five options.
+/// The whole command line: a command word, up to two further words, five options and a flag.
 fn whole<'a>(alloc: Global) -> Result<Command<'a>, AllocError>
     ensures { IfOk result (λ r. app_of r ≡ bigwig) }
 {
@@ -73,7 +86,8 @@ fn whole<'a>(alloc: Global) -> Result<Command<'a>, AllocError>
     let c = with_option(alloc, c, "workers")?;
     let c = with_option(alloc, c, "limit")?;
     let c = with_option(alloc, c, "port")?;
-    with_option(alloc, c, "formats")
+    let c = with_option(alloc, c, "formats")?;
+    with_flag(alloc, c, "show-source")
 }
 
 /// The line of clap's matches.
@@ -89,6 +103,7 @@ fn line_of<'a>(matches: &ArgMatches<'a>) -> Line<'a>
         limit: matches.get_str("limit"),
         port: matches.get_str("port"),
         formats: matches.get_str("formats"),
+        source: matches.get_str("show-source"),
     }
 }
 

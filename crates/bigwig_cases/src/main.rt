@@ -33,6 +33,8 @@ enum Subject {
     Serves,
     /// Runs of the whole program that check services.
     Checks,
+    /// Runs of the whole program that show the source of services that are refused.
+    Sources,
     /// Runs of the whole program by services that are the names of the cases.
     Services,
     /// Reads and writes that are interrupted.
@@ -53,6 +55,7 @@ impl Subject {
             Subject::Sessions => "world.cases",
             Subject::Serves => "serve.cases",
             Subject::Checks => "check.cases",
+            Subject::Sources => "source.cases",
             Subject::Services => "services.cases",
             Subject::Retries => "retries.cases",
             Subject::Worlds => "worlds.cases",
@@ -63,11 +66,12 @@ impl Subject {
 }
 
 /// What is tried, in this order.
-const SUBJECTS: [Subject; 9] = [
+const SUBJECTS: [Subject; 10] = [
     Subject::Runs,
     Subject::Sessions,
     Subject::Serves,
     Subject::Checks,
+    Subject::Sources,
     Subject::Services,
     Subject::Retries,
     Subject::Worlds,
@@ -88,6 +92,7 @@ fn try_case<R: Threads + Sync>(
         | Subject::Sessions
         | Subject::Serves
         | Subject::Checks
+        | Subject::Sources
         | Subject::Examples
         | Subject::Formats => runs::try_case(rt, alloc, texts, case),
         Subject::Services => runs::try_service(rt, alloc, case),

@@ -5,12 +5,13 @@ pub const HELP: &str = "
 bigwig check SERVICE             says 'accepted', or each fault of the service's pages
   --schema FILE                  judges by the schema of this file; else by the built-in one
   --workers N                    judges with N threads at most, from 1 to 16; else with 1
+  --show-source                  shows behind each line where it is, what is wrong and how it is mended
 bigwig replay SERVICE REQUESTS   checks the service, and answers the requests of a file
-  --schema FILE, --workers N     as check has them
+  --schema FILE, --workers N     as check has them, and --show-source
   --formats FILE                 takes values in the formats of this file alone; else any values
   --limit N                      answers N requests at most, from 1 to 1000000; else 1000000
 bigwig serve SERVICE             checks the service, and serves it to browsers on this machine
-  --schema FILE, --workers N     as check has them
+  --schema FILE, --workers N     as check has them, and --show-source
   --formats FILE                 as replay has it
   --port N                       at this port, from 1 to 65535; else at 8080
   --limit N                      for N connections at most, from 1 to 1000000; else for 1000000

@@ -117,6 +117,12 @@ ended_quiet (group p) marks h = ended_quiet p marks h
 pub ended_first : (p : Pattern) → replicate (repeats p) false ≡ ended p (replicate (places p) false)
 ended_first p = sym (ended_quiet p (replicate (places p) false) (unmarked (places p)))
 
+-- and where it begins, it may end if it takes the empty text
+pub ends_first : (p : Pattern) → skips p ≡ ends p true (replicate (places p) false)
+ends_first p =
+    let none = replicate (places p) false in
+    sym (ends_entered p true none ∙ ap (λ b. b || (true && skips p)) (quiet_ends p none (unmarked (places p))))
+
 -- ---- parts
 
 pub length-ended : (p : Pattern) (marks : List Bool) → length (ended p marks) ≡ repeats p

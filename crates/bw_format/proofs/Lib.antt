@@ -14,3 +14,5 @@ pub mod Written
 pub mod FileLaws
 pub mod OneAnswer
 pub mod SomeAnswer
+pub mod Walks
+pub mod StepRuns

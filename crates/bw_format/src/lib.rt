@@ -10,6 +10,7 @@ pub mod limits;
 mod line;
 pub mod pattern;
 mod reader;
+mod steps;
 
 pub use file::{FormatFault, read_formats};
 pub use format::{Format, Formats};

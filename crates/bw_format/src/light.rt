@@ -1,12 +1,15 @@
 //! The light of a text.
-ghost use Rattle.std.specs.Prelude.{◌≡◌, ◌≤◌, length, chars, false, ◌∷◌, [], true, ◌&&◌, ◌||◌};
+ghost use Rattle.std.specs.Prelude.{◌≡◌, ◌≤◌, map, length, chars, cond, false, ◌∷◌, [], true, ◌&&◌, ◌||◌};
 ghost use Rattle.bw_format.specs.Marks as spec;
-ghost use Rattle.bw_format.specs.Classes.{holds};
+ghost use Rattle.bw_format.specs.Steps as layout;
 ghost use Rattle.bw_format.specs.Pattern.{places, repeats};
+ghost use Rattle.bw_format.specs.declared.light.Light.TheVariants as light;
 ghost use Rattle.bw_format.specs.declared.limits.TheConstants.{MAX_PATTERN_CHARS};
 
 use crate::limits::MAX_PATTERN_CHARS;
-use crate::pattern::{Class, Node, Pattern};
+use crate::pattern::{Node, Pattern};
+use crate::steps::{At, Step, Walk};
+use arrayvec::ArrayVec;
 
 /// How a text stands to a pattern.
 #[derive(Clone, Copy, Debug, PartialEq, Eq)]
@@ -34,18 +37,24 @@ fn put(marks: &mut [bool], mark: bool)
     marks[0] = mark;
 }
 
-/// Whether the place of a class takes the character, where the pattern may begin in front of it.
-fn takes(class: &Class, enter: bool, c: char) -> bool
-    ensures { result ≡ (enter && holds class.now c) }
-{
-    enter && class.holds(c)
-}
-
 /// Whether a repetition may begin, or begin again.
 fn may_begin(enter: bool, own: &[bool]) -> bool
     ensures { result ≡ (enter || spec.marked own.now) }
 {
     enter || is_marked(own)
+}
+
+/// The light of a text, where the pattern may end behind it or not, and may begin there or stands at its marks.
+fn light_at(ends: bool, enter: bool, marks: &[bool]) -> Light
+    ensures { result ≡ cond ends light.Green (cond (enter || spec.marked marks.now) light.Yellow light.Red) }
+{
+    if ends {
+        Light::Green
+    } else if enter || is_marked(marks) {
+        Light::Yellow
+    } else {
+        Light::Red
+    }
 }
 
 /// What a pattern comes to by one character.
@@ -142,7 +151,7 @@ impl Pattern {
             Node::Nothing => Moved::new(enter, false, true),
             Node::One(class) => {
                 let before = is_marked(marks);
-                let mark = takes(class, enter, c);
+                let mark = class.takes(enter, c);
                 put(marks, mark);
                 Moved::new(before, mark, false)
             }
@@ -184,13 +193,7 @@ impl Pattern {
         requires { length marks.now ≡ places self.now }
         ensures { result ≡ spec.light_from self.now enter marks.now [] }
     {
-        if self.ends(enter, marks) {
-            Light::Green
-        } else if enter || is_marked(marks) {
-            Light::Yellow
-        } else {
-            Light::Red
-        }
+        light_at(self.ends(enter, marks), enter, marks)
     }
 
     /// The light of a text, where the pattern may begin in front of it or stands at its marks.
@@ -207,8 +210,8 @@ impl Pattern {
         self.light_here(enter, marks)
     }
 
-    /// The light of a text. It takes no memory.
-    pub fn light(&self, text: &str) -> Light
+    /// The light of a text, by the tree.
+    fn light_by_tree(&self, text: &str) -> Light
         requires places { places self.now ≤ MAX_PATTERN_CHARS }
         requires repeats { repeats self.now ≤ MAX_PATTERN_CHARS }
         ensures { result ≡ spec.light self.now (chars text.now) }
@@ -220,5 +223,38 @@ impl Pattern {
             &mut ended[..self.repeats()],
             text,
         )
+    }
+
+    /// The light of a text, by the steps, where the pattern takes the empty text or doesn't.
+    fn light_by_steps(&self, steps: &[Step<'_>], skips: bool, text: &str) -> Light
+        requires places { places self.now ≤ MAX_PATTERN_CHARS }
+        requires repeats { repeats self.now ≤ MAX_PATTERN_CHARS }
+        requires skips { skips ≡ spec.skips self.now }
+        requires steps { map layout.op steps.now ≡ layout.code self.now layout.at_start }
+        requires fits { layout.Fits self.now 0 MAX_PATTERN_CHARS }
+        ensures { result ≡ spec.light self.now (chars text.now) }
+    {
+        let mut walk = Walk::new();
+        let mut enter = true;
+        let mut ends = skips;
+        for c in text.chars() {
+            ends = walk.read(steps, enter, c);
+            enter = false;
+        }
+        light_at(ends, enter, walk.marks(self.places()))
+    }
+
+    /// The light of a text. It takes no memory. The steps take a fraction of the time that the tree takes, which is there
+    /// for patterns that have no room for their steps.
+    pub fn light(&self, text: &str) -> Light
+        requires places { places self.now ≤ MAX_PATTERN_CHARS }
+        requires repeats { repeats self.now ≤ MAX_PATTERN_CHARS }
+        ensures { result ≡ spec.light self.now (chars text.now) }
+    {
+        let mut steps = ArrayVec::new();
+        match self.lay_out(At::start(), &mut steps) {
+            Some(skips) => self.light_by_steps(&steps, skips, text),
+            None => self.light_by_tree(text),
+        }
     }
 }

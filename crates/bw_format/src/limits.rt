@@ -11,3 +11,6 @@ pub const MAX_PATTERN_CHARS: usize = 256;
 
 /// The parentheses of a pattern that stand inside one another.
 pub const MAX_GROUPS: usize = 16;
+
+/// The steps of a pattern: for each character three at most.
+pub const MAX_STEPS: usize = 768;

@@ -1,5 +1,5 @@
 //! Patterns, which contracts see as trees.
-ghost use Rattle.std.specs.Prelude.{◌≡◌, ◌++◌, ◌∷◌, [], IsTrue, ◌↔◌, IfOk, OnOk, OnErr};
+ghost use Rattle.std.specs.Prelude.{◌≡◌, ◌&&◌, ◌++◌, ◌∷◌, [], IsTrue, ◌↔◌, IfOk, OnOk, OnErr};
 ghost use Rattle.std.specs.Option.{IfSome};
 ghost use Rattle.std.specs.List.{list_any};
 ghost use Rattle.bw_format.specs.Pattern.{places, repeats};
@@ -148,6 +148,13 @@ impl Class {
             Class::Any => true,
             Class::OneOf(members) => members.hold(c),
         }
+    }
+
+    /// Whether the place takes the character, where the pattern may begin in front of it.
+    pub(crate) fn takes(&self, enter: bool, c: char) -> bool
+        ensures { result ≡ (enter && spec.holds self.now c) }
+    {
+        enter && self.holds(c)
     }
 }
 

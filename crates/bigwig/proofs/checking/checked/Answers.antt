@@ -1,4 +1,5 @@
 use Rattle.std.proofs.Common.{◌≡◌, ◌∙◌}
+use Rattle.bigwig.specs.Behind.{shown_of}
 use Rattle.bigwig.specs.Checks.{ruled_by}
 use Rattle.bigwig.proofs.Checks.{refused_why}
 use Rattle.bigwig.proofs.checking.checked.Goals as goal
@@ -13,5 +14,5 @@ returns-in-Ok-check-clause-answers g c =
 
 pub returns-clause-answers : goal.returns-clause-answers
 returns-clause-answers g c =
-    refused_why c.args.typed.service c.args.schema c.args.formats _ c.in-Err.fault c.check_stop.result
+    refused_why (shown_of c.args.how) c.args.typed.service c.args.schema c.args.formats _ c.in-Err.fault c.check_stop.result
     (c.as_slice.ensures ∙ c.in-Ok.ensures) c.check_stop.ensures c.in-Err.ensures.fault

@@ -1,4 +1,5 @@
 use Rattle.bigwig.specs.Asked.{formats, checked}
+use Rattle.bigwig.specs.Behind.{shown_of}
 use Rattle.bigwig.specs.Checks.{ruled_by}
 use Rattle.bigwig.proofs.Answering.{told_first, told_next}
 use Rattle.bigwig.proofs.Pages.{if_told}
@@ -6,9 +7,9 @@ use Rattle.bigwig.proofs.checking.checked_with.Goals as goal
 
 pub returns-in-Ok-clause-answers : goal.returns-in-Ok-clause-answers
 returns-in-Ok-clause-answers g c =
-    told_next ruled_by _ _ (λ disk. formats disk c.args.formats.now) (λ disk. checked c.args.typed.service c.args.schema) c.in-Ok.formats c.checked.result
+    told_next ruled_by _ _ (λ disk. formats disk c.args.named.formats.now) (λ disk. checked (shown_of c.args.how) c.args.typed.service c.args.schema) c.in-Ok.formats c.checked.result
     c.in-Ok.ensures.told c.in-Ok.ensures.answers (if_told _ c.checked.ensures.answers)
 
 pub returns-in-Err-clause-answers : goal.returns-in-Err-clause-answers
 returns-in-Err-clause-answers g c =
-    told_first _ (λ disk. formats disk c.args.formats.now) (λ disk. checked c.args.typed.service c.args.schema) c.in-Err.stop c.in-Err.ensures.answers
+    told_first _ (λ disk. formats disk c.args.named.formats.now) (λ disk. checked (shown_of c.args.how) c.args.typed.service c.args.schema) c.in-Err.stop c.in-Err.ensures.answers

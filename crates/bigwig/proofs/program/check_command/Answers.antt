@@ -1,20 +1,16 @@
 use Rattle.std.proofs.Common.{codes}
 use Rattle.bigwig.specs.Asked.{work}
-use Rattle.bigwig.specs.Asked.Work.{prints}
-use Rattle.bigwig.specs.Questions.{IsStop, line}
+use Rattle.bigwig.specs.Questions.{line}
 use Rattle.bigwig.specs.declared.command.Command.TheVariants.{Check}
-use Rattle.bigwig.proofs.Answering.{by_name}
 use Rattle.bigwig.proofs.Endings.{stopped_speaks, text_speaks}
 use Rattle.bigwig.proofs.program.check_command.Goals as goal
 
 pub returns-in-Ok-clause-comes : goal.returns-in-Ok-clause-comes
 returns-in-Ok-clause-comes g c =
-    text_speaks _ (λ disk. work disk (Check c.args.service.now c.args.judging.now)) (line (codes "accepted")) _ _ _
-    (by_name _ (λ disk name. (work disk (Check name c.args.judging.now)).gives
-    (prints (line (codes "accepted")))) _ _ c.as_str.ensures.text c.in-Ok.ensures.answers) c.print_line.ensures.prints
+    text_speaks _ (λ disk. work disk (Check c.args.service.now c.args.judging.now)) (line (codes "accepted")) _ _ _ c.in-Ok.ensures.answers
+    c.print_line.ensures.prints
 
 pub returns-in-Err-clause-comes : goal.returns-in-Err-clause-comes
 returns-in-Err-clause-comes g c =
-    stopped_speaks _ (λ disk. work disk (Check c.args.service.now c.args.judging.now)) c.in-Err.stop _ _ _
-    (by_name _ (λ disk name.
-    IsStop (work disk (Check name c.args.judging.now)) c.in-Err.stop) _ _ c.as_str.ensures.text c.in-Err.ensures.answers) c.report.ensures.reported
+    stopped_speaks _ (λ disk. work disk (Check c.args.service.now c.args.judging.now)) c.in-Err.stop _ _ _ c.in-Err.ensures.answers
+    c.report.ensures.reported

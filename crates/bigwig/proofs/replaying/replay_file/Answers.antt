@@ -5,7 +5,8 @@ use Rattle.bigwig.proofs.replaying.replay_file.Goals as goal
 
 pub returns-in-Ok-clause-comes : goal.returns-in-Ok-clause-comes
 returns-in-Ok-clause-comes g c =
-    by_service _ (λ disk. replayed disk c.args.name.now c.args.most) _ _ c.args.served.formats _ _ _ _ _ _ _ _ c.in-Ok.ensures.service c.replay_in-status.ensures.comes
+    by_service _ (λ disk. replayed disk c.args.name.now c.args.most) _ _ _ _ _ _ _ _ _ _ _ _ c.in-Ok.ensures.service c.in-Ok.ensures.formats
+    c.replay_from-status.ensures.comes
 
 pub returns-in-Err-clause-comes : goal.returns-in-Err-clause-comes
 returns-in-Err-clause-comes g c =

@@ -1,7 +1,7 @@
 use Rattle.std.proofs.Common.{◌∙◌, ap, codes}
 use Rattle.std.proofs.lemmas.Result.{IfOk-weaker}
 use Rattle.clap.specs.Words.{App, with_rule, new_rule}
-use Rattle.bigwig.specs.Words.{bigwig, option_rule}
+use Rattle.bigwig.specs.Words.{bigwig, option_rule, flag_rule}
 use Rattle.bigwig.proofs.words.whole.Goals as goal
 
 pub returns : goal.returns
@@ -14,4 +14,5 @@ returns c =
     let e5 = c.in_ok-c-5.ensures ∙ ap (λ (a : App). with_rule a (option_rule (codes "workers"))) e4 in
     let e6 = c.in_ok-c-6.ensures ∙ ap (λ (a : App). with_rule a (option_rule (codes "limit"))) e5 in
     let e7 = c.in_ok-c-7.ensures ∙ ap (λ (a : App). with_rule a (option_rule (codes "port"))) e6 in
-    IfOk-weaker c.with_option-5.result _ _ (λ r h. h ∙ ap (λ (a : App). with_rule a (option_rule (codes "formats"))) e7) c.with_option-5.ensures
+    let e8 = c.in_ok-c-8.ensures ∙ ap (λ (a : App). with_rule a (option_rule (codes "formats"))) e7 in
+    IfOk-weaker c.with_flag.result _ _ (λ r h. h ∙ ap (λ (a : App). with_rule a (flag_rule (codes "show-source"))) e8) c.with_flag.ensures

@@ -1,0 +1,17 @@
+//! What is shown behind the line of a refusal: where in the text it is, what is wrong, and how it is mended.
+#![tactic(auto)]
+
+mod blocks;
+mod finding;
+mod gaps;
+mod known;
+mod meant;
+mod places;
+mod tags;
+mod walk;
+
+pub use blocks::{
+    push_facts_block, push_fault_block, push_points_block, push_syntax_block, push_type_block,
+};
+pub use bw_excerpt::Paper;
+pub use known::{Known, read_known};

@@ -1,0 +1,277 @@
+//! Which bytes of a text a refusal points at.
+ghost use Rattle.std.specs.Prelude.{◌≡◌, ◌<◌, ◌+◌, ◌-◌, ◌^◌, slice_get, Some, IfOk, IfSome};
+ghost use Rattle.bw_places.specs.Counts.{drafts_tokens};
+ghost use Rattle.bw_diagnose.specs.Places as spec;
+ghost use Rattle.bw_diagnose.specs.Known.{tokens_in};
+
+use crate::finding::{Wanted, field_in, first_in, gap_in};
+use crate::known::{Known, Told, tell};
+use crate::tags::{hole_there, rest, tag_there, token_start, word_length};
+use crate::walk::limit_token;
+use bw_blame::{Blamed, Site};
+use bw_excerpt::Place;
+use bw_faults::Fault;
+use bw_lang::limits::MAX_FILE_BYTES;
+use bw_lang::{Draft, Lexeme, Memory, TemplateId, Token};
+use bw_lex::LexFault;
+use bw_places::{Sought, Span, declaration, statement};
+use bw_syntax::SyntaxFault;
+use std::alloc::Global;
+
+/// So many bytes.
+fn bytes_at(text: &[u8], at: usize, count: usize) -> Place
+    requires { count < 2 ^ 63 }
+    ensures { result ≡ spec.bytes_at text.now at count }
+{
+    let from = at.min(text.len());
+    Place {
+        from,
+        to: from + count,
+    }
+}
+
+/// The word there, or else the one byte.
+fn word_there(text: &[u8], at: usize) -> Place
+    ensures { result ≡ spec.word_there text.now at }
+{
+    let length = word_length(rest(text, at.min(text.len())));
+    bytes_at(text, at, length.max(1))
+}
+
+/// The last byte that is more than a space.
+fn last_filled(text: &[u8]) -> usize
+    ensures { result ≡ spec.last_filled 0 0 text.now }
+{
+    let mut last = 0;
+    for (index, &byte) in text.iter().enumerate() {
+        if byte > b' ' {
+            last = index;
+        }
+    }
+    last
+}
+
+/// The byte, or at the end of the text the last one that is more than a space.
+fn filled(text: &[u8], at: usize) -> usize
+    ensures { result ≡ spec.filled text.now at }
+{
+    if at < text.len() {
+        at
+    } else {
+        last_filled(text)
+    }
+}
+
+/// What stands behind a token.
+fn token_end(tokens: &[Token], at: usize) -> usize
+    ensures { result ≡ spec.token_end (slice_get tokens.now at) }
+{
+    match tokens.get(at) {
+        Some(token) => token.end,
+        None => 0,
+    }
+}
+
+/// The bytes of a token.
+fn token_place(tokens: &[Token], at: usize) -> Place
+    ensures { result ≡ spec.token_place tokens.now at }
+{
+    Place {
+        from: token_start(tokens, at),
+        to: token_end(tokens, at),
+    }
+}
+
+/// The bytes of the tokens from one on, and in front of another.
+fn span_place(tokens: &[Token], from: usize, to: usize) -> Place
+    ensures { result ≡ spec.span_place tokens.now from to }
+{
+    Place {
+        from: token_start(tokens, from),
+        to: token_end(tokens, to.saturating_sub(1)),
+    }
+}
+
+/// What a lexical fault points at.
+fn lex_place(text: &[u8], fault: &LexFault) -> Place
+    ensures { result ≡ spec.lex_place text.now fault.now }
+{
+    match fault {
+        LexFault::BadByte(at) => bytes_at(text, *at, 1),
+        LexFault::OpenString(at) => Place {
+            from: *at,
+            to: text.len(),
+        },
+        LexFault::OpenTemplate(at) => bytes_at(text, *at, 6),
+        LexFault::NumberTooBig(at) => word_there(text, *at),
+        LexFault::Memory => Place { from: 0, to: 0 },
+    }
+}
+
+/// The name of the template that has this name; and else the service's name.
+fn template_token(lexemes: &[Lexeme], name: &[u8]) -> usize
+    ensures { result ≡ spec.template_token lexemes.now name.now }
+{
+    let all = Span {
+        from: 0,
+        to: lexemes.len(),
+    };
+    match first_in(Wanted::Template, lexemes, name, all) {
+        Some(at) => at.saturating_sub(2),
+        None => 1,
+    }
+}
+
+/// What a text that is read as no service is refused for.
+pub fn syntax_place(alloc: Global, text: &[u8], fault: &SyntaxFault) -> Result<Place, Memory>
+    ensures { IfOk result (λ place. place ≡ spec.syntax_place text.now fault.now) }
+{
+    match fault {
+        SyntaxFault::TooLong => Ok(bytes_at(text, MAX_FILE_BYTES, 1)),
+        SyntaxFault::Lex(fault) => Ok(lex_place(text, fault)),
+        SyntaxFault::TooMany(limit, _) => {
+            let told = tell(alloc, text)?;
+            Ok(told_place(&told, limit_token(*limit, &told.lexemes)))
+        }
+        SyntaxFault::Syntax(at) => Ok(word_there(text, filled(text, *at))),
+        SyntaxFault::Template(name, _) => {
+            let told = tell(alloc, text)?;
+            Ok(told_place(&told, template_token(&told.lexemes, name.as_bytes())))
+        }
+        SyntaxFault::Memory => Ok(Place { from: 0, to: 0 }),
+    }
+}
+
+/// The bytes of a token of a text.
+fn told_place(told: &Told<'_>, at: usize) -> Place
+    ensures { result ≡ spec.token_place (tokens_in told.now.text.now) at }
+{
+    token_place(told.tokens.as_slice(), at)
+}
+
+/// The service's name.
+pub fn name_place(told: &Told<'_>) -> Place
+    ensures { result ≡ spec.name_place told.now.text.now }
+{
+    told_place(told, 1)
+}
+
+/// What a test is about, in the declaration of these tokens.
+fn site_place(told: &Told<'_>, own: Span, site: Site) -> Place
+    requires { own.from < 2 ^ 63 }
+    ensures { result ≡ spec.site_place told.now.text.now own site }
+{
+    let tokens = told.tokens.as_slice();
+    match site {
+        Site::Tokens(from, to) => span_place(
+            tokens,
+            own.from.saturating_add(from),
+            own.from.saturating_add(to),
+        ),
+        Site::Target(at) => token_place(tokens, own.from.saturating_add(at)),
+        Site::Literal => span_place(tokens, own.from + 4, own.to.saturating_sub(1)),
+        Site::StartTag(number) => tag_there(tokens, &told.lexemes, own.from + 3, number),
+        Site::Hole(number) => hole_there(tokens, &told.lexemes, own.from + 3, number),
+    }
+}
+
+/// What the first test that fails is about.
+#[tactic(auto, using(crate::proofs::Early::declared_early))]
+pub fn blamed_place(known: &Known<'_>, blamed: Option<Blamed>) -> Place
+    ensures { result ≡ spec.blamed_place known.now.told.text.now known.now.drafts.items blamed }
+{
+    match blamed {
+        Some(blamed) => match declaration(&known.drafts, blamed.declaration) {
+            Some(own) => site_place(&known.told, own, blamed.site),
+            None => name_place(&known.told),
+        },
+        None => name_place(&known.told),
+    }
+}
+
+/// The tokens of a statement, which is counted from 1.
+fn statement_span(drafts: &[Draft], point: u32) -> Span
+    requires { 3 + drafts_tokens drafts.now < 2 ^ 63 }
+    ensures { result ≡ spec.statement_span drafts.now point }
+{
+    match statement(drafts, point.saturating_sub(1) as usize) {
+        Sought::Found(own) => own,
+        Sought::Behind(_, _) => Span { from: 1, to: 2 },
+    }
+}
+
+/// The number of the declaration of a template, both counted from 0.
+fn template_number(drafts: &[Draft], number: usize) -> Option<usize>
+    ensures { result ≡ spec.template_number drafts.now number 0 }
+{
+    let mut left = number;
+    for (index, draft) in drafts.iter().enumerate() {
+        if let Draft::Template { .. } = draft {
+            if left == 0 {
+                return Some(index);
+            }
+            left -= 1;
+        }
+    }
+    None
+}
+
+/// The tokens of the declaration of a template.
+#[tactic(auto, using(crate::proofs::Early::declared_early))]
+fn template_span(drafts: &[Draft], template: TemplateId) -> Option<Span>
+    requires { 3 + drafts_tokens drafts.now < 2 ^ 63 }
+    ensures tokens { result ≡ spec.template_span drafts.now template }
+    ensures early { IfSome result (λ own. own.from < 2 ^ 63) }
+{
+    match template_number(drafts, template.number() as usize) {
+        Some(number) => declaration(drafts, number),
+        None => None,
+    }
+}
+
+/// The start tag of the element that a fault is about; wrappers of pages have none.
+pub fn fault_element(known: &Known<'_>, fault: &Fault) -> Option<Place>
+    ensures { result ≡ spec.fault_element known.now.told.text.now known.now.drafts.items fault.now fault.now.template }
+{
+    match fault.template {
+        Some(template) => match template_span(&known.drafts, template) {
+            Some(own) => Some(element_place(&known.told, own, fault.place)),
+            None => None,
+        },
+        None => None,
+    }
+}
+
+/// The start tag of an element of a template, which is counted from 1.
+fn element_place(told: &Told<'_>, own: Span, element: u32) -> Place
+    requires { own.from < 2 ^ 63 }
+    ensures { Some result ≡ spec.element_place told.now.text.now element (Some own) }
+{
+    let number = element.saturating_sub(1) as usize;
+    tag_there(told.tokens.as_slice(), &told.lexemes, own.from + 3, number)
+}
+
+/// The field that is received, or the gap that is plugged, which a fault is about; or else the whole statement.
+pub fn fault_place(known: &Known<'_>, fault: &Fault) -> Place
+    ensures { result ≡ spec.fault_place known.now.told.text.now known.now.drafts.items fault.now }
+{
+    let own = statement_span(&known.drafts, fault.point);
+    match named_token(&known.told, own, fault) {
+        Some(at) => told_place(&known.told, at),
+        None => span_place(known.told.tokens.as_slice(), own.from, own.to),
+    }
+}
+
+/// The token of the field or the gap that a fault is about.
+fn named_token(told: &Told<'_>, own: Span, fault: &Fault) -> Option<usize>
+    ensures { result ≡ spec.named_token told.now.text.now own fault.now fault.now.template }
+{
+    let name = fault.detail.as_bytes();
+    if fault.template.is_some() {
+        None
+    } else if fault.number == 11 {
+        gap_in(&told.lexemes, name, own)
+    } else {
+        field_in(&told.lexemes, name, own)
+    }
+}

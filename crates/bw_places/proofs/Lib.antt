@@ -1,0 +1,9 @@
+pub mod Dropping
+pub mod Skips
+pub mod Spelled
+pub mod TagLaws
+pub mod Right
+pub mod Rests
+pub mod Scoped
+pub mod Seeks
+pub mod Numbered
