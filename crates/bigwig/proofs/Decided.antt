@@ -22,13 +22,13 @@ use Rattle.bw_valid.proofs.BreachLaws.{valid_decided}
 use Rattle.bigwig.specs.Asked.{page, page_file, rules, schema, built_in, judged, ruled, formats_in, formats_file, formats, lit, lit_file}
 use Rattle.bigwig.specs.Asked.{command, file, read, typed, service_file, checked, checked_with, checked_by, accepted_file, accepted_text}
 use Rattle.bigwig.specs.Asked.Work.{prints}
-use Rattle.bigwig.specs.Asked.{accepted, replayed, at_port, turned, work, asked, usage_line}
+use Rattle.bigwig.specs.Asked.{accepted, replayed, at_port, beside, turned, work, asked, usage_line}
 use Rattle.bigwig.specs.Behind.{Shown, shown_file}
 use Rattle.bigwig.specs.Commands.{command_of}
 use Rattle.bigwig.specs.Lines.{no_file_line}
 use Rattle.bigwig.specs.Questions.{Said, Question, ◌>>=◌, found, line}
 use Rattle.bigwig.specs.declared.command.Command.{Command}
-use Rattle.bigwig.specs.declared.command.Command.TheVariants.{Check, Replay, Serve, Valid, Make, Light}
+use Rattle.bigwig.specs.declared.command.Command.TheVariants.{Check, Replay, Serve, Keep, Valid, Make, Light}
 use Rattle.bigwig.specs.declared.command.Judging.{Judging}
 use Rattle.bigwig.specs.declared.status.Status.{Status}
 use Rattle.bigwig.specs.declared.status.Status.TheVariants.{Usage, NoFile, ServiceRefused, SchemaRefused, PageRefused, FormatsRefused}
@@ -203,6 +203,9 @@ work_decided disk (Replay service requests judging form most) =
 work_decided disk (Serve service judging form port most) =
     then (accepted_file disk service judging form) (at_port port most) (accepted_file_decided disk service judging form)
     (λ ruled _. found_decided _)
+work_decided disk (Keep service judging form journal port most) =
+    then (accepted_file disk service judging form) (beside disk service journal port most) (accepted_file_decided disk service judging form)
+    (λ ruled _. then (file disk service) _ (file_decided disk service) (λ text _. found_decided _))
 work_decided disk (Valid name named) =
     then (page_file disk name) (ruled disk named) (then (file disk name) page (file_decided disk name) (λ content _. page_decided content))
     (λ tree _. then (schema disk named) (judged tree) (schema_decided disk named) (λ by _. judged_decided tree by))

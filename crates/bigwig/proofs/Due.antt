@@ -1,23 +1,30 @@
 -- Some status is due, and one only.
-use Rattle.std.proofs.Common.{◌≡◌, ◌⊎◌, ℕ, List, [], Option, Some, codes, refl, sym, ◌∙◌, subst, inl, inr}
+use Rattle.std.proofs.Common.{◌≡◌, ◌⊎◌, ℕ, Bool, true, false, List, [], Option, Some, codes, refl, sym, ◌∙◌, ap, subst, inl, inr}
 use Rattle.bw_check.specs.Accepts.{Accepts}
 use Rattle.bw_out.specs.Told.{Disk}
 use Rattle.bigwig.specs.Asked.{Ruled, Work, asked, work}
-use Rattle.bigwig.specs.Asked.Work.{prints, replays, serves}
+use Rattle.bigwig.specs.Asked.Work.{prints, replays, serves, keeps}
+use Rattle.bigwig.specs.Keeping.{EndsWith, IsKept}
+use Rattle.bigwig.specs.Keeping.IsKept.{stopped, refused, failed, begun}
+use Rattle.bigwig.specs.Keeping.Keeps.{no_port as keep_no_port, no_line as keep_no_line, links_served as keep_links_served}
+use Rattle.bw_keeping.specs.declared.ended.Ended.{Ended}
+use Rattle.bw_keeping.specs.declared.ended.Ended.TheVariants as ended
 use Rattle.bigwig.specs.Commands.{command_of}
 use Rattle.bigwig.specs.Laws.{IsAcceptedFile, CheckIsDone, IsValidFile, ValidIsDone, Due, IsFree}
-use Rattle.bigwig.specs.Laws.{SomeStatusIsDue, OneStatusIsDue, ComesWhereDue, DoesItsWork, DoorFaultsServe}
+use Rattle.bigwig.specs.Laws.{SomeStatusIsDue, OneStatusIsDue, ComesWhereDue, DoesItsWork, ServesLinks, DoorFaultsServe, JournalsAreKept}
+use Rattle.bigwig.specs.Laws.ServesLinks.{alone, kept}
 use Rattle.bw_world.specs.declared.ends.StreamEnd.{StreamEnd}
 use Rattle.bw_world.specs.declared.ends.StreamEnd.TheVariants as ends
-use Rattle.bigwig.specs.Outcomes.{Outside, IsDone, IsSaid, IsServing, status_of}
+use Rattle.bigwig.specs.Outcomes.{IsDone}
+use Rattle.bigwig.specs.Works.{Outside, IsSaid, IsServing, status_of}
 use Rattle.bigwig.specs.Outcomes.Comes.{said, done, read_fault, no_memory}
-use Rattle.bigwig.specs.Outcomes.IsServing.{no_port, no_line, links_served}
+use Rattle.bigwig.specs.Works.IsServing.{no_port, no_line, links_served}
 use Rattle.bigwig.specs.Questions.{Said, line}
 use Rattle.bigwig.specs.declared.command.Command.{Command}
 use Rattle.bigwig.specs.declared.command.Command.TheVariants.{Check, Valid}
 use Rattle.bigwig.specs.declared.command.Judging.{Judging}
 use Rattle.bigwig.specs.declared.status.Status.{Status}
-use Rattle.bigwig.specs.declared.status.Status.TheVariants.{Done, ReadFault, WriteFault, DoorFault, Memory}
+use Rattle.bigwig.specs.declared.status.Status.TheVariants.{Done, ReadFault, WriteFault, DoorFault, Memory, JournalRefused, JournalFault}
 use Rattle.bigwig.proofs.Decided.{asked_decided}
 use Rattle.bigwig.proofs.Refusals.{never_said}
 use Rattle.bigwig.proofs.SomeAnswer.{asked_some}
@@ -50,12 +57,42 @@ serving_or_fault ruled port most before after status (no_line e a p k) = inr (in
 serving_or_fault ruled port most before after status (links_served (inl e) a p l) = inl e
 serving_or_fault ruled port most before after status (links_served (inr e) a p l) = inr (inr (inr (inl e)))
 
+-- the journal was refused, or it failed, or the line that says so couldn't be written
+journal_said : (x : Said) (before after : Outside) (status : Status) → IsSaid x before after status → (x.status ≡ JournalRefused) ⊎ (x.status ≡ JournalFault)
+    → IsFree status
+journal_said x before after status i (inl e) = elim i.prints [
+  | inl p ↦ inr (inr (inr (inr (inr (p.0 ∙ e)))))
+  | inr p ↦ inr (inl p.0)
+]
+journal_said x before after status i (inr e) = elim i.prints [
+  | inl p ↦ inr (inr (inr (inr (inl (p.0 ∙ e)))))
+  | inr p ↦ inr (inl p.0)
+]
+
+kept_end : (held now : Option (List ℕ)) (end : Ended) (status : Status) → EndsWith held now end status → (status ≡ Done) ⊎ IsFree status
+kept_end held now ended.Done status e = inl e.0
+kept_end held now ended.DoorFault status e = inr (inr (inr (inl e.0)))
+kept_end held now ended.JournalFault status (inl e) = inr (inr (inr (inr (inr (inl e.0)))))
+kept_end held now ended.JournalFault status (inr e) = inr (inr (inl e.0))
+
+kept_or_fault : (ruled : Ruled) (text content : List ℕ) (port most : ℕ) (before after : Outside) (status : Status)
+    → IsKept ruled text content port most before after status → (status ≡ Done) ⊎ IsFree status
+kept_or_fault ruled text content port most before after status (stopped (inl e) k u) = inr (inl e)
+kept_or_fault ruled text content port most before after status (stopped (inr e) k u) = inr (inr (inr (inr (inl e))))
+kept_or_fault ruled text content port most before after status (refused why r i u) = inr (journal_said _ _ after status i (inl refl))
+kept_or_fault ruled text content port most before after status (failed i) = inr (journal_said _ _ after status i (inr refl))
+kept_or_fault ruled text content port most before after status (begun f w mid h k o (keep_no_port e m l)) = inr (inr (inr (inl e)))
+kept_or_fault ruled text content port most before after status (begun f w mid h k o (keep_no_line e a p l)) = inr (inr (inl e))
+kept_or_fault ruled text content port most before after status (begun f w mid h k o (keep_links_served printed end a p e s)) =
+    kept_end printed after.printed end status e
+
 -- the work ends with Done, unless there was a fault
 done_or_fault : (work : Work) (before after : Outside) (status : Status) → IsDone work before after status → (status ≡ Done) ⊎ IsFree status
 done_or_fault (prints text) before after status d = said_or_fault _ before after status d
 done_or_fault (replays ruled stream most) before after status d =
-    subst (λ s. (s ≡ Done) ⊎ IsFree s) (sym d.status_is) (ended_or_fault d.end)
-done_or_fault (serves ruled port most) before after status d = serving_or_fault ruled port most before after status d
+    subst (λ s. (s ≡ Done) ⊎ IsFree s) (sym d.0.status_is) (ended_or_fault d.0.end)
+done_or_fault (serves ruled port most) before after status d = serving_or_fault ruled port most before after status d.0
+done_or_fault (keeps ruled text content port most) before after status d = kept_or_fault ruled text content port most before after status d
 
 or_fault : (s t u : Status) → (u ≡ t) ⊎ IsFree u → t ≡ s → (u ≡ s) ⊎ IsFree u
 or_fault s t u (inl x) e = inl (x ∙ e)
@@ -67,7 +104,7 @@ comes_where_due words disk before after s t d (said x p i) =
 comes_where_due words disk before after s t d (done w p i) =
     or_fault s Done t (done_or_fault w before after t i) (one_status words disk Done s (inr (w, p, refl)) d)
 comes_where_due words disk before after s t d (read_fault e k) = inr (inl e)
-comes_where_due words disk before after s t d (no_memory e k) = inr (inr (inr (inr e)))
+comes_where_due words disk before after s t d (no_memory e k) = inr (inr (inr (inr (inl e))))
 
 pub does_its_work : DoesItsWork
 does_its_work words disk work before after status g (said x p i) = absurd ((asked_decided words disk).not_both work x g p)
@@ -77,7 +114,7 @@ does_its_work words disk work before after status g (done w p d) =
     elim (done_or_fault work before after status so) as (λ _. ((status ≡ Done) × IsDone work before after status) ⊎ IsFree status)
     [ inl e ↦ inl (e, so) | inr f ↦ inr f ]
 does_its_work words disk work before after status g (read_fault e k) = inr (inl e)
-does_its_work words disk work before after status g (no_memory e k) = inr (inr (inr (inr e)))
+does_its_work words disk work before after status g (no_memory e k) = inr (inr (inr (inr (inl e))))
 
 -- ---- door faults
 
@@ -92,22 +129,68 @@ stream_status (ends.Ended n) = inl refl
 stream_status ends.ReadFault = inr (inl refl)
 stream_status ends.WriteFault = inr (inr (inl refl))
 
-abbrev IsServed : Work → Type 0
-IsServed work = (ruled : Ruled) × (port : ℕ) × (most : ℕ) × (work ≡ serves ruled port most)
-
-served_work : (work : Work) (before after : Outside) → IsDone work before after DoorFault → IsServed work
+served_work : (work : Work) (before after : Outside) → IsDone work before after DoorFault → ServesLinks work
 served_work (prints text) before after d = absurd (elim d.prints
     [ inl x ↦ no_door_fault Done x.0 (inl refl) | inr x ↦ no_door_fault WriteFault x.0 (inr (inr (inl refl))) ])
-served_work (replays ruled stream most) before after d = absurd (no_door_fault (status_of d.end) d.status_is (stream_status d.end))
-served_work (serves ruled port most) before after d = (ruled, port, most, refl)
+served_work (replays ruled stream most) before after d = absurd (no_door_fault (status_of d.0.end) d.0.status_is (stream_status d.0.end))
+served_work (serves ruled port most) before after d = alone ruled port most
+served_work (keeps ruled text content port most) before after d = kept ruled text content port most
 
 pub door_faults_serve : DoorFaultsServe
 door_faults_serve words disk before after (said s p i) =
     absurd (elim i.prints [ inl x ↦ never_said words disk s DoorFault refl p x.0 | inr x ↦ no_door_fault WriteFault x.0 (inr (inr (inl refl))) ])
 door_faults_serve words disk before after (done w p d) =
-    let served = served_work w before after d in (served.0, served.1, served.2, subst (λ x. (asked words disk).gives x) served.3 p)
+    (w, p, served_work w before after d)
 door_faults_serve words disk before after (read_fault e k) = absurd (no_door_fault ReadFault e (inr (inl refl)))
 door_faults_serve words disk before after (no_memory e k) = absurd (no_door_fault Memory e (inr (inr (inr refl))))
+
+-- ---- journals
+
+abbrev is_of_journal : Status → Bool
+is_of_journal JournalRefused = true
+is_of_journal JournalFault = true
+is_of_journal status = false
+
+not_so : (b : Bool) → b ≡ false → b ≡ true → ⊥
+not_so b is isnt = cc
+
+abbrev IsJournals : Status → Type 0
+IsJournals status = (status ≡ JournalRefused) ⊎ (status ≡ JournalFault)
+
+not_journals : (s t : Status) → IsJournals s → s ≡ t → is_of_journal t ≡ false → ⊥
+not_journals s t (inl e) same other = not_so (is_of_journal t) other (ap is_of_journal (sym same ∙ e))
+not_journals s t (inr e) same other = not_so (is_of_journal t) other (ap is_of_journal (sym same ∙ e))
+
+served_status : (ruled : Ruled) (port most : ℕ) (before after : Outside) (s : Status) → IsServing ruled port most before after s → IsJournals s → ⊥
+served_status ruled port most before after s (no_port e m k) j = not_journals s DoorFault j e refl
+served_status ruled port most before after s (no_line e a p k) j = not_journals s WriteFault j e refl
+served_status ruled port most before after s (links_served (inl e) a p l) j = not_journals s Done j e refl
+served_status ruled port most before after s (links_served (inr e) a p l) j = not_journals s DoorFault j e refl
+
+stream_is_none : (end : StreamEnd) → is_of_journal (status_of end) ≡ false
+stream_is_none (ends.Ended n) = refl
+stream_is_none ends.ReadFault = refl
+stream_is_none ends.WriteFault = refl
+
+kept_work : (work : Work) (before after : Outside) (s : Status) → IsDone work before after s → IsJournals s
+    → (ruled : Ruled) × (text : List ℕ) × (content : List ℕ) × (port : ℕ) × (most : ℕ) × (work ≡ keeps ruled text content port most)
+kept_work (prints text) before after s d j = absurd (elim d.prints
+    [ inl x ↦ not_journals s Done j x.0 refl | inr x ↦ not_journals s WriteFault j x.0 refl ])
+kept_work (replays ruled stream most) before after s d j = absurd (not_journals s (status_of d.0.end) j d.0.status_is (stream_is_none d.0.end))
+kept_work (serves ruled port most) before after s d j = absurd (served_status ruled port most before after s d.0 j)
+kept_work (keeps ruled text content port most) before after s d j = (ruled, text, content, port, most, refl)
+
+said_journals : (words : List (List ℕ)) (disk : Disk) (x : Said) (s : Status) → (asked words disk).says x → s ≡ x.status → IsJournals s → ⊥
+said_journals words disk x s p e (inl j) = never_said words disk x JournalRefused refl p (sym j ∙ e)
+said_journals words disk x s p e (inr j) = never_said words disk x JournalFault refl p (sym j ∙ e)
+
+pub journals_are_kept : JournalsAreKept
+journals_are_kept words disk before after s (said x p i) j =
+    absurd (elim i.prints [ inl y ↦ said_journals words disk x s p y.0 j | inr y ↦ not_journals s WriteFault j y.0 refl ])
+journals_are_kept words disk before after s (done w p d) j =
+    let k = kept_work w before after s d j in (k.0, k.1, k.2, k.3, k.4, subst (λ x. (asked words disk).gives x) k.5 p)
+journals_are_kept words disk before after s (read_fault e k) j = absurd (not_journals s ReadFault j e refl)
+journals_are_kept words disk before after s (no_memory e k) j = absurd (not_journals s Memory j e refl)
 
 -- ---- check
 

@@ -4,7 +4,8 @@ use Rattle.bw_out.specs.Told.{Coming, Disk}
 use Rattle.bigwig.specs.Asked.{Work, command, work, asked, usage_line}
 use Rattle.bigwig.specs.Asked.Work.{prints}
 use Rattle.bigwig.specs.Commands.{command_of}
-use Rattle.bigwig.specs.Outcomes.{Outside, Comes, Prints, Speaks, Replies}
+use Rattle.bigwig.specs.Outcomes.{Comes, Speaks, Replies}
+use Rattle.bigwig.specs.Works.{Outside, Prints}
 use Rattle.bigwig.specs.Outcomes.Comes.{said, done, read_fault, no_memory}
 use Rattle.bigwig.specs.Questions.{Question, ◌>>=◌, IsStop}
 use Rattle.bigwig.specs.Reports.{IsReported}

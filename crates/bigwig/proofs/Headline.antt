@@ -1,9 +1,7 @@
 -- The headline follows from what the program comes to.
-use Rattle.std.proofs.Common.{◌≡◌, ◌⊎◌, ◌<◌, ◌≤◌, ◌+◌, ℕ, false, List, [], ◌∷◌, ◌++◌, length, Option, None, Some, IfSome, refl, sym, ap, ◌∙◌, subst, inl, inr}
+use Rattle.std.proofs.Common.{◌≡◌, ◌⊎◌, ◌<◌, ◌≤◌, ℕ, false, List, [], ◌∷◌, ◌++◌, length, Option, None, Some, IfSome, refl, sym, ap, ◌∙◌, subst, inl, inr}
 use Rattle.std.proofs.Common.{arith, append-nil, append_assoc, length-append}
 use Rattle.std.specs.Io.KnownBytes.{Appends}
-use Rattle.std.specs.Str.Lines.{lines}
-use Rattle.bw_format.specs.FormatFile.{Gives}
 use Rattle.bw_format.specs.declared.format.Format.{Format}
 use Rattle.bw_world.specs.Streams.Courses.{Course, IsBroken, bytes_by}
 use Rattle.bw_world.specs.declared.ends.StreamEnd.{StreamEnd}
@@ -33,9 +31,10 @@ use Rattle.bigwig.specs.Asked.{Ruled, Work, accepted_file, asked, formats, schem
 use Rattle.bigwig.specs.Commands.{command_of}
 use Rattle.bigwig.specs.Headline.{AreAnswered, AreFormatsOf, AreRight, Headline, IsAnswer, IsAnswered, IsLit, IsReplay, IsServe, IsServiceOf, rules_text}
 use Rattle.bigwig.specs.Headline.IsAnswered.{whole, broken, unread}
-use Rattle.bigwig.specs.Outcomes.{AreServed, Between, Comes, IsDone, IsReplayed, IsSaid, IsServing, IsStreamed, Outside, begins, status_of}
+use Rattle.bigwig.specs.Outcomes.{Comes, IsDone}
+use Rattle.bigwig.specs.Works.{AreServed, Between, IsReplayed, IsSaid, IsServing, IsStreamed, Outside, begins, status_of}
 use Rattle.bigwig.specs.Outcomes.Comes.{said, done, read_fault, no_memory as no_room}
-use Rattle.bigwig.specs.Outcomes.IsServing.{no_port, no_line, links_served}
+use Rattle.bigwig.specs.Works.IsServing.{no_port, no_line, links_served}
 use Rattle.bigwig.specs.declared.command.Command.{Command}
 use Rattle.bigwig.specs.declared.command.Command.TheVariants.{Replay, Serve, Light}
 use Rattle.bigwig.specs.declared.command.Judging.{Judging}
@@ -208,7 +207,7 @@ replay_done : (disk : Disk) (name requests : List ℕ) (judging : Judging) (form
 replay_done disk name requests judging form most w before after s g d is =
     let ruled = g.0 in
     let stream = g.2.0 in
-    let replayed : IsReplayed ruled stream most before after s = subst (λ x. IsDone x before after s) g.2.2 d in
+    let replayed : IsReplayed ruled stream most before after s = (subst (λ x. IsDone x before after s) g.2.2 d).0 in
     record {
       service = ruled.service;
       schema = ruled.schema;
@@ -275,7 +274,7 @@ serve_done : (disk : Disk) (name : List ℕ) (judging : Judging) (form : Option 
     → IsServe disk name judging.schema form most before after s
 serve_done disk name judging form port most w before after s g d ends =
     let ruled = g.0 in
-    let serving : IsServing ruled port most before after s = subst (λ x. IsDone x before after s) g.2 d in
+    let serving : IsServing ruled port most before after s = (subst (λ x. IsDone x before after s) g.2 d).0 in
     serving_answers disk name judging.schema form ruled port most before after s (service_of disk name judging form ruled g.1)
     (formats_of disk name judging form ruled g.1) serving ends
 

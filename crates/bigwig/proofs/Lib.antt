@@ -1,4 +1,5 @@
 pub mod Answering
+pub mod Beside
 pub mod BuiltIn
 pub mod Checks
 pub mod CommandLine

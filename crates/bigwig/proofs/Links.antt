@@ -17,7 +17,7 @@ use Rattle.bw_world.specs.Seen.{Seen}
 use Rattle.bw_world.specs.Stands.{StandsFor}
 use Rattle.bigwig.specs.Asked.{Ruled}
 use Rattle.bigwig.specs.Checks.{IsRuled, IsFitWorld}
-use Rattle.bigwig.specs.Outcomes.{Between, Outside, AreServed, IsServed, AreGivenBack, ServesLinks, begins}
+use Rattle.bigwig.specs.Works.{Between, Outside, AreServed, IsServed, AreGivenBack, ServesLinks, begins}
 use Rattle.bigwig.specs.declared.status.Status.TheVariants.{Done, DoorFault}
 use Rattle.bigwig.proofs.Reaching.{course_is_fit}
 

@@ -110,6 +110,11 @@ loaded_text seen (Some disk) name bytes given how n x h found e a =
     let r : Reads (take n found.0) a.0 = subst (λ b. Reads b a.0) (e ∙ found.2) a.1 in
     found.1 ∙ ap Some (sym (whole n found.0 a.0 h r) ∙ sym found.2)
 
+-- and it isn't too long
+pub short_text : {B : Type 0} (seen : B → Service) (bytes given : List ℕ) (how : Option Shown) (x : B) → given ≡ bytes
+    → IsAnswer seen (service_text how given) (Ok x) → length bytes ≤ MAX_FILE_BYTES
+short_text seen bytes given how x e a = subst (λ b. length b ≤ MAX_FILE_BYTES) e a.1.drafted.text.short
+
 -- ---- why a service isn't taken
 
 -- a text says why the question goes wrong, or there was no memory for it

@@ -6,13 +6,14 @@ use Rattle.bw_make.specs.Made.{made}
 use Rattle.bw_out.specs.Told.{Disk}
 use Rattle.bw_schema.specs.declared.schema.Schema.{Schema}
 use Rattle.bigwig.specs.Asked.{command, file, read, typed, service_file, checked, checked_with, checked_by, accepted_file, accepted_text, accepted, replayed}
-use Rattle.bigwig.specs.Asked.{at_port, turned, page, page_file, rules, schema, built_in, formats_in, formats_file, formats, judged, ruled}
+use Rattle.bigwig.specs.Asked.{at_port, beside, turned, page, page_file, rules, schema, built_in, formats_in, formats_file, formats, judged, ruled}
 use Rattle.bigwig.specs.Asked.{lit, lit_file, work, asked}
-use Rattle.bigwig.specs.Asked.Work.{replays}
+use Rattle.bigwig.specs.Asked.Work.{replays, keeps}
+use Rattle.bigwig.specs.Behind.{content_of}
 use Rattle.bigwig.specs.Behind.{Shown, shown_file}
 use Rattle.bigwig.specs.Questions.{Said, Question, ◌>>=◌, found}
 use Rattle.bigwig.specs.declared.command.Command.{Command}
-use Rattle.bigwig.specs.declared.command.Command.TheVariants.{Check, Replay, Serve, Valid, Make, Light}
+use Rattle.bigwig.specs.declared.command.Command.TheVariants.{Check, Replay, Serve, Keep, Valid, Make, Light}
 use Rattle.bigwig.specs.declared.command.Judging.{Judging}
 use Rattle.bigwig.specs.declared.status.Status.{Status}
 use Rattle.bigwig.specs.declared.status.Status.TheVariants.{Usage, NoFile, ServiceRefused, SchemaRefused, PageRefused, FormatsRefused}
@@ -89,6 +90,10 @@ work_refuses disk (Replay service requests judging form most) =
 work_refuses disk (Serve service judging form port most) =
     then_refuses (accepted_file disk service judging form) (at_port port most) (accepted_file_refuses disk service judging form)
     (λ ruled s x. absurd x)
+work_refuses disk (Keep service judging form journal port most) =
+    then_refuses (accepted_file disk service judging form) (beside disk service journal port most) (accepted_file_refuses disk service judging form)
+    (λ ruled. then_refuses (file disk service) (λ text. found (keeps ruled text (content_of (disk journal)) port most)) (file_refuses disk service)
+    (λ text s x. absurd x))
 work_refuses disk (Valid name named) =
     then_refuses (page_file disk name) (ruled disk named) (then_refuses (file disk name) page (file_refuses disk name) (λ content s x. says_so s _ x.1 refl))
     (λ tree. then_refuses (schema disk named) (judged tree) (schema_refuses disk named) (λ by s x. says_so s _ x.2 refl))

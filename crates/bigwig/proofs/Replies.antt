@@ -10,6 +10,7 @@ use Rattle.bw_lang.specs.declared.service.Service.{Service}
 use Rattle.bw_model.specs.Runs.{At}
 use Rattle.bw_model.specs.Sessions.{World, empty}
 use Rattle.bw_out.specs.Doors.{Returned, Asks, MayAsk}
+use Rattle.bw_stable.specs.Deeds.{Deed}
 use Rattle.bw_out.specs.Told.{Coming, Disk, Finds}
 use Rattle.bw_out.specs.Writes.{AppendsPart}
 use Rattle.bw_model.proofs.Storing.{empty_is_within}
@@ -21,9 +22,10 @@ use Rattle.bigwig.specs.Asked.Work.{replays, serves}
 use Rattle.bigwig.specs.Checks.{IsRuled, IsFitWorld}
 use Rattle.bigwig.specs.Codes.{status_for}
 use Rattle.bigwig.specs.Lines.{no_file_line}
-use Rattle.bigwig.specs.Outcomes.{Outside, outside, Comes, IsReplayed, Replies, ServesLinks, begins, serving_line, status_of}
+use Rattle.bigwig.specs.Outcomes.{Comes, Replies}
+use Rattle.bigwig.specs.Works.{Outside, outside, IsReplayed, ServesLinks, begins, serving_line, status_of}
 use Rattle.bigwig.specs.Outcomes.Comes.{done, read_fault, no_memory}
-use Rattle.bigwig.specs.Outcomes.IsServing.{no_port, no_line, links_served}
+use Rattle.bigwig.specs.Works.IsServing.{no_port, no_line, links_served}
 use Rattle.bigwig.specs.Questions.{Said, Question, ◌>>=◌, IsStop, found, line}
 use Rattle.bigwig.specs.Reports.{IsReported, SaysLine}
 use Rattle.bigwig.specs.declared.command.Judging.{Judging}
@@ -41,7 +43,7 @@ use Rattle.bigwig.proofs.Reaching.{course_is_fit}
 -- ---- accepted services
 
 -- a service that was found is accepted by the schema that was found
-found_accepted : (disk : Disk) (name : List ℕ) (judging : Judging) (form : Option (List ℕ)) (ruled : Ruled) → (accepted_file disk name judging form).gives ruled
+pub found_accepted : (disk : Disk) (name : List ℕ) (judging : Judging) (form : Option (List ℕ)) (ruled : Ruled) → (accepted_file disk name judging form).gives ruled
     → IsRuled ruled.service ruled.formats ruled
 found_accepted disk name judging form ruled g = (refl, subst (λ (r : Ruled). Accepts r.service r.schema) (sym g.2.2.2.0) g.2.2.2.1, refl)
 
@@ -130,13 +132,15 @@ requests_replied left (Some d) name next file formats most old new unread end r 
     λ ruled is o.
     let same : old.seen.service ≡ ruled.service = sym is.0 in
     let form : formats ≡ ruled.formats = sym is.2 in
-    done (replays ruled found_so.0 most) (found_so.0, found_so.1, refl)
-    (subst (λ u. IsReplayed ruled found_so.0 most (record o { printed = old.held; keys = old.keys; steps = old.steps })
-    (record o { printed = new.held; keys = new.keys; unread = u; steps = new.steps }) r) (sym was)
-    (stream_replied ruled found_so.0 most old new end r o is.1 e (subst (λ s. StandsFor old.seen (empty s)) same stands)
-    (subst BeginsSound same sound) none (here ∙ found_so.2)
-    (subst (λ f. Answers f ruled.service most old new end) form (subst (λ s. Answers formats s most old new end) same answers))
-    (subst (λ f. RepliesAreGood f ruled.service old) form (subst (λ s. RepliesAreGood formats s old) same good))))
+    done (replays ruled found_so.0 most) (found_so.0, found_so.1, refl) (
+      (subst (λ u. IsReplayed ruled found_so.0 most (record o { printed = old.held; keys = old.keys; steps = old.steps })
+          (record o { printed = new.held; keys = new.keys; unread = u; steps = new.steps }) r) (sym was)
+          (stream_replied ruled found_so.0 most old new end r o is.1 e (subst (λ s. StandsFor old.seen (empty s)) same stands)
+          (subst BeginsSound same sound) none (here ∙ found_so.2)
+          (subst (λ f. Answers f ruled.service most old new end) form (subst (λ s. Answers formats s most old new end) same answers))
+          (subst (λ f. RepliesAreGood f ruled.service old) form (subst (λ s. RepliesAreGood formats s old) same good)))),
+      refl,
+    )
 
 -- the service and the formats are those that the server was made with
 pub by_service : (told : Option Disk) (q : Disk → Ruled → Question Work) (service seen : Service) (formats kept : List Format) (held now : Option (List ℕ))
@@ -165,40 +169,40 @@ replies_found (Some d) later_told name judging form requests text most ruled hel
 -- ---- links
 
 outside_same : (p : Option (List ℕ)) (k : Option Coming) (a : Option (List ℕ)) (c d : Option (List (List ℕ))) (r t : Option (List Returned))
-    (u : Option (List ℕ)) (s : ℕ) → c ≡ d → r ≡ t → outside p k a c r u s ≡ outside p k a d t u s
-outside_same p k a c d r t u s e f = ap (λ x. outside p k a x r u s) e ∙ ap (λ x. outside p k a d x u s) f
+    (u : Option (List ℕ)) (s : ℕ) (m : Option (List Deed)) → c ≡ d → r ≡ t → outside p k a c r u s m ≡ outside p k a d t u s m
+outside_same p k a c d r t u s m e f = ap (λ x. outside p k a x r u s m) e ∙ ap (λ x. outside p k a d x u s m) f
 
 -- the port couldn't be listened on
 pub no_port_comes : (ruled : Ruled) (port most : ℕ) (o : Outside) (asked : Option (List ℕ)) (coming : Option (List (List ℕ)))
     (returned : Option (List Returned)) (unread : Option (List ℕ)) → coming ≡ o.coming → returned ≡ o.returned → MayAsk o.asked asked port
-    → Comes (at_port port most ruled) o (outside o.printed o.keys asked coming returned unread o.steps) status.DoorFault
+    → Comes (at_port port most ruled) o (outside o.printed o.keys asked coming returned unread o.steps o.deeds) status.DoorFault
 no_port_comes ruled port most o asked coming returned unread e f a =
-    done (serves ruled port most) refl (no_port refl a (outside_same o.printed o.keys asked coming o.coming returned o.returned unread o.steps e f))
+    done (serves ruled port most) refl (no_port refl a (outside_same o.printed o.keys asked coming o.coming returned o.returned unread o.steps o.deeds e f), refl)
 
 -- the line was printed in a first part
 pub no_line_comes : (ruled : Ruled) (port most : ℕ) (o : Outside) (printed asked : Option (List ℕ)) (coming : Option (List (List ℕ)))
     (returned : Option (List Returned)) (unread : Option (List ℕ)) → coming ≡ o.coming → returned ≡ o.returned
     → Asks o.asked asked port → AppendsPart o.printed printed (serving_line port)
-    → Comes (at_port port most ruled) o (outside printed o.keys asked coming returned unread o.steps) status.WriteFault
+    → Comes (at_port port most ruled) o (outside printed o.keys asked coming returned unread o.steps o.deeds) status.WriteFault
 no_line_comes ruled port most o printed asked coming returned unread e f a p =
-    done (serves ruled port most) refl (no_line refl a p (outside_same printed o.keys asked coming o.coming returned o.returned unread o.steps e f))
+    done (serves ruled port most) refl (no_line refl a p (outside_same printed o.keys asked coming o.coming returned o.returned unread o.steps o.deeds e f), refl)
 
 -- links were served
 pub serving_comes : (ruled : Ruled) (seen : Seen) (formats : List Format) (port most : ℕ) (o after : Outside) (asked : Option (List ℕ))
     (coming : Option (List (List ℕ))) (returned : Option (List Returned)) (s : Status) → coming ≡ o.coming → returned ≡ o.returned
     → IsRuled seen.service formats ruled → StandsFor seen (empty seen.service) → BeginsSound seen.service → Asks o.asked asked port → after.asked ≡ asked
-    → Appends o.printed after.printed (serving_line port) → (s ≡ status.Done) ⊎ (s ≡ status.DoorFault)
+    → after.deeds ≡ o.deeds → Appends o.printed after.printed (serving_line port) → (s ≡ status.Done) ⊎ (s ≡ status.DoorFault)
     → ((r : Ruled) (m : World) → IsRuled seen.service formats r → StandsFor seen m → IsFitWorld r m
-    → ServesLinks r m most (outside None o.keys asked coming returned None o.steps) (record after { printed = None; unread = None }) s)
+    → ServesLinks r m most (outside None o.keys asked coming returned None o.steps None) (record after { printed = None; unread = None; deeds = None }) s)
     → Comes (at_port port most ruled) o after s
-serving_comes ruled seen formats port most o after asked coming returned s e f is stands sound asks same line ends gives =
-    let unprinted : Outside = record after { printed = None; unread = None } in
+serving_comes ruled seen formats port most o after asked coming returned s e f is stands sound asks same still line ends gives =
+    let unprinted : Outside = record after { printed = None; unread = None; deeds = None } in
     let from = gives ruled (empty ruled.service) is (subst (λ t. StandsFor seen (empty t)) (sym is.0) stands)
     (subst BeginsSound (sym is.0) sound ruled.schema 1 1 is.1, empty_is_within ruled.formats ruled.service) in
     let all : ServesLinks ruled (empty ruled.service) most o after s = λ keys k links l given g.
     let x = from keys k links (e ∙ l) given (f ∙ g) in
     (x.0, x.1, x.2, given_so ruled _ links given x.0 x.1 x.2 unprinted after x.3 refl refl refl refl, x.4, x.5) in
-    done (serves ruled port most) refl (links_served ends (subst (λ x. Asks o.asked x port) (sym same) asks) line all)
+    done (serves ruled port most) refl (links_served ends (subst (λ x. Asks o.asked x port) (sym same) asks) line all, still)
 
 -- the service and the formats are those that the server was made with
 pub by_same_service : (port most : ℕ) (service seen : Service) (formats kept : List Format) (before after : Outside) (s : Status) → seen ≡ service

@@ -1,5 +1,5 @@
 -- Each question has an answer: it gives a value, or something is said.
-use Rattle.std.proofs.Common.{◌≡◌, ◌≢◌, ◌⊎◌, ◌≤◌, Bool, true, false, codes, ℕ, List, [], ◌∷◌, length, Option, None, Some, Result, Ok, Err, IsUtf8, refl, sym, ap, ◌∙◌, inl, inr, arith, ◌++◌, subst}
+use Rattle.std.proofs.Common.{◌≡◌, ◌≢◌, ◌⊎◌, Bool, true, false, codes, ℕ, List, [], ◌∷◌, length, Option, None, Some, Result, Ok, Err, refl, sym, ap, ◌∙◌, inl, inr, arith, ◌++◌, subst}
 use Rattle.std.specs.Str.{is_utf8}
 use Rattle.std.specs.Str.Lines.{lines}
 use Rattle.std.proofs.lemmas.Bool.{cases_lt}
@@ -30,7 +30,7 @@ use Rattle.bw_valid.proofs.BreachLaws.{valid_decided}
 use Rattle.bigwig.specs.Asked.{page, page_file, rules, schema, built_in, judged, ruled, formats_in, formats_file, formats, AreTexts, lit, lit_file}
 use Rattle.bigwig.specs.Asked.Work.{prints}
 use Rattle.bigwig.specs.Asked.{command, file, read, typed, service_file, service_text, checked, checked_with, checked_by, accepted_file, accepted_text}
-use Rattle.bigwig.specs.Asked.{accepted, replayed, at_port, turned, work, asked, usage_line}
+use Rattle.bigwig.specs.Asked.{accepted, replayed, at_port, beside, turned, work, asked, usage_line}
 use Rattle.bigwig.specs.Behind.{Shown, AreShown, shown_file, content_of, behind_syntax, behind_type, blamed_in}
 use Rattle.bigwig.specs.Commands.{command_of}
 use Rattle.bigwig.specs.FaultLines.{check_text, page_names}
@@ -38,7 +38,7 @@ use Rattle.bigwig.specs.Laws.{HasVerdict, Checks}
 use Rattle.bigwig.specs.Lines.{syntax_line, type_line, no_file_line, no_page_line, breach_line, schema_line, format_line, no_texts_line}
 use Rattle.bigwig.specs.Questions.{Said, Question, ◌>>=◌, found, line}
 use Rattle.bigwig.specs.declared.command.Command.{Command}
-use Rattle.bigwig.specs.declared.command.Command.TheVariants.{Check, Replay, Serve, Valid, Make, Light}
+use Rattle.bigwig.specs.declared.command.Command.TheVariants.{Check, Replay, Serve, Keep, Valid, Make, Light}
 use Rattle.bigwig.specs.declared.command.Judging.{Judging}
 use Rattle.bigwig.specs.declared.status.Status.TheVariants.{Usage, NoFile, ServiceRefused, SchemaRefused, PageRefused, FormatsRefused}
 
@@ -201,6 +201,10 @@ work_some disk (Replay service requests judging form most) verdicts =
 work_some disk (Serve service judging form port most) verdicts =
     then_some (accepted_file disk service judging form) (at_port port most)
     (accepted_file_some disk service judging form (λ tree by g k. verdicts tree by (g, k))) (λ ruled _. found_some _)
+work_some disk (Keep service judging form journal port most) verdicts =
+    then_some (accepted_file disk service judging form) (beside disk service journal port most)
+    (accepted_file_some disk service judging form (λ tree by g k. verdicts tree by (g, k)))
+    (λ ruled _. then_some (file disk service) _ (file_some disk service) (λ text _. found_some _))
 work_some disk (Valid name named) verdicts =
     then_some (page_file disk name) (ruled disk named) (page_file_some disk name)
     (λ tree _. then_some (schema disk named) (judged tree) (schema_some disk named) (λ by _. judged_some tree by))

@@ -40,7 +40,7 @@ told_handed seen (Some d) q r s is h = stops_handed seen (q d) r s is h
 stop_is : {A : Type 0} (e s : Stop) → IsErrOf {T = A} (Err e) s → e ≡ s
 stop_is e s h = cc
 
-no_stop : {A : Type 0} (v : A) (s : Stop) → IsErrOf {T = A} (Ok v) s → ⊥
+pub no_stop : {A : Type 0} (v : A) (s : Stop) → IsErrOf {T = A} (Ok v) s → ⊥
 no_stop v s h = cc
 
 -- and a read fault shows as it did there, where the part before it had none

@@ -30,14 +30,14 @@ use Rattle.bw_types.specs.Faults.{IsWellTyped, first_fault}
 use Rattle.bw_types.specs.declared.fault.TypeFault.{TypeFault}
 use Rattle.bw_valid.specs.Breaches.{breach}
 use Rattle.bw_valid.specs.declared.breach.Breach.{Breach}
-use Rattle.bigwig.specs.Behind.{Shown, shown_file, AreShown, behind_syntax, behind_type, blamed_in}
+use Rattle.bigwig.specs.Behind.{Shown, content_of, shown_file, AreShown, behind_syntax, behind_type, blamed_in}
 use Rattle.bigwig.specs.Commands.{command_of}
 use Rattle.bigwig.specs.FaultLines.{check_text, page_names}
 use Rattle.bigwig.specs.Lines.{syntax_line, type_line, no_file_line, no_page_line, breach_line, schema_line, format_line, no_texts_line}
 use Rattle.bigwig.specs.Making.{made_text}
 use Rattle.bigwig.specs.Questions.{Question, ◌>>=◌, found, line}
 use Rattle.bigwig.specs.declared.command.Command.{Command}
-use Rattle.bigwig.specs.declared.command.Command.TheVariants.{Check, Replay, Serve, Valid, Make, Light}
+use Rattle.bigwig.specs.declared.command.Command.TheVariants.{Check, Replay, Serve, Keep, Valid, Make, Light}
 use Rattle.bigwig.specs.declared.command.Judging.{Judging}
 use Rattle.bigwig.specs.declared.lighting.TheConstants.{MAX_TEXTS_BYTES}
 use Rattle.bigwig.specs.declared.status.Status.TheVariants.{Usage, NoFile, ServiceRefused, SchemaRefused, PageRefused, FormatsRefused}
@@ -146,12 +146,13 @@ accepted_file disk name judging form =
     service_file (shown_file judging.source disk name) disk name
     >>= checked_by (shown_file judging.source disk name) disk judging.schema form
 
--- What is left to do where every question went well: to print; to answer a stream of at most so many requests; or to
--- serve at most so many links at a port.
+-- What is left to do where every question went well: to print; to answer a stream of at most so many requests; to serve at
+-- most so many links at a port; or to do so beside a journal that has this content, of the service with this text.
 pub data Work : Type 0 where
   prints : List ℕ → Work
   replays : Ruled → List ℕ → ℕ → Work
   serves : Ruled → ℕ → ℕ → Work
+  keeps : Ruled → (text content : List ℕ) (port most : ℕ) → Work
 
 -- a service that is accepted, and no more is asked for
 abbrev pub accepted : Ruled → Question Work
@@ -164,6 +165,10 @@ replayed disk requests most ruled = file disk requests >>= (λ stream. found (re
 -- the port of a service that is served
 abbrev pub at_port : ℕ → ℕ → Ruled → Question Work
 at_port port most ruled = found (serves ruled port most)
+
+-- the port of a service that is served beside a journal. Where there is no file of its name, the journal is empty.
+abbrev pub beside : Disk → List ℕ → List ℕ → ℕ → ℕ → Ruled → Question Work
+beside disk name journal port most ruled = file disk name >>= (λ text. found (keeps ruled text (content_of (disk journal)) port most))
 
 -- the service of a text, without formats, where it is accepted by the built-in schema
 abbrev pub accepted_text : List ℕ → Question Ruled
@@ -224,6 +229,7 @@ abbrev pub work : Disk → Command → Question Work
 work disk (Check service judging) = accepted_file disk service judging None >>= accepted
 work disk (Replay service requests judging form most) = accepted_file disk service judging form >>= replayed disk requests most
 work disk (Serve service judging form port most) = accepted_file disk service judging form >>= at_port port most
+work disk (Keep service judging form journal port most) = accepted_file disk service judging form >>= beside disk service journal port most
 work disk (Valid name named) = page_file disk name >>= ruled disk named
 work disk (Make count workers) = made_work count
 work disk (Light form texts) = lights disk form texts

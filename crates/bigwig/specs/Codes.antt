@@ -15,6 +15,8 @@ use Rattle.bigwig.specs.declared.status.Status.TheVariants.{
   PageRefused,
   FormatsRefused,
   NoFile,
+  JournalRefused,
+  JournalFault,
 }
 
 -- the code that the program ends with for a status
@@ -30,6 +32,8 @@ code_of Memory = 8
 code_of PageRefused = 9
 code_of FormatsRefused = 10
 code_of NoFile = 15
+code_of JournalRefused = 16
+code_of JournalFault = 17
 
 -- the status that the program ends with where this is refused
 abbrev pub status_for : Refusal → Status
@@ -38,3 +42,4 @@ status_for refusals.Service = ServiceRefused
 status_for refusals.Schema = SchemaRefused
 status_for refusals.Page = PageRefused
 status_for refusals.Formats = FormatsRefused
+status_for refusals.Journal = JournalRefused

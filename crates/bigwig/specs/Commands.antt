@@ -5,7 +5,7 @@ use Rattle.clap.specs.Words.{fault_of}
 use Rattle.bigwig.specs.Numbers.{number_in, number_or}
 use Rattle.bigwig.specs.Words.{Written, bigwig, written_by}
 use Rattle.bigwig.specs.declared.command.Command.{Command}
-use Rattle.bigwig.specs.declared.command.Command.TheVariants.{Check, Replay, Serve, Valid, Make, Light}
+use Rattle.bigwig.specs.declared.command.Command.TheVariants.{Check, Replay, Serve, Keep, Valid, Make, Light}
 use Rattle.bigwig.specs.declared.command.Judging.{Judging}
 use Rattle.bigwig.specs.declared.command.TheConstants.{DEFAULT_PORT, MAX_LINKS, MAX_PORT, MAX_REQUESTS, MAX_WORKERS}
 use Rattle.bw_make.specs.declared.TheConstants.{MAX_PAGES}
@@ -26,7 +26,7 @@ judging_by w = judging_of w.schema (number_or 1 MAX_WORKERS 1 w.workers) (is_wri
 
 -- no option is there but the schema, the workers and the flag
 abbrev pub has_judging_alone : Written → Bool
-has_judging_alone w = is_none w.limit && (is_none w.port && is_none w.formats)
+has_judging_alone w = is_none w.limit && (is_none w.port && (is_none w.formats && is_none w.journal))
 
 -- check SERVICE
 abbrev pub check_of : Option (List ℕ) → Option (List ℕ) → Option Judging → Option Command
@@ -43,20 +43,27 @@ replay_of service requests judging formats most = None
 
 abbrev pub replay_by : Written → Option Command
 replay_by w =
-    if is_none w.port then replay_of w.first w.second (judging_by w) w.formats (number_or 1 MAX_REQUESTS MAX_REQUESTS w.limit) else None
+    if is_none w.port && is_none w.journal then replay_of w.first w.second (judging_by w) w.formats (number_or 1 MAX_REQUESTS MAX_REQUESTS w.limit)
+    else None
 
--- serve SERVICE, with the formats that are named, if some are
-abbrev pub serve_of : Option (List ℕ) → Option (List ℕ) → Option Judging → Option (List ℕ) → Option ℕ → Option ℕ → Option Command
-serve_of (Some service) None (Some judging) formats (Some port) (Some most) = Some (Serve service judging formats port most)
-serve_of service second judging formats port most = None
+-- the command that serves a service, beside a journal where one is named
+abbrev pub serving : List ℕ → Judging → Option (List ℕ) → Option (List ℕ) → ℕ → ℕ → Command
+serving service judging formats None port most = Serve service judging formats port most
+serving service judging formats (Some journal) port most = Keep service judging formats journal port most
+
+-- serve SERVICE, with the formats and beside the journal that are named, if they are
+abbrev pub serve_of : Option (List ℕ) → Option (List ℕ) → Option Judging → Option (List ℕ) → Option (List ℕ) → Option ℕ → Option ℕ → Option Command
+serve_of (Some service) None (Some judging) formats journal (Some port) (Some most) = Some (serving service judging formats journal port most)
+serve_of service second judging formats journal port most = None
 
 abbrev pub serve_by : Written → Option Command
 serve_by w =
-    serve_of w.first w.second (judging_by w) w.formats (number_or 1 MAX_PORT DEFAULT_PORT w.port) (number_or 1 MAX_LINKS MAX_LINKS w.limit)
+    serve_of w.first w.second (judging_by w) w.formats w.journal (number_or 1 MAX_PORT DEFAULT_PORT w.port) (number_or 1 MAX_LINKS MAX_LINKS w.limit)
 
 -- no option is there but the schema
 abbrev pub has_schema_alone : Written → Bool
-has_schema_alone w = is_none w.workers && (is_none w.limit && (is_none w.port && (is_none w.formats && not (is_written w.source))))
+has_schema_alone w =
+    is_none w.workers && (is_none w.limit && (is_none w.port && (is_none w.formats && (is_none w.journal && not (is_written w.source)))))
 
 -- valid PAGE
 abbrev pub valid_of : Option (List ℕ) → Option (List ℕ) → Option (List ℕ) → Option Command
@@ -68,7 +75,8 @@ valid_by w = if has_schema_alone w then valid_of w.first w.second w.schema else 
 
 -- no option is there but the workers
 abbrev pub has_workers_alone : Written → Bool
-has_workers_alone w = is_none w.schema && (is_none w.limit && (is_none w.port && (is_none w.formats && not (is_written w.source))))
+has_workers_alone w =
+    is_none w.schema && (is_none w.limit && (is_none w.port && (is_none w.formats && (is_none w.journal && not (is_written w.source)))))
 
 -- make N
 abbrev pub make_of : Option ℕ → Option (List ℕ) → Option ℕ → Option Command
@@ -86,7 +94,8 @@ make_by w = if has_workers_alone w then make_of (count_of w.first) w.second (num
 -- no option is there
 abbrev pub has_no_option : Written → Bool
 has_no_option w =
-    is_none w.schema && (is_none w.workers && (is_none w.limit && (is_none w.port && (is_none w.formats && not (is_written w.source)))))
+    is_none w.schema
+    && (is_none w.workers && (is_none w.limit && (is_none w.port && (is_none w.formats && (is_none w.journal && not (is_written w.source))))))
 
 -- light FORMATS TEXTS
 abbrev pub light_of : Option (List ℕ) → Option (List ℕ) → Option Command
@@ -131,6 +140,7 @@ abbrev pub IsInRange : Command → Type 0
 IsInRange (Check service judging) = AreWorkers judging.workers
 IsInRange (Replay service requests judging formats most) = AreWorkers judging.workers
 IsInRange (Serve service judging formats port most) = AreWorkers judging.workers
+IsInRange (Keep service judging formats journal port most) = AreWorkers judging.workers
 IsInRange (Valid page schema) = ⊤
 IsInRange (Make count workers) = (1 ≤ count) × (count ≤ MAX_PAGES) × AreWorkers workers
 IsInRange (Light formats texts) = ⊤

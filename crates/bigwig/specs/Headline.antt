@@ -23,7 +23,7 @@ use Rattle.bw_schema.specs.declared.schema.Schema.{Schema}
 use Rattle.bw_sound.specs.Good.{IsGood}
 use Rattle.bw_types.specs.Typing.{IsTypedService}
 use Rattle.bigwig.specs.Commands.{command_of}
-use Rattle.bigwig.specs.Outcomes.{Outside}
+use Rattle.bigwig.specs.Works.{Outside}
 use Rattle.bigwig.specs.declared.command.Command.TheVariants.{Replay, Serve, Light}
 use Rattle.bigwig.specs.declared.command.Judging.{Judging}
 use Rattle.bigwig.specs.declared.status.Status.{Status}

@@ -16,15 +16,16 @@ use Rattle.bw_schema.specs.declared.default_schema.TheConstants.{BUILT_IN}
 use Rattle.bw_schema.specs.declared.schema.Schema.{Schema}
 use Rattle.bw_types.specs.Faults.{IsWellTyped}
 use Rattle.bigwig.specs.Asked.{Ruled, Work, asked, built_in, schema, service_file, service_text}
-use Rattle.bigwig.specs.Asked.Work.{serves}
+use Rattle.bigwig.specs.Asked.Work.{keeps, serves}
 use Rattle.bigwig.specs.Commands.{command_of}
-use Rattle.bigwig.specs.Outcomes.{Outside, Comes, IsDone}
+use Rattle.bigwig.specs.Outcomes.{Comes, IsDone}
+use Rattle.bigwig.specs.Works.{Outside}
 use Rattle.bigwig.specs.Questions.{Said}
 use Rattle.bigwig.specs.declared.command.Command.{Command}
-use Rattle.bigwig.specs.declared.command.Command.TheVariants.{Check, Make, Replay, Serve, Valid, Light}
+use Rattle.bigwig.specs.declared.command.Command.TheVariants.{Check, Make, Replay, Serve, Keep, Valid, Light}
 use Rattle.bigwig.specs.declared.command.Judging.{Judging}
 use Rattle.bigwig.specs.declared.status.Status.{Status}
-use Rattle.bigwig.specs.declared.status.Status.TheVariants.{Done, ReadFault, WriteFault, DoorFault, Memory}
+use Rattle.bigwig.specs.declared.status.Status.TheVariants.{Done, ReadFault, WriteFault, DoorFault, Memory, JournalRefused, JournalFault}
 
 -- the status that is due by the words and the files: that of what is said, or that of work that is done
 abbrev pub Due : List (List ℕ) → Disk → Status → Type 0
@@ -40,6 +41,7 @@ abbrev pub Checks : Disk → Command → Service → Schema → Type 0
 Checks disk (Check service judging) tree by = (service_file None disk service).gives tree × (schema disk judging.schema).gives by
 Checks disk (Replay service requests judging form most) tree by = (service_file None disk service).gives tree × (schema disk judging.schema).gives by
 Checks disk (Serve service judging form port most) tree by = (service_file None disk service).gives tree × (schema disk judging.schema).gives by
+Checks disk (Keep service judging form journal port most) tree by = (service_file None disk service).gives tree × (schema disk judging.schema).gives by
 Checks disk (Valid name named) tree by = ⊥
 Checks disk (Make count workers) tree by = (service_text None (made count)).gives tree × built_in.gives by
 Checks disk (Light form texts) tree by = ⊥
@@ -55,9 +57,10 @@ SomeStatusIsDue =
 abbrev pub OneStatusIsDue : Type 0
 OneStatusIsDue = (words : List (List ℕ)) (disk : Disk) (status other : Status) → Due words disk status → Due words disk other → status ≡ other
 
--- the status of a fault that is counted, or that of want of memory
+-- the status of a fault that is counted, that of want of memory, or that of a journal that is refused
 abbrev pub IsFree : Status → Type 0
-IsFree status = (status ≡ ReadFault) ⊎ ((status ≡ WriteFault) ⊎ ((status ≡ DoorFault) ⊎ (status ≡ Memory)))
+IsFree status =
+    (status ≡ ReadFault) ⊎ ((status ≡ WriteFault) ⊎ ((status ≡ DoorFault) ⊎ ((status ≡ Memory) ⊎ ((status ≡ JournalFault) ⊎ (status ≡ JournalRefused)))))
 
 -- the program comes to the status that is due, unless a count rose or there was no memory
 abbrev pub ComesWhereDue : Type 0
@@ -71,11 +74,23 @@ DoesItsWork =
     (words : List (List ℕ)) (disk : Disk) (work : Work) (before after : Outside) (status : Status) → (asked words disk).gives work
     → Comes (asked words disk) before after status → ((status ≡ Done) × IsDone work before after status) ⊎ IsFree status
 
+-- the work serves links at a port
+pub data ServesLinks : Work → Type 0 where
+  alone : (ruled : Ruled) (port most : ℕ) → ServesLinks (serves ruled port most)
+  kept : (ruled : Ruled) (text content : List ℕ) (port most : ℕ) → ServesLinks (keeps ruled text content port most)
+
 -- the door's fault comes only where a service is served
 abbrev pub DoorFaultsServe : Type 0
 DoorFaultsServe =
     (words : List (List ℕ)) (disk : Disk) (before after : Outside) → Comes (asked words disk) before after DoorFault
-    → (ruled : Ruled) × (port : ℕ) × (most : ℕ) × (asked words disk).gives (serves ruled port most)
+    → (work : Work) × (asked words disk).gives work × ServesLinks work
+
+-- a journal is refused or fails only where a service is served beside one
+abbrev pub JournalsAreKept : Type 0
+JournalsAreKept =
+    (words : List (List ℕ)) (disk : Disk) (before after : Outside) (status : Status) → Comes (asked words disk) before after status
+    → (status ≡ JournalRefused) ⊎ (status ≡ JournalFault)
+    → (ruled : Ruled) × (text : List ℕ) × (content : List ℕ) × (port : ℕ) × (most : ℕ) × (asked words disk).gives (keeps ruled text content port most)
 
 -- the file of this name has a service that is accepted by the schema that is named
 pub record IsAcceptedFile (disk : Disk) (name : List ℕ) (named : Option (List ℕ)) : Type 0 where

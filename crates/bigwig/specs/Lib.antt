@@ -4,8 +4,10 @@ pub mod Checks
 pub mod Codes
 pub mod Commands
 pub mod FaultLines
+pub mod Finding
 pub mod Laws
 pub mod Headline
+pub mod Keeping
 pub mod Lent
 pub mod Lines
 pub mod Making
@@ -14,3 +16,4 @@ pub mod Outcomes
 pub mod Questions
 pub mod Reports
 pub mod Words
+pub mod Works

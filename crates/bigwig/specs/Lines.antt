@@ -8,6 +8,8 @@ use Rattle.bw_lang.specs.declared.stmt.Kind.{Kind}
 use Rattle.bw_lang.specs.declared.stmt.Kind.TheVariants as kinds
 use Rattle.bw_lex.specs.declared.LexFault.{LexFault}
 use Rattle.bw_lex.specs.declared.LexFault.TheVariants as lexing
+use Rattle.bw_keeping.specs.declared.recalling.Recalled.{Recalled}
+use Rattle.bw_keeping.specs.declared.recalling.Recalled.TheVariants as recalled
 use Rattle.bw_schema.specs.declared.fault.SchemaFault.{SchemaFault}
 use Rattle.bw_schema.specs.declared.fault.SchemaFault.TheVariants as schemas
 use Rattle.bw_syntax.specs.declared.fault.SyntaxFault.{SyntaxFault}
@@ -117,3 +119,10 @@ format_line formats.Memory = []
 -- the bytes are no texts
 abbrev pub no_texts_line : List ℕ
 no_texts_line = codes "texts malformed"
+
+-- why a journal is refused
+abbrev pub journal_line : Recalled → List ℕ
+journal_line (recalled.Damaged at) = codes "journal damaged at " ++ decimal at
+journal_line (recalled.Version version) = codes "journal version " ++ decimal version
+journal_line recalled.Other = codes "journal of another service"
+journal_line _ = []

@@ -6,7 +6,7 @@ use Rattle.bw_lang.specs.declared.declaration.Draft.{Draft}
 use Rattle.bigwig.specs.Behind.{Shown, AreShown}
 use Rattle.bigwig.specs.Codes.{status_for}
 use Rattle.bigwig.specs.FaultLines.{check_text}
-use Rattle.bigwig.specs.Outcomes.{Prints}
+use Rattle.bigwig.specs.Works.{Prints}
 use Rattle.bigwig.specs.Questions.{line}
 use Rattle.bigwig.specs.declared.status.Refusal.{Refusal}
 use Rattle.bigwig.specs.declared.status.Refusal.TheVariants as refusals

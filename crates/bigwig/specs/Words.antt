@@ -1,4 +1,4 @@
--- The words of the command line, by clap: one simple command with three words, five options and a flag.
+-- The words of the command line, by clap: one simple command with three words, six options and a flag.
 use Rattle.std.specs.Prelude.{◌≡◌, true, List, [], Option, Some, codes, option_map}
 use Rattle.std.specs.Borrow.{Bor}
 use Rattle.clap.specs.Words.{App, Row, Rule, Text, new_app, new_rule, with_rule, matches_of, fault_of}
@@ -22,10 +22,10 @@ bare = on_top (λ s. record s { no_binary_name = true; disable_help_flag = true;
 -- the whole command
 unfoldable pub bigwig : App
 bigwig =
-    with_rule (with_rule (with_rule (with_rule (with_rule (with_rule (with_rule (with_rule (with_rule bare
+    with_rule (with_rule (with_rule (with_rule (with_rule (with_rule (with_rule (with_rule (with_rule (with_rule bare
     (new_rule (codes "command"))) (new_rule (codes "first"))) (new_rule (codes "second")))
     (option_rule (codes "schema"))) (option_rule (codes "workers"))) (option_rule (codes "limit")))
-    (option_rule (codes "port"))) (option_rule (codes "formats"))) (flag_rule (codes "show-source"))
+    (option_rule (codes "port"))) (option_rule (codes "formats"))) (option_rule (codes "journal"))) (flag_rule (codes "show-source"))
 
 -- clap takes the words
 abbrev pub IsTaken : List Text → Type 0
@@ -41,6 +41,7 @@ pub record Written : Type 0 where
   pub limit : Option Text
   pub port : Option Text
   pub formats : Option Text
+  pub journal : Option Text
   pub source : Option Text
 
 -- the first values of clap's matches
@@ -54,6 +55,7 @@ written_in rows = record {
   limit = first_of (codes "limit") rows;
   port = first_of (codes "port") rows;
   formats = first_of (codes "formats") rows;
+  journal = first_of (codes "journal") rows;
   source = first_of (codes "show-source") rows;
 }
 
@@ -76,5 +78,6 @@ line_of l = record {
   limit = text_of l.limit;
   port = text_of l.port;
   formats = text_of l.formats;
+  journal = text_of l.journal;
   source = text_of l.source;
 }

@@ -1,5 +1,6 @@
 //! Services that the check accepts.
-ghost use Rattle.std.specs.Prelude.{◌≡◌, None, IfOk, IfSome, IsErrOf, codes};
+ghost use Rattle.std.specs.Prelude.{◌≡◌, ◌≤◌, length, None, Some, IfOk, IfSome, IsErrOf, codes};
+ghost use Rattle.bw_lang.specs.declared.limits.TheConstants.{MAX_FILE_BYTES};
 ghost use Rattle.bw_out.specs.Causes.{Shows};
 ghost use Rattle.bigwig.specs.Asked as asked;
 ghost use Rattle.bigwig.specs.Asked.{accepted_file, work};
@@ -36,8 +37,14 @@ pub struct Served {
     pub formats: Formats,
 }
 
-/// The service of a file, where it is accepted: the service file is read first, then the schema and the formats, and then
-/// comes the check.
+/// A service that is accepted, and the text of its file.
+#[derive(Drop)]
+pub struct Kept {
+    pub served: Served,
+    pub text: Vec<u8>,
+}
+
+/// The service of a file, where it is accepted.
 pub fn load_checked<R: Threads + Sync, F: Files, P: Pulse>(
     tools: &Tools<R, P>,
     files: &mut F,
@@ -49,16 +56,43 @@ pub fn load_checked<R: Threads + Sync, F: Files, P: Pulse>(
     ensures told { F.told files.new ≡ F.told files.old }
     ensures read_fault { Shows (IsErrOf result Stop.ReadFault) (F.faults files.old) (F.faults files.new) }
 {
+    match load_kept(tools, files, named) {
+        Ok(kept) => {
+            let Kept { served, text } = kept;
+            drop(text);
+            Ok(served)
+        }
+        Err(stop) => Err(stop),
+    }
+}
+
+/// The same with the text of the file: the service file is read first, then the schema and the formats, and then comes the
+/// check.
+pub fn load_kept<R: Threads + Sync, F: Files, P: Pulse>(
+    tools: &Tools<R, P>,
+    files: &mut F,
+    named: Named<'_, '_, '_>,
+) -> Result<Kept, Stop>
+    requires { AreWorkers named.judging.now.workers }
+    ensures text { IfOk result (λ kept. IfSome (F.told files.old) (λ disk. disk named.entry.service.now ≡ Some kept.text.items)) }
+    ensures short { IfOk result (λ kept. length kept.text.items ≤ MAX_FILE_BYTES) }
+    ensures answers { IfSome (F.told files.old) (λ disk.
+        IsAnswer (λ kept. ruled_by kept.served) (accepted_file disk named.entry.service.now named.entry.judging.now named.entry.formats.now) result) }
+    ensures told { F.told files.new ≡ F.told files.old }
+    ensures read_fault { Shows (IsErrOf result Stop.ReadFault) (F.faults files.old) (F.faults files.new) }
+{
     let name = named.service.as_str();
     let loaded = load_service(tools.alloc, files, name, named.judging.source)?;
     let Loaded { typed, text } = loaded;
     let how = shown_as(named.judging.source, name, &text);
     match load_schema(tools.alloc, files, &named.judging.schema) {
-        Ok(schema) => {
-            let served = checked_with(tools, files, typed, schema, named, how);
-            drop(text);
-            served
-        }
+        Ok(schema) => match checked_with(tools, files, typed, schema, named, how) {
+            Ok(served) => Ok(Kept { served, text }),
+            Err(stop) => {
+                drop(text);
+                Err(stop)
+            }
+        },
         Err(stop) => {
             drop(typed);
             drop(text);

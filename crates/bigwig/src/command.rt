@@ -80,6 +80,20 @@ pub enum Command {
         /// The greatest number of links that are served.
         most: u32,
     },
+    /// To serve links beside a journal.
+    Keep {
+        /// The name of the service file.
+        service: Text,
+        judging: Judging,
+        /// The name of the file of formats. Where there is none, no field has a format.
+        formats: Option<Text>,
+        /// The name of the journal.
+        journal: Text,
+        /// The port.
+        port: u16,
+        /// The greatest number of links that are served.
+        most: u32,
+    },
     /// To say whether a page is valid.
     Valid {
         /// The name of the page file.
@@ -196,6 +210,7 @@ fn check_by(alloc: Global, line: &Line<'_>) -> Result<Command, WordsFault>
     if line.limit.is_some()
         || line.port.is_some()
         || line.formats.is_some()
+        || line.journal.is_some()
         || line.second.is_some()
     {
         return Err(WordsFault::Refused);
@@ -213,7 +228,7 @@ fn replay_by(alloc: Global, line: &Line<'_>) -> Result<Command, WordsFault>
     ensures ok { IfOk result (λ c. (spec.replay_by (words.line_of line.now) ≡ Some c) × spec.IsInRange c) }
     ensures refused { IsErrOf result WordsFault.Refused → spec.replay_by (words.line_of line.now) ≡ None }
 {
-    if line.port.is_some() {
+    if line.port.is_some() || line.journal.is_some() {
         return Err(WordsFault::Refused);
     }
     let service = line.first.ok_or(WordsFault::Refused)?;
@@ -229,7 +244,7 @@ fn replay_by(alloc: Global, line: &Line<'_>) -> Result<Command, WordsFault>
     })
 }
 
-/// `serve SERVICE`.
+/// `serve SERVICE`, beside a journal where one is named.
 fn serve_by(alloc: Global, line: &Line<'_>) -> Result<Command, WordsFault>
     ensures ok { IfOk result (λ c. (spec.serve_by (words.line_of line.now) ≡ Some c) × spec.IsInRange c) }
     ensures refused { IsErrOf result WordsFault.Refused → spec.serve_by (words.line_of line.now) ≡ None }
@@ -241,13 +256,25 @@ fn serve_by(alloc: Global, line: &Line<'_>) -> Result<Command, WordsFault>
     let port = port_of(line.port).ok_or(WordsFault::Refused)?;
     let most = number_or(1, MAX_LINKS, MAX_LINKS, line.limit).ok_or(WordsFault::Refused)?;
     let judging = judging_by(alloc, line)?;
-    Ok(Command::Serve {
-        service: owned(alloc, service)?,
-        judging,
-        formats: owned_option(alloc, line.formats)?,
-        port,
-        most,
-    })
+    let service = owned(alloc, service)?;
+    let formats = owned_option(alloc, line.formats)?;
+    match line.journal {
+        None => Ok(Command::Serve {
+            service,
+            judging,
+            formats,
+            port,
+            most,
+        }),
+        Some(journal) => Ok(Command::Keep {
+            service,
+            judging,
+            formats,
+            journal: owned(alloc, journal)?,
+            port,
+            most,
+        }),
+    }
 }
 
 /// The port that is named, and 8080 where none is.
@@ -272,6 +299,7 @@ fn valid_by(alloc: Global, line: &Line<'_>) -> Result<Command, WordsFault>
         || line.limit.is_some()
         || line.port.is_some()
         || line.formats.is_some()
+        || line.journal.is_some()
         || is_written(line.source)
         || line.second.is_some()
     {
@@ -293,6 +321,7 @@ fn make_by(line: &Line<'_>) -> Result<Command, WordsFault>
         || line.limit.is_some()
         || line.port.is_some()
         || line.formats.is_some()
+        || line.journal.is_some()
         || is_written(line.source)
         || line.second.is_some()
     {
@@ -314,6 +343,7 @@ fn light_by(alloc: Global, line: &Line<'_>) -> Result<Command, WordsFault>
         || line.limit.is_some()
         || line.port.is_some()
         || line.formats.is_some()
+        || line.journal.is_some()
         || is_written(line.source)
     {
         return Err(WordsFault::Refused);

@@ -6,6 +6,7 @@ mod command;
 mod fault_lines;
 mod formats;
 mod judging;
+mod keeping;
 mod laws;
 mod lent;
 mod lighting;

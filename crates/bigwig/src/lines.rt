@@ -7,6 +7,7 @@ ghost use Rattle.bw_types.specs.declared.fault.TypeFault.TheVariants as types;
 ghost use Rattle.bigwig.specs.Lines as spec;
 
 use bw_format::FormatFault;
+use bw_keeping::Recalled;
 use bw_lang::{Kind, Limit, Memory};
 use bw_lex::LexFault;
 use bw_schema::SchemaFault;
@@ -259,4 +260,18 @@ pub fn no_texts_line(alloc: Global) -> Result<Vec<u8>, Memory>
     ensures { IfOk result (λ line. line.items ≡ spec.no_texts_line) }
 {
     paired(alloc, b"texts malformed", b"")
+}
+
+/// Why a journal is refused.
+pub fn journal_line(alloc: Global, recalled: Recalled) -> Result<Vec<u8>, Memory>
+    ensures { IfOk result (λ line. line.items ≡ spec.journal_line recalled) }
+{
+    match recalled {
+        Recalled::Damaged(at) => placed(alloc, b"journal damaged at ", at as usize),
+        Recalled::Version(version) => placed(alloc, b"journal version ", usize::from(version)),
+        Recalled::Other => Ok(b"journal of another service".to_vec(alloc)?),
+        Recalled::New | Recalled::Done { .. } | Recalled::ReadFault | Recalled::Memory => {
+            Ok(Vec::new(alloc))
+        }
+    }
 }

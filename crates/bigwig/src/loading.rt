@@ -1,7 +1,8 @@
 //! What the files give: the service.
-ghost use Rattle.std.specs.Prelude.{◌≡◌, ◌≢◌, ◌++◌, List, ℕ, IfOk, IfErr, IfSome, IsErrOf, take, Some};
+ghost use Rattle.std.specs.Prelude.{◌≡◌, ◌≢◌, ◌≤◌, ◌++◌, List, ℕ, IfOk, IfErr, IfSome, IsErrOf, length, take, Some};
 ghost use Rattle.bw_lang.specs.Service.Reads.{IsReadable};
 ghost use Rattle.bw_lang.specs.declared.declaration.Draft.{Draft as Draft_};
+ghost use Rattle.bw_lang.specs.declared.limits.TheConstants.{MAX_FILE_BYTES};
 ghost use Rattle.bw_out.specs.Causes.{Shows};
 ghost use Rattle.bw_syntax.specs.declared.fault.SyntaxFault.TheVariants as faults;
 ghost use Rattle.bw_types.specs.declared.fault.TypeFault.TheVariants as types;
@@ -116,6 +117,7 @@ pub fn load_service<F: Files>(
     ensures answers { IfSome (F.told files.old) (λ disk.
         IsAnswer (λ l. l.typed.service) (service_file (shown_file source disk name.now) disk name.now) result) }
     ensures text { IfOk result (λ l. IfSome (F.told files.old) (λ disk. disk name.now ≡ Some l.text.items)) }
+    ensures short { IfOk result (λ l. length l.text.items ≤ MAX_FILE_BYTES) }
     ensures told { F.told files.new ≡ F.told files.old }
     ensures read_fault { Shows (IsErrOf result Stop.ReadFault) (F.faults files.old) (F.faults files.new) }
 {

@@ -39,6 +39,7 @@ pub fn make_command<R: Threads + Sync, W: Sink, P: Pulse>(
     requires workers { AreWorkers workers }
     ensures comes { Speaks (made_work count) (W.held out.old) (W.held out.new) result }
     ensures others { (result ≢ Status.Usage) × ((result ≢ Status.ReadFault) × (result ≢ Status.DoorFault)) }
+    ensures no_journal { result ≢ Status.JournalFault }
     ensures write_fault { Shows (result ≡ Status.WriteFault) (W.write_faults out.old) (W.write_faults out.new) }
 {
     match made_text(tools, count, workers) {

@@ -5,13 +5,15 @@ ghost use Rattle.bw_out.specs.Told.{AreWords};
 ghost use Rattle.bigwig.specs.Asked.{asked, work};
 ghost use Rattle.bigwig.specs.Commands.{command_of, AreWorkers, IsInRange};
 ghost use Rattle.bigwig.specs.Headline.{Headline};
-ghost use Rattle.bigwig.specs.Lent.{AreSame, HasCauses, faults_of, seen_of};
-ghost use Rattle.bigwig.specs.Outcomes.{Comes, Speaks, outside};
+ghost use Rattle.bigwig.specs.Lent.{AreSame, HasCauses, ShowsJournal, faults_of, seen_of};
+ghost use Rattle.bigwig.specs.Outcomes.{Comes, Speaks};
+ghost use Rattle.bigwig.specs.Works.{outside};
 ghost use Rattle.bigwig.specs.declared.command.Command.TheVariants as commands;
 
 use crate::checking::load_accepted;
 use crate::command::{Command, Judging, Named, read_words};
 use crate::judging::load_valid;
+use crate::keeping::{Place, keep_command};
 use crate::lent::{Lent, Tools};
 use crate::lighting::load_lights;
 use crate::making::make_command;
@@ -20,8 +22,10 @@ use crate::report::{print_line, print_text, report};
 use crate::serving::serve_command;
 use crate::status::Status;
 use crate::words::WordsFault;
+use bw_keeping::WideDoor;
 use bw_lang::{Text, Words};
-use bw_out::{Door, Files, Keys, Pulse, Sink, Steps};
+use bw_out::{Files, Keys, Pulse, Sink, Steps};
+use bw_stable::Journals;
 use std::alloc::Global;
 use std::sync::ledger::Ledger;
 use std::thread::Threads;
@@ -47,11 +51,21 @@ const USAGE: &[u8] =
 /// of `files`, `out` or `door` rose in this call; a fault on a link is none of these and ends that link alone. After a
 /// `ReadFault` or a `WriteFault` of `replay` each request before the fault was answered whole. `Memory` comes, with
 /// nothing printed and no link taken, only before the first request.
-pub fn run<R: Threads + Sync, F: Files, D: Door, K: Keys, W: Sink, P: Pulse, L: Ledger>(
+pub fn run<
+    R: Threads + Sync,
+    F: Files,
+    J: Journals,
+    D: WideDoor,
+    K: Keys,
+    W: Sink,
+    P: Pulse,
+    L: Ledger,
+>(
     rt: &R,
     alloc: Global,
     words: &Words,
     files: &mut F,
+    journals: &mut J,
     door: &mut D,
     keys: &mut K,
     out: &mut W,
@@ -59,21 +73,23 @@ pub fn run<R: Threads + Sync, F: Files, D: Door, K: Keys, W: Sink, P: Pulse, L: 
     steps: &mut Steps<L>,
 ) -> Status
     ensures comes { IfSome (F.told files.old) (λ disk. Comes (asked words.now disk)
-        (outside (W.held out.old) (K.coming keys.old) (D.asked door.old) (D.coming door.old) (D.returned door.old) (F.unread files.old) steps.old)
-        (outside (W.held out.new) (K.coming keys.new) (D.asked door.new) (D.coming door.new) (D.returned door.new) (F.unread files.new) steps.new) result) }
+        (outside (W.held out.old) (K.coming keys.old) (D.asked door.old) (D.coming door.old) (D.returned door.old) (F.unread files.old) steps.old (J.deeds journals.old))
+        (outside (W.held out.new) (K.coming keys.new) (D.asked door.new) (D.coming door.new) (D.returned door.new) (F.unread files.new) steps.new (J.deeds journals.new)) result) }
     ensures headline { IfSome (F.told files.old) (λ disk. Headline words.now disk
-        (outside (W.held out.old) (K.coming keys.old) (D.asked door.old) (D.coming door.old) (D.returned door.old) (F.unread files.old) steps.old)
-        (outside (W.held out.new) (K.coming keys.new) (D.asked door.new) (D.coming door.new) (D.returned door.new) (F.unread files.new) steps.new) result) }
+        (outside (W.held out.old) (K.coming keys.old) (D.asked door.old) (D.coming door.old) (D.returned door.old) (F.unread files.old) steps.old (J.deeds journals.old))
+        (outside (W.held out.new) (K.coming keys.new) (D.asked door.new) (D.coming door.new) (D.returned door.new) (F.unread files.new) steps.new (J.deeds journals.new)) result) }
     ensures words { AreWords (K.coming keys.old) }
     ensures usage { command_of words.now ≡ None → (result ≡ Status.Usage) ⊎ ((result ≡ Status.WriteFault) ⊎ (result ≡ Status.Memory)) }
     ensures usage_only { result ≡ Status.Usage → command_of words.now ≡ None }
     ensures read_fault { Shows (result ≡ Status.ReadFault) (F.faults files.old) (F.faults files.new) }
     ensures write_fault { Shows (result ≡ Status.WriteFault) (W.write_faults out.old) (W.write_faults out.new) }
     ensures door_fault { Shows (result ≡ Status.DoorFault) (D.faults door.old) (D.faults door.new) }
+    ensures journal_fault { ShowsJournal result (J.faults journals.old) (J.faults journals.new) }
 {
     let tools = Tools { rt, alloc, pulse };
     let mut lent = Lent {
         files,
+        journals,
         door,
         keys,
         out,
@@ -83,18 +99,23 @@ pub fn run<R: Threads + Sync, F: Files, D: Door, K: Keys, W: Sink, P: Pulse, L: 
 }
 
 /// Reads the words, and does what they ask for.
-fn obey_words<R: Threads + Sync, F: Files, D: Door, K: Keys, W: Sink, P: Pulse, L: Ledger>(
-    tools: &Tools<R, P>,
-    words: &Words,
-    lent: &mut Lent<F, D, K, W, Steps<L>>,
-) -> Status
+fn obey_words<
+    R: Threads + Sync,
+    F: Files,
+    J: Journals,
+    D: WideDoor,
+    K: Keys,
+    W: Sink,
+    P: Pulse,
+    L: Ledger,
+>(tools: &Tools<R, P>, words: &Words, lent: &mut Lent<F, J, D, K, W, Steps<L>>) -> Status
     ensures comes { IfSome (F.told lent.old.files.now) (λ disk. Comes (asked words.now disk)
-        (seen_of F.Files D.Door K.Keys W.Channel lent.old) (seen_of F.Files D.Door K.Keys W.Channel lent.new) result) }
+        (seen_of F.Files J.Journals D.Door K.Keys W.Channel lent.old) (seen_of F.Files J.Journals D.Door K.Keys W.Channel lent.new) result) }
     ensures headline { IfSome (F.told lent.old.files.now) (λ disk. Headline words.now disk
-        (seen_of F.Files D.Door K.Keys W.Channel lent.old) (seen_of F.Files D.Door K.Keys W.Channel lent.new) result) }
+        (seen_of F.Files J.Journals D.Door K.Keys W.Channel lent.old) (seen_of F.Files J.Journals D.Door K.Keys W.Channel lent.new) result) }
     ensures usage { command_of words.now ≡ None → (result ≡ Status.Usage) ⊎ ((result ≡ Status.WriteFault) ⊎ (result ≡ Status.Memory)) }
     ensures usage_only { result ≡ Status.Usage → command_of words.now ≡ None }
-    ensures causes { HasCauses result (faults_of F.Files D.Door W.Channel lent.old) (faults_of F.Files D.Door W.Channel lent.new) }
+    ensures causes { HasCauses result (faults_of F.Files J.Journals D.Door W.Channel lent.old) (faults_of F.Files J.Journals D.Door W.Channel lent.new) }
     ensures same { AreSame lent.old lent.new }
 {
     match read_words(tools.alloc, words) {
@@ -105,16 +126,21 @@ fn obey_words<R: Threads + Sync, F: Files, D: Door, K: Keys, W: Sink, P: Pulse, 
 }
 
 /// Does what a command asks for.
-fn obey<R: Threads + Sync, F: Files, D: Door, K: Keys, W: Sink, P: Pulse, L: Ledger>(
-    tools: &Tools<R, P>,
-    command: &Command,
-    lent: &mut Lent<F, D, K, W, Steps<L>>,
-) -> Status
+fn obey<
+    R: Threads + Sync,
+    F: Files,
+    J: Journals,
+    D: WideDoor,
+    K: Keys,
+    W: Sink,
+    P: Pulse,
+    L: Ledger,
+>(tools: &Tools<R, P>, command: &Command, lent: &mut Lent<F, J, D, K, W, Steps<L>>) -> Status
     requires { IsInRange command.now }
     ensures comes { IfSome (F.told lent.old.files.now) (λ disk. Comes (work disk command.now)
-        (seen_of F.Files D.Door K.Keys W.Channel lent.old) (seen_of F.Files D.Door K.Keys W.Channel lent.new) result) }
+        (seen_of F.Files J.Journals D.Door K.Keys W.Channel lent.old) (seen_of F.Files J.Journals D.Door K.Keys W.Channel lent.new) result) }
     ensures not_usage { result ≢ Status.Usage }
-    ensures causes { HasCauses result (faults_of F.Files D.Door W.Channel lent.old) (faults_of F.Files D.Door W.Channel lent.new) }
+    ensures causes { HasCauses result (faults_of F.Files J.Journals D.Door W.Channel lent.old) (faults_of F.Files J.Journals D.Door W.Channel lent.new) }
     ensures same { AreSame lent.old lent.new }
 {
     match command {
@@ -149,6 +175,26 @@ fn obey<R: Threads + Sync, F: Files, D: Door, K: Keys, W: Sink, P: Pulse, L: Led
             };
             serve_command(tools, named, *port, *most, lent)
         }
+        Command::Keep {
+            service,
+            judging,
+            formats,
+            journal,
+            port,
+            most,
+        } => {
+            let named = Named {
+                service,
+                judging,
+                formats,
+            };
+            let place = Place {
+                journal,
+                port: *port,
+                most: *most,
+            };
+            keep_command(tools, named, place, lent)
+        }
         Command::Valid { page, schema } => {
             valid_command(tools.alloc, page, schema, lent.files, lent.out)
         }
@@ -171,6 +217,7 @@ fn check_command<R: Threads + Sync, F: Files, W: Sink, P: Pulse>(
     ensures comes { IfSome (F.told files.old) (λ disk. Speaks (work disk (commands.Check service.now judging.now))
         (W.held out.old) (W.held out.new) result) }
     ensures others { (result ≢ Status.Usage) × (result ≢ Status.DoorFault) }
+    ensures no_journal { result ≢ Status.JournalFault }
     ensures read_fault { Shows (result ≡ Status.ReadFault) (F.faults files.old) (F.faults files.new) }
     ensures write_fault { Shows (result ≡ Status.WriteFault) (W.write_faults out.old) (W.write_faults out.new) }
 {
@@ -190,6 +237,7 @@ fn valid_command<F: Files, W: Sink>(
 ) -> Status
     ensures comes { IfSome (F.told files.old) (λ disk. Speaks (work disk (commands.Valid page.now schema.now)) (W.held out.old) (W.held out.new) result) }
     ensures others { (result ≢ Status.Usage) × (result ≢ Status.DoorFault) }
+    ensures no_journal { result ≢ Status.JournalFault }
     ensures read_fault { Shows (result ≡ Status.ReadFault) (F.faults files.old) (F.faults files.new) }
     ensures write_fault { Shows (result ≡ Status.WriteFault) (W.write_faults out.old) (W.write_faults out.new) }
 {
@@ -209,6 +257,7 @@ fn light_command<F: Files, W: Sink>(
 ) -> Status
     ensures comes { IfSome (F.told files.old) (λ disk. Speaks (work disk (commands.Light formats.now texts.now)) (W.held out.old) (W.held out.new) result) }
     ensures others { (result ≢ Status.Usage) × (result ≢ Status.DoorFault) }
+    ensures no_journal { result ≢ Status.JournalFault }
     ensures read_fault { Shows (result ≡ Status.ReadFault) (F.faults files.old) (F.faults files.new) }
     ensures write_fault { Shows (result ≡ Status.WriteFault) (W.write_faults out.old) (W.write_faults out.new) }
 {

@@ -10,7 +10,7 @@ ghost use Rattle.bigwig.specs.Asked.{Ruled, work, replayed};
 ghost use Rattle.bigwig.specs.Checks.{IsRuled};
 ghost use Rattle.bigwig.specs.Commands.{AreWorkers};
 ghost use Rattle.bigwig.specs.Lent.{AreSame, HasCauses, faults_of};
-ghost use Rattle.bigwig.specs.Outcomes as outcomes;
+ghost use Rattle.bigwig.specs.Works as works;
 ghost use Rattle.bigwig.specs.Outcomes.{Replies};
 ghost use Rattle.bigwig.specs.declared.command.Command.TheVariants as commands;
 
@@ -23,18 +23,28 @@ use crate::server::Server;
 use crate::status::Status;
 use bw_lang::{Memory, Text};
 use bw_out::{Door, Failed, Files, Keys, Pair, Pulse, Sink, Source, Steps};
+use bw_stable::Journals;
 use bw_world::{StreamEnd, answer};
 use std::alloc::Global;
 use std::sync::ledger::Ledger;
 use std::thread::Threads;
 
 /// `replay`: answers the requests of a file by the service of another.
-pub fn replay_command<R: Threads + Sync, F: Files, D: Door, K: Keys, W: Sink, P: Pulse, L: Ledger>(
+pub fn replay_command<
+    R: Threads + Sync,
+    F: Files,
+    J: Journals,
+    D: Door,
+    K: Keys,
+    W: Sink,
+    P: Pulse,
+    L: Ledger,
+>(
     tools: &Tools<R, P>,
     named: Named<'_, '_, '_>,
     requests: &Text,
     most: u32,
-    lent: &mut Lent<F, D, K, W, Steps<L>>,
+    lent: &mut Lent<F, J, D, K, W, Steps<L>>,
 ) -> Status
     requires { AreWorkers named.judging.now.workers }
     ensures comes { IfSome (F.told lent.old.files.now) (λ disk.
@@ -42,8 +52,8 @@ pub fn replay_command<R: Threads + Sync, F: Files, D: Door, K: Keys, W: Sink, P:
         (W.held lent.old.out.now) (W.held lent.new.out.now) (K.coming lent.old.keys.now) (K.coming lent.new.keys.now) (F.unread lent.new.files.now)
         lent.old.steps.now lent.new.steps.now result) }
     ensures not_usage { result ≢ Status.Usage }
-    ensures causes { HasCauses result (faults_of F.Files D.Door W.Channel lent.old) (faults_of F.Files D.Door W.Channel lent.new) }
-    ensures door { lent.new.door.now ≡ lent.old.door.now }
+    ensures causes { HasCauses result (faults_of F.Files J.Journals D.Door W.Channel lent.old) (faults_of F.Files J.Journals D.Door W.Channel lent.new) }
+    ensures others { (lent.new.door.now ≡ lent.old.door.now) × (lent.new.journals.now ≡ lent.old.journals.now) }
     ensures same { AreSame lent.old lent.new }
 {
     match load_checked(tools, lent.files, named) {
@@ -53,20 +63,20 @@ pub fn replay_command<R: Threads + Sync, F: Files, D: Door, K: Keys, W: Sink, P:
 }
 
 /// Answers the requests of a file, from the world in which nothing was requested yet.
-fn replay_file<F: Files, D: Door, K: Keys, W: Sink, L: Ledger>(
+fn replay_file<F: Files, J: Journals, D: Door, K: Keys, W: Sink, L: Ledger>(
     alloc: Global,
     served: Served,
     name: &str,
     most: u32,
-    lent: &mut Lent<F, D, K, W, Steps<L>>,
+    lent: &mut Lent<F, J, D, K, W, Steps<L>>,
 ) -> Status
     ensures comes { IfSome (F.told lent.old.files.now) (λ disk. (ruled : Ruled) → IsRuled served.checked.typed.service served.formats ruled →
         Replies (replayed disk name.now most ruled)
         (W.held lent.old.out.now) (W.held lent.new.out.now) (K.coming lent.old.keys.now) (K.coming lent.new.keys.now) (F.unread lent.new.files.now)
         lent.old.steps.now lent.new.steps.now result) }
     ensures not_usage { result ≢ Status.Usage }
-    ensures causes { HasCauses result (faults_of F.Files D.Door W.Channel lent.old) (faults_of F.Files D.Door W.Channel lent.new) }
-    ensures door { lent.new.door.now ≡ lent.old.door.now }
+    ensures causes { HasCauses result (faults_of F.Files J.Journals D.Door W.Channel lent.old) (faults_of F.Files J.Journals D.Door W.Channel lent.new) }
+    ensures others { (lent.new.door.now ≡ lent.old.door.now) × (lent.new.journals.now ≡ lent.old.journals.now) }
     ensures same { AreSame lent.old lent.new }
 {
     match Server::new(alloc, served) {
@@ -80,11 +90,11 @@ fn replay_file<F: Files, D: Door, K: Keys, W: Sink, L: Ledger>(
 }
 
 /// The same by a server that has answered nothing yet. The file is closed again.
-fn replay_from<F: Files, D: Door, K: Keys, W: Sink, L: Ledger>(
+fn replay_from<F: Files, J: Journals, D: Door, K: Keys, W: Sink, L: Ledger>(
     server: &mut Server,
     name: &str,
     most: u32,
-    lent: &mut Lent<F, D, K, W, Steps<L>>,
+    lent: &mut Lent<F, J, D, K, W, Steps<L>>,
 ) -> Status
     requires stands { StandsFor server.old.world (empty server.old.world.service) }
     requires sound { BeginsSound server.old.world.service }
@@ -94,8 +104,8 @@ fn replay_from<F: Files, D: Door, K: Keys, W: Sink, L: Ledger>(
         (W.held lent.old.out.now) (W.held lent.new.out.now) (K.coming lent.old.keys.now) (K.coming lent.new.keys.now) (F.unread lent.new.files.now)
         lent.old.steps.now lent.new.steps.now result) }
     ensures not_usage { result ≢ Status.Usage }
-    ensures causes { HasCauses result (faults_of F.Files D.Door W.Channel lent.old) (faults_of F.Files D.Door W.Channel lent.new) }
-    ensures door { lent.new.door.now ≡ lent.old.door.now }
+    ensures causes { HasCauses result (faults_of F.Files J.Journals D.Door W.Channel lent.old) (faults_of F.Files J.Journals D.Door W.Channel lent.new) }
+    ensures others { (lent.new.door.now ≡ lent.old.door.now) × (lent.new.journals.now ≡ lent.old.journals.now) }
     ensures same { AreSame lent.old lent.new }
 {
     match lent.files.fetch(name) {
@@ -111,7 +121,7 @@ fn replay_from<F: Files, D: Door, K: Keys, W: Sink, L: Ledger>(
 
 /// The status of a stream that ended so.
 fn status_of(end: StreamEnd) -> Status
-    ensures { result ≡ outcomes.status_of end }
+    ensures { result ≡ works.status_of end }
 {
     match end {
         StreamEnd::Ended(_) => Status::Done,

@@ -1,7 +1,7 @@
 //! What is printed before there is work, and behind it.
 ghost use Rattle.std.specs.Prelude.{◌≡◌, ◌≢◌, ◌⊎◌};
 ghost use Rattle.bw_out.specs.Causes.{Shows};
-ghost use Rattle.bigwig.specs.Outcomes.{Prints};
+ghost use Rattle.bigwig.specs.Works.{Prints};
 ghost use Rattle.bigwig.specs.Questions.{line};
 ghost use Rattle.bigwig.specs.Reports.{IsReported};
 
@@ -40,6 +40,7 @@ pub fn report<W: Sink>(out: &mut W, stop: Stop) -> Status
     ensures reads { stop ≡ Stop.ReadFault → result ≡ Status.ReadFault }
     ensures write_fault { Shows (result ≡ Status.WriteFault) (W.write_faults out.old) (W.write_faults out.new) }
     ensures others { (result ≢ Status.Usage) × (result ≢ Status.DoorFault) }
+    ensures no_journal { result ≢ Status.JournalFault }
 {
     match stop {
         Stop::Says(refusal, text) => print_text(out, refusal.status(), &text),

@@ -9,7 +9,8 @@ ghost use Rattle.bigwig.specs.Asked.{Ruled, at_port, work};
 ghost use Rattle.bigwig.specs.Checks.{IsRuled, IsFitWorld};
 ghost use Rattle.bigwig.specs.Commands.{AreWorkers};
 ghost use Rattle.bigwig.specs.Lent.{AreSame, HasCauses, faults_of, seen_of};
-ghost use Rattle.bigwig.specs.Outcomes.{Comes, ServesLinks, outside, serving_line};
+ghost use Rattle.bigwig.specs.Outcomes.{Comes};
+ghost use Rattle.bigwig.specs.Works.{ServesLinks, outside, serving_line};
 ghost use Rattle.bigwig.specs.declared.command.Command.TheVariants as commands;
 
 use crate::checking::{Served, load_checked};
@@ -20,6 +21,7 @@ use crate::server::Server;
 use crate::status::Status;
 use bw_lang::{Memory, Text};
 use bw_out::{Door, Failed, Files, Keys, Pulse, Sink, Steps, WriteFault, write_parts};
+use bw_stable::Journals;
 use bw_world::answer;
 use itoa::Buffer;
 use std::alloc::Global;
@@ -27,19 +29,28 @@ use std::sync::ledger::Ledger;
 use std::thread::Threads;
 
 /// `serve`: serves the links of a port.
-pub fn serve_command<R: Threads + Sync, F: Files, D: Door, K: Keys, W: Sink, P: Pulse, L: Ledger>(
+pub fn serve_command<
+    R: Threads + Sync,
+    F: Files,
+    J: Journals,
+    D: Door,
+    K: Keys,
+    W: Sink,
+    P: Pulse,
+    L: Ledger,
+>(
     tools: &Tools<R, P>,
     named: Named<'_, '_, '_>,
     port: u16,
     most: u32,
-    lent: &mut Lent<F, D, K, W, Steps<L>>,
+    lent: &mut Lent<F, J, D, K, W, Steps<L>>,
 ) -> Status
     requires { AreWorkers named.judging.now.workers }
     ensures comes { IfSome (F.told lent.old.files.now) (λ disk.
         Comes (work disk (commands.Serve named.entry.service.now named.entry.judging.now named.entry.formats.now port most))
-        (seen_of F.Files D.Door K.Keys W.Channel lent.old) (seen_of F.Files D.Door K.Keys W.Channel lent.new) result) }
+        (seen_of F.Files J.Journals D.Door K.Keys W.Channel lent.old) (seen_of F.Files J.Journals D.Door K.Keys W.Channel lent.new) result) }
     ensures not_usage { result ≢ Status.Usage }
-    ensures causes { HasCauses result (faults_of F.Files D.Door W.Channel lent.old) (faults_of F.Files D.Door W.Channel lent.new) }
+    ensures causes { HasCauses result (faults_of F.Files J.Journals D.Door W.Channel lent.old) (faults_of F.Files J.Journals D.Door W.Channel lent.new) }
     ensures same { AreSame lent.old lent.new }
 {
     match load_checked(tools, lent.files, named) {
@@ -49,19 +60,19 @@ pub fn serve_command<R: Threads + Sync, F: Files, D: Door, K: Keys, W: Sink, P: 
 }
 
 /// Serves links from the world in which nothing was requested yet.
-fn serve_service<F: Files, D: Door, K: Keys, W: Sink, L: Ledger>(
+fn serve_service<F: Files, J: Journals, D: Door, K: Keys, W: Sink, L: Ledger>(
     alloc: Global,
     served: Served,
     port: u16,
     most: u32,
-    lent: &mut Lent<F, D, K, W, Steps<L>>,
+    lent: &mut Lent<F, J, D, K, W, Steps<L>>,
 ) -> Status
     ensures comes { (ruled : Ruled) (u v : Option (List ℕ)) → IsRuled served.checked.typed.service served.formats ruled → Comes (at_port port most ruled)
-        (record (seen_of F.Files D.Door K.Keys W.Channel lent.old) { unread = u })
-        (record (seen_of F.Files D.Door K.Keys W.Channel lent.new) { unread = v }) result }
+        (record (seen_of F.Files J.Journals D.Door K.Keys W.Channel lent.old) { unread = u })
+        (record (seen_of F.Files J.Journals D.Door K.Keys W.Channel lent.new) { unread = v }) result }
     ensures not_usage { result ≢ Status.Usage }
-    ensures causes { HasCauses result (faults_of F.Files D.Door W.Channel lent.old) (faults_of F.Files D.Door W.Channel lent.new) }
-    ensures files { lent.new.files.now ≡ lent.old.files.now }
+    ensures causes { HasCauses result (faults_of F.Files J.Journals D.Door W.Channel lent.old) (faults_of F.Files J.Journals D.Door W.Channel lent.new) }
+    ensures others { (lent.new.files.now ≡ lent.old.files.now) × (lent.new.journals.now ≡ lent.old.journals.now) }
     ensures same { AreSame lent.old lent.new }
 {
     match Server::new(alloc, served) {
@@ -75,20 +86,20 @@ fn serve_service<F: Files, D: Door, K: Keys, W: Sink, L: Ledger>(
 }
 
 /// The same by a server that has answered nothing yet: listens, prints the line that says so, and then serves links.
-fn serve_port<F: Files, D: Door, K: Keys, W: Sink, L: Ledger>(
+fn serve_port<F: Files, J: Journals, D: Door, K: Keys, W: Sink, L: Ledger>(
     server: &mut Server,
     port: u16,
     most: u32,
-    lent: &mut Lent<F, D, K, W, Steps<L>>,
+    lent: &mut Lent<F, J, D, K, W, Steps<L>>,
 ) -> Status
     requires stands { StandsFor server.old.world (model.empty server.old.world.service) }
     requires sound { BeginsSound server.old.world.service }
     ensures comes { (ruled : Ruled) (u v : Option (List ℕ)) → IsRuled server.old.world.service server.old.formats ruled → Comes (at_port port most ruled)
-        (record (seen_of F.Files D.Door K.Keys W.Channel lent.old) { unread = u })
-        (record (seen_of F.Files D.Door K.Keys W.Channel lent.new) { unread = v }) result }
+        (record (seen_of F.Files J.Journals D.Door K.Keys W.Channel lent.old) { unread = u })
+        (record (seen_of F.Files J.Journals D.Door K.Keys W.Channel lent.new) { unread = v }) result }
     ensures not_usage { result ≢ Status.Usage }
-    ensures causes { HasCauses result (faults_of F.Files D.Door W.Channel lent.old) (faults_of F.Files D.Door W.Channel lent.new) }
-    ensures files { lent.new.files.now ≡ lent.old.files.now }
+    ensures causes { HasCauses result (faults_of F.Files J.Journals D.Door W.Channel lent.old) (faults_of F.Files J.Journals D.Door W.Channel lent.new) }
+    ensures others { (lent.new.files.now ≡ lent.old.files.now) × (lent.new.journals.now ≡ lent.old.journals.now) }
     ensures same { AreSame lent.old lent.new }
 {
     match lent.door.listen(port) {
@@ -101,7 +112,7 @@ fn serve_port<F: Files, D: Door, K: Keys, W: Sink, L: Ledger>(
 }
 
 /// Prints the line that the port is served.
-fn print_serving<W: Sink>(out: &mut W, port: u16) -> Result<(), WriteFault>
+pub fn print_serving<W: Sink>(out: &mut W, port: u16) -> Result<(), WriteFault>
     ensures writes { Writes (W.held out.old) (W.held out.new) (serving_line port) result }
     ensures cause { HasCause (W.write_faults out.old) (W.write_faults out.new) result }
 {
@@ -122,8 +133,8 @@ fn serve_links<D: Door, K: Keys, L: Ledger>(
 ) -> Status
     ensures serves { (ruled : Ruled) (m : model.World) → IsRuled server.old.world.service server.old.formats ruled → StandsFor server.old.world m
         → IsFitWorld ruled m
-        → ServesLinks ruled m most (outside None (K.coming keys.old) (D.asked door.old) (D.coming door.old) (D.returned door.old) None steps.old)
-        (outside None (K.coming keys.new) (D.asked door.new) (D.coming door.new) (D.returned door.new) None steps.new) result }
+        → ServesLinks ruled m most (outside None (K.coming keys.old) (D.asked door.old) (D.coming door.old) (D.returned door.old) None steps.old None)
+        (outside None (K.coming keys.new) (D.asked door.new) (D.coming door.new) (D.returned door.new) None steps.new None) result }
     ensures ends { (result ≡ Status.Done) ⊎ (result ≡ Status.DoorFault) }
     ensures asked { D.asked door.new ≡ D.asked door.old }
     ensures door_fault { Shows (result ≡ Status.DoorFault) (D.faults door.old) (D.faults door.new) }

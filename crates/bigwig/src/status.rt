@@ -27,6 +27,10 @@ pub enum Status {
     FormatsRefused,
     /// 15: a file that the words name isn't there.
     NoFile,
+    /// 16: the journal is refused.
+    JournalRefused,
+    /// 17: the journal could not be opened, cut or kept.
+    JournalFault,
 }
 
 impl Status {
@@ -46,6 +50,8 @@ impl Status {
             Status::PageRefused => 9,
             Status::FormatsRefused => 10,
             Status::NoFile => 15,
+            Status::JournalRefused => 16,
+            Status::JournalFault => 17,
         }
     }
 }
@@ -63,6 +69,8 @@ pub enum Refusal {
     Page,
     /// What a file of formats holds, or one of texts.
     Formats,
+    /// What a journal holds.
+    Journal,
 }
 
 impl Refusal {
@@ -76,6 +84,7 @@ impl Refusal {
             Refusal::Schema => Status::SchemaRefused,
             Refusal::Page => Status::PageRefused,
             Refusal::Formats => Status::FormatsRefused,
+            Refusal::Journal => Status::JournalRefused,
         }
     }
 }

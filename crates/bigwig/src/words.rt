@@ -19,6 +19,7 @@ pub struct Line<'a> {
     pub limit: Option<&'a str>,
     pub port: Option<&'a str>,
     pub formats: Option<&'a str>,
+    pub journal: Option<&'a str>,
     /// `true` where the source of a refusal is shown, and else `false`.
     pub source: Option<&'a str>,
 }
@@ -75,7 +76,7 @@ fn bare<'a>(alloc: Global) -> Command<'a>
         .disable_version_flag(true)
 }
 
-/// The whole command line: a command word, up to two further words, five options and a flag.
+/// The whole command line: a command word, up to two further words, six options and a flag.
 fn whole<'a>(alloc: Global) -> Result<Command<'a>, AllocError>
     ensures { IfOk result (λ r. app_of r ≡ bigwig) }
 {
@@ -87,6 +88,7 @@ fn whole<'a>(alloc: Global) -> Result<Command<'a>, AllocError>
     let c = with_option(alloc, c, "limit")?;
     let c = with_option(alloc, c, "port")?;
     let c = with_option(alloc, c, "formats")?;
+    let c = with_option(alloc, c, "journal")?;
     with_flag(alloc, c, "show-source")
 }
 
@@ -103,6 +105,7 @@ fn line_of<'a>(matches: &ArgMatches<'a>) -> Line<'a>
         limit: matches.get_str("limit"),
         port: matches.get_str("port"),
         formats: matches.get_str("formats"),
+        journal: matches.get_str("journal"),
         source: matches.get_str("show-source"),
     }
 }

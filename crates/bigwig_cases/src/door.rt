@@ -1,14 +1,27 @@
 //! A door in memory of which some calls fail.
 ghost use Rattle.std.specs.Prelude.{◌≡◌};
+ghost use Rattle.bw_out.specs.Causes.{HasCause};
 
+use bw_keeping::WideDoor;
 use bw_out::{Door, Failed, MemDoor, MemLink};
+use bw_stable::ReadyDoor;
 
-/// A door in memory of which some calls fail. Each sort of call is counted from 1.
+/// Which links of a door come how. Each sort of call is counted from 1.
+#[derive(Clone, Copy)]
+pub struct Comings<'a> {
+    /// The calls to listen that fail.
+    pub failing_listens: &'a [u64],
+    /// The calls for the next link that fail.
+    pub failing_nexts: &'a [u64],
+    /// The calls for the next link that have to wait for it.
+    pub awaited: &'a [u64],
+}
+
+/// A door in memory of which some calls fail, and some links are waited for.
 #[derive(Drop)]
 pub struct CaseDoor<'a> {
     door: MemDoor<'a>,
-    failing_listens: &'a [u64],
-    failing_nexts: &'a [u64],
+    comings: Comings<'a>,
     listens: u64,
     nexts: u64,
     port: Option<u16>,
@@ -16,16 +29,11 @@ pub struct CaseDoor<'a> {
 }
 
 impl<'a> CaseDoor<'a> {
-    /// The door, of which these calls fail.
-    pub fn new(
-        door: MemDoor<'a>,
-        failing_listens: &'a [u64],
-        failing_nexts: &'a [u64],
-    ) -> CaseDoor<'a> {
+    /// The door, of which the links come so.
+    pub fn new(door: MemDoor<'a>, comings: Comings<'a>) -> CaseDoor<'a> {
         CaseDoor {
             door,
-            failing_listens,
-            failing_nexts,
+            comings,
             listens: 0,
             nexts: 0,
             port: None,
@@ -41,6 +49,19 @@ impl<'a> CaseDoor<'a> {
     /// The links that were given back, the oldest first.
     pub fn returned(&self) -> &[MemLink<'_>] {
         self.door.returned()
+    }
+
+    /// Counts a call for the next link, which fails where it is to.
+    fn begin_next(&mut self) -> Result<(), Failed>
+        ensures door { self.new.door ≡ self.old.door }
+        ensures cause { HasCause self.old.faults self.new.faults result }
+    {
+        self.nexts = self.nexts.saturating_add(1);
+        if self.comings.failing_nexts.contains(&self.nexts) {
+            self.faults = self.faults.saturating_add(1);
+            return Err(Failed);
+        }
+        Ok(())
     }
 }
 
@@ -64,7 +85,7 @@ impl<'a> Door for CaseDoor<'a> {
     fn listen(&mut self, port: u16) -> Result<(), Failed> {
         self.port = Some(port);
         self.listens = self.listens.saturating_add(1);
-        if self.failing_listens.contains(&self.listens) {
+        if self.comings.failing_listens.contains(&self.listens) {
             self.faults = self.faults.saturating_add(1);
             return Err(Failed);
         }
@@ -78,15 +99,30 @@ impl<'a> Door for CaseDoor<'a> {
     }
 
     fn next(&mut self) -> Result<Option<MemLink<'a>>, Failed> {
-        self.nexts = self.nexts.saturating_add(1);
-        if self.failing_nexts.contains(&self.nexts) {
-            self.faults = self.faults.saturating_add(1);
-            return Err(Failed);
-        }
+        self.begin_next()?;
         self.door.next()
     }
 
     fn give_back(&mut self, link: MemLink<'a>) {
+        self.door.give_back(link);
+    }
+}
+
+impl ReadyDoor for CaseDoor<'_> {
+    fn is_ready(&self) -> bool {
+        !self.comings.awaited.contains(&self.nexts.saturating_add(1))
+    }
+}
+
+impl<'a> WideDoor for CaseDoor<'a> {
+    ghost out = { λ d. d.door.out };
+
+    fn next_link(&mut self) -> Result<Option<MemLink<'a>>, Failed> {
+        self.begin_next()?;
+        self.door.next()
+    }
+
+    fn take_back(&mut self, link: MemLink<'a>) {
         self.door.give_back(link);
     }
 }

@@ -1,5 +1,5 @@
-//! Worked examples of the whole program, kept as data: runs over files, keys, an output and a door in memory, worlds at
-//! their limits, and reads and writes that are interrupted. `case_files` says how the files are written, and the module that
+//! Worked examples of the whole program, kept as data: runs over files, journals, keys, an output and a door in memory,
+//! worlds at their limits, and reads and writes that are interrupted. `case_files` says how the files are written, and the module that
 //! reads a file which lines a case has. Behind them two workers of a check have to meet.
 #![tactic(auto)]
 
@@ -7,11 +7,13 @@ mod answers;
 mod channels;
 mod door;
 mod files;
+mod journal;
 mod links;
 mod outcomes;
 mod outside;
 mod retries;
 mod runs;
+mod torn;
 mod workers;
 mod worlds;
 
@@ -31,6 +33,10 @@ enum Subject {
     Sessions,
     /// Runs of the whole program that serve links.
     Serves,
+    /// Runs of the whole program that serve links beside a journal.
+    Journals,
+    /// Journals that are cut at each byte of their ends.
+    Torn,
     /// Runs of the whole program that check services.
     Checks,
     /// Runs of the whole program that show the source of services that are refused.
@@ -54,6 +60,8 @@ impl Subject {
             Subject::Runs => "run.cases",
             Subject::Sessions => "world.cases",
             Subject::Serves => "serve.cases",
+            Subject::Journals => "journal.cases",
+            Subject::Torn => "torn.cases",
             Subject::Checks => "check.cases",
             Subject::Sources => "source.cases",
             Subject::Services => "services.cases",
@@ -66,10 +74,12 @@ impl Subject {
 }
 
 /// What is tried, in this order.
-const SUBJECTS: [Subject; 10] = [
+const SUBJECTS: [Subject; 12] = [
     Subject::Runs,
     Subject::Sessions,
     Subject::Serves,
+    Subject::Journals,
+    Subject::Torn,
     Subject::Checks,
     Subject::Sources,
     Subject::Services,
@@ -91,11 +101,13 @@ fn try_case<R: Threads + Sync>(
         Subject::Runs
         | Subject::Sessions
         | Subject::Serves
+        | Subject::Journals
         | Subject::Checks
         | Subject::Sources
         | Subject::Examples
         | Subject::Formats => runs::try_case(rt, alloc, texts, case),
         Subject::Services => runs::try_service(rt, alloc, case),
+        Subject::Torn => torn::try_case(rt, alloc, texts, case),
         Subject::Retries => retries::try_case(alloc, case),
         Subject::Worlds => worlds::try_case(rt, alloc, texts, case),
     };

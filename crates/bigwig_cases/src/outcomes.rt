@@ -2,19 +2,21 @@
 ghost use Rattle.std.specs.Prelude.{◌≡◌, ◌<◌};
 
 use crate::door::CaseDoor;
+use crate::journal::JournalBytes;
 use crate::links::held_by;
 use crate::outside::Outside;
 use bigwig::run;
 use bw_lang::Words;
-use bw_out::{Keys, MemFile, MemFiles, MemKeys, MemSink, Pulse, Steps};
+use bw_out::{Keys, MemFiles, MemKeys, MemSink, Pulse, Steps};
+use bw_stable::MemJournals;
 use case_files::{Fault, Line, Texts, escaped};
 use std::alloc::{AllocError, Global};
 use std::marker::Brand;
 use std::sync::ledger::{Blank, Ledger};
 use std::thread::Threads;
 
-/// What comes of a run: the exit code, how many keys were drawn, what was printed, the port that was asked for, and what
-/// each link that was given back holds.
+/// What comes of a run: the exit code, how many keys were drawn, what was printed, the port that was asked for, what each
+/// link that was given back holds, and what the journal holds.
 #[derive(Drop)]
 pub struct Outcome {
     pub status: u8,
@@ -22,6 +24,7 @@ pub struct Outcome {
     output: Vec<u8>,
     port: Option<u16>,
     links: Vec<Vec<u8>>,
+    pub journal: JournalBytes,
 }
 
 impl Outcome {
@@ -33,7 +36,26 @@ impl Outcome {
             output,
             port: None,
             links: Vec::new(alloc),
+            journal: JournalBytes::of(Vec::new(alloc)),
         }
+    }
+
+    /// This output, this port, one link that holds this, for which a key was drawn, and this journal.
+    pub fn served(
+        alloc: Global,
+        output: Vec<u8>,
+        port: u16,
+        held: Vec<u8>,
+        journal: JournalBytes,
+    ) -> Result<Outcome, AllocError> {
+        Ok(Outcome {
+            status: 0,
+            drawn: 1,
+            output,
+            port: Some(port),
+            links: vec![in alloc; held]?,
+            journal,
+        })
     }
 
     /// Takes the next line, which says what is wanted.
@@ -49,6 +71,19 @@ impl Outcome {
         Ok(())
     }
 
+    /// What the journal holds.
+    pub fn into_journal(self) -> JournalBytes {
+        let Outcome {
+            status: _,
+            drawn: _,
+            output: _,
+            port: _,
+            links: _,
+            journal,
+        } = self;
+        journal
+    }
+
     /// The outcome in words.
     pub fn shown(&self, alloc: Global) -> Result<String, AllocError> {
         let status = self.status;
@@ -59,16 +94,40 @@ impl Outcome {
             "status {status}, drawn {drawn}, output \"{output}\", port {port}"
         )?;
         for held in &self.links {
-            show_link(alloc, &mut shown, held)?;
+            show_held(alloc, &mut shown, "link", held)?;
+        }
+        if !self.journal.bytes().is_empty() {
+            show_held(alloc, &mut shown, "journal", self.journal.bytes())?;
         }
         Ok(shown)
     }
 }
 
-/// Puts what a link holds behind the other words.
-fn show_link(alloc: Global, shown: &mut String, held: &[u8]) -> Result<(), AllocError> {
+/// Puts what a link or a journal holds behind the other words.
+fn show_held(alloc: Global, shown: &mut String, what: &str, held: &[u8]) -> Result<(), AllocError> {
     let held = escaped(alloc, held)?;
-    write!(shown, ", link \"{held}\"")
+    write!(shown, ", {what} \"{held}\"")
+}
+
+/// What the program is lent beside files.
+#[derive(Drop)]
+struct Lent<'a> {
+    journals: MemJournals<'a>,
+    door: CaseDoor<'a>,
+    keys: MemKeys<'a>,
+    out: MemSink<'a>,
+}
+
+impl<'a> Lent<'a> {
+    /// What a run over this outside is lent.
+    fn of(alloc: Global, outside: &'a Outside<'_>) -> Result<Lent<'a>, AllocError> {
+        Ok(Lent {
+            journals: outside.journal.journals(alloc)?,
+            door: outside.door(alloc)?,
+            keys: MemKeys::new(&outside.keys),
+            out: outside.out.in_memory(alloc)?,
+        })
+    }
 }
 
 /// Runs the program over this outside. The check makes its threads by `rt`, and tells `pulse` as it begins a piece.
@@ -78,58 +137,49 @@ pub fn outcome_of<R: Threads + Sync, P: Pulse>(
     outside: &Outside<'_>,
     pulse: &P,
 ) -> Result<Outcome, Fault> {
-    let mut door = outside.door(alloc)?;
-    let outcome = outcome_at(rt, alloc, outside, pulse, &mut door);
-    drop(door);
+    let mut lent = Lent::of(alloc, outside)?;
+    let outcome = outcome_over(rt, alloc, outside, pulse, &mut lent);
+    drop(lent);
     outcome
 }
 
-/// The same at this door.
-fn outcome_at<R: Threads + Sync, P: Pulse>(
+/// The same over what it is lent.
+fn outcome_over<R: Threads + Sync, P: Pulse>(
     rt: &R,
     alloc: Global,
     outside: &Outside<'_>,
     pulse: &P,
-    door: &mut CaseDoor<'_>,
+    lent: &mut Lent<'_>,
 ) -> Result<Outcome, Fault> {
-    let mut out = outside.out.in_memory(alloc)?;
-    let outcome = outcome_on(rt, alloc, outside, pulse, door, &mut out);
-    drop(out);
-    outcome
-}
-
-/// The same on this output.
-fn outcome_on<R: Threads + Sync, P: Pulse>(
-    rt: &R,
-    alloc: Global,
-    outside: &Outside<'_>,
-    pulse: &P,
-    door: &mut CaseDoor<'_>,
-    out: &mut MemSink<'_>,
-) -> Result<Outcome, Fault> {
-    let mut keys = MemKeys::new(&outside.keys);
-    let status = status_on(rt, alloc, outside, pulse, door, &mut keys, out)?;
+    let status = status_over(rt, alloc, outside, pulse, lent)?;
     Ok(Outcome {
         status,
-        drawn: drawn_of(&outside.keys, keys.draw()),
-        output: Vec::from_slice(alloc, out.bytes())?,
-        port: door.port(),
-        links: held_by(alloc, door.returned())?,
+        drawn: drawn_of(&outside.keys, lent.keys.draw()),
+        output: Vec::from_slice(alloc, lent.out.bytes())?,
+        port: lent.door.port(),
+        links: held_by(alloc, lent.door.returned())?,
+        journal: JournalBytes::of(content_of(alloc, &lent.journals)?),
     })
 }
 
+/// What the journal's file holds.
+fn content_of(alloc: Global, journals: &MemJournals<'_>) -> Result<Vec<u8>, AllocError> {
+    match journals.file() {
+        Some(content) => Vec::from_slice(alloc, content),
+        None => Ok(Vec::new(alloc)),
+    }
+}
+
 /// The exit code of that run. The words are copied, so that this is tried as well.
-fn status_on<R: Threads + Sync, P: Pulse>(
+fn status_over<R: Threads + Sync, P: Pulse>(
     rt: &R,
     alloc: Global,
     outside: &Outside<'_>,
     pulse: &P,
-    door: &mut CaseDoor<'_>,
-    keys: &mut MemKeys<'_>,
-    out: &mut MemSink<'_>,
+    lent: &mut Lent<'_>,
 ) -> Result<u8, Fault> {
     let words = outside.words.copy()?;
-    let status = status_by(rt, alloc, outside, &words, pulse, door, keys, out);
+    let status = status_by(rt, alloc, outside, &words, pulse, lent);
     drop(words);
     status
 }
@@ -141,23 +191,11 @@ fn status_by<R: Threads + Sync, P: Pulse>(
     outside: &Outside<'_>,
     words: &Words,
     pulse: &P,
-    door: &mut CaseDoor<'_>,
-    keys: &mut MemKeys<'_>,
-    out: &mut MemSink<'_>,
+    lent: &mut Lent<'_>,
 ) -> Result<u8, Fault> {
     let folder = outside.folder(alloc)?;
     let mut files = MemFiles::new(&folder, &outside.failing_fetches);
-    Ok(counted::<Brand, R, P>(
-        rt,
-        alloc,
-        words,
-        &mut files,
-        door,
-        keys,
-        out,
-        pulse,
-        Blank::new(1),
-    ))
+    Ok(counted::<Brand, R, P>(rt, alloc, words, &mut files, pulse, lent, Blank::new(1)))
 }
 
 /// Runs the program with a count of steps that nobody reads, and gives its exit code.
@@ -166,10 +204,8 @@ fn counted<L: Ledger, R: Threads + Sync, P: Pulse>(
     alloc: Global,
     words: &Words,
     files: &mut MemFiles<'_>,
-    door: &mut CaseDoor<'_>,
-    keys: &mut MemKeys<'_>,
-    out: &mut MemSink<'_>,
     pulse: &P,
+    lent: &mut Lent<'_>,
     blank: Blank,
 ) -> u8
     requires name { blank.name ≡ L.name }
@@ -177,7 +213,19 @@ fn counted<L: Ledger, R: Threads + Sync, P: Pulse>(
     requires some { 0 < blank.parts }
 {
     let mut steps: Steps<L> = Steps::new(blank);
-    run(rt, alloc, words, files, door, keys, out, pulse, &mut steps).code()
+    run(
+        rt,
+        alloc,
+        words,
+        files,
+        &mut lent.journals,
+        &mut lent.door,
+        &mut lent.keys,
+        &mut lent.out,
+        pulse,
+        &mut steps,
+    )
+    .code()
 }
 
 /// How many of these keys were drawn: those in front of the next one to come.

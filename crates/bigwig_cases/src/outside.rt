@@ -1,7 +1,8 @@
 //! The words of the command line, and the outside in memory that a run meets.
 use crate::channels::{CaseSink, take_numbers};
-use crate::door::CaseDoor;
+use crate::door::{CaseDoor, Comings};
 use crate::files::CaseFile;
+use crate::journal::{CaseJournal, JournalBytes};
 use crate::links::{CaseLink, in_memory};
 use bw_lang::{Memory, Text, Words};
 use bw_out::{MemDoor, MemFile};
@@ -12,32 +13,37 @@ use std::mem;
 /// The room of standard output and of a link.
 const ROOM: usize = 65_536;
 
-/// The words of the command line, and the outside: files, keys, standard output and links to come.
+/// The words of the command line, and the outside: files, a journal, keys, standard output and links to come.
 #[derive(Drop)]
 pub struct Outside<'a> {
     pub words: Words,
     files: Vec<CaseFile<'a>>,
     pub failing_fetches: Vec<u64>,
+    pub journal: CaseJournal<'a>,
     pub keys: Vec<u64>,
     pub out: CaseSink,
     links: Vec<CaseLink>,
     failing_listens: Vec<u64>,
     failing_nexts: Vec<u64>,
+    awaited: Vec<u64>,
 }
 
 impl<'a> Outside<'a> {
     /// These words, parted by blanks, and the outside where no line says anything of it.
     pub fn new(alloc: Global, words: &str) -> Result<Outside<'a>, Fault> {
         let keys = vec![in alloc; 11, 12, 13]?;
+        let nothing = JournalBytes::of(Vec::new(alloc));
         Ok(Outside {
             words: words_of(alloc, words)?,
             files: Vec::new(alloc),
             failing_fetches: Vec::new(alloc),
+            journal: CaseJournal::of(alloc, None, nothing),
             keys,
             out: CaseSink::of(alloc, ROOM),
             links: Vec::new(alloc),
             failing_listens: Vec::new(alloc),
             failing_nexts: Vec::new(alloc),
+            awaited: Vec::new(alloc),
         })
     }
 
@@ -58,7 +64,12 @@ impl<'a> Outside<'a> {
             "failing_fetches" => take_numbers(alloc, line, &mut self.failing_fetches),
             "failing_listens" => take_numbers(alloc, line, &mut self.failing_listens),
             "failing_nexts" => take_numbers(alloc, line, &mut self.failing_nexts),
-            _ => self.take_detail(alloc, line),
+            "awaited" => take_numbers(alloc, line, &mut self.awaited),
+            "journal" => {
+                self.journal.begin(line.value);
+                Ok(())
+            }
+            _ => self.take_detail(alloc, texts, line),
         }
     }
 
@@ -80,8 +91,21 @@ impl<'a> Outside<'a> {
         Ok(())
     }
 
+    /// Takes the next line, which says something of the journal, or how the last link or the last file is read or written.
+    fn take_detail(
+        &mut self,
+        alloc: Global,
+        texts: &Texts<'_>,
+        line: Line<'_>,
+    ) -> Result<(), Fault> {
+        match line.key.strip_prefix("journal_") {
+            Some(key) => self.journal.take(alloc, texts, Line { key, ..line }),
+            None => self.take_calls(alloc, line),
+        }
+    }
+
     /// Takes the next line, which says how the last link or the last file is read or written.
-    fn take_detail(&mut self, alloc: Global, line: Line<'_>) -> Result<(), Fault> {
+    fn take_calls(&mut self, alloc: Global, line: Line<'_>) -> Result<(), Fault> {
         match line.key.strip_prefix("link_") {
             Some(key) => {
                 let link = self.links.last_mut().ok_or(Fault::Malformed)?;
@@ -94,11 +118,24 @@ impl<'a> Outside<'a> {
         }
     }
 
-    /// The files in memory, in their order.
+    /// The outside of a run behind this one: the same words, files and keys, and a journal of this name that holds this.
+    pub fn go_on(&mut self, alloc: Global, name: &'a str, holds: JournalBytes) {
+        let journal = CaseJournal::of(alloc, Some(name), holds);
+        drop(mem::replace(&mut self.journal, journal));
+        self.links.clear();
+        self.failing_listens.clear();
+        self.failing_nexts.clear();
+        self.awaited.clear();
+    }
+
+    /// The files in memory, in their order, and the journal behind them.
     pub fn folder(&self, alloc: Global) -> Result<Vec<MemFile<'_>>, AllocError> {
         let mut folder = Vec::new(alloc);
         for file in &self.files {
             folder.push(file.in_memory())?;
+        }
+        if let Some(journal) = self.journal.file() {
+            folder.push(journal)?;
         }
         Ok(folder)
     }
@@ -106,7 +143,12 @@ impl<'a> Outside<'a> {
     /// The door to which the links come.
     pub fn door(&self, alloc: Global) -> Result<CaseDoor<'_>, AllocError> {
         let door = MemDoor::new(alloc, in_memory(alloc, &self.links)?)?;
-        Ok(CaseDoor::new(door, &self.failing_listens, &self.failing_nexts))
+        let comings = Comings {
+            failing_listens: &self.failing_listens,
+            failing_nexts: &self.failing_nexts,
+            awaited: &self.awaited,
+        };
+        Ok(CaseDoor::new(door, comings))
     }
 }
 

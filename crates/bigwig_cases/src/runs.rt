@@ -12,10 +12,23 @@
 //! - `link_read_piece N`, `link_failing_reads N ..`, `link_room N`, `link_write_piece N`, `link_failing_writes N ..`: the
 //!   same of that link as of files and of standard output
 //! - `failing_listens N ..`, `failing_nexts N ..`: the numbers of the calls of the door that fail; none
+//! - `awaited N ..`: the numbers of the links that aren't at hand when they are looked for; none
+//! - `journal NAME`: there is a journal of this name; where there is no such line, there is no file of one
+//! - `journal_head PARTS`, `journal_entry KEY PARTS`, `journal_bytes PARTS`: behind what it holds are the head of the
+//!   service whose file is the text, the entry of a key and a message, these bytes
+//! - `journal_cut N`, `journal_turn N`: then its last N bytes are cut off; the byte behind the first N is another one
+//! - `journal_read_piece N`, `journal_failing_reads N ..`: as of files
+//! - `journal_failing_openings N ..`, `journal_failing_calls N ..`: the numbers of its openings that fail, and of the cuts
+//!   and pieces kept since it was opened; none
 //!
 //! and wants, by `status N`, `drawn N` and `output PARTS`, the exit code, how many keys are drawn, and all that is
 //! printed; 0, 0 and nothing. It wants, by `port N`, that this port is asked for, and none where there is no such line;
-//! and, by a line `holds PARTS` for each link that is given back, what that link then holds.
+//! and, by a line `holds PARTS` for each link that is given back, what that link then holds. It wants, by `kept_head PARTS`,
+//! `kept_entry KEY PARTS` and `kept_bytes PARTS`, that the journal then holds these, one behind the other, and by `kept` in
+//! front of them, what it held before; nothing where there is no such line.
+//!
+//! A line `again NAME` ends a run. What its lines want of it has to come; then another run begins, with the same words, files
+//! and keys, and with the journal as it is left, as the file of this name.
 //!
 //! A case of a service has the service's text for its name, and is run over no request. Its line `line TEXT` is the
 //! line that is printed, with code 3; where there is none, nothing is printed.
@@ -87,9 +100,39 @@ impl<'a> RunCase<'a> {
         case: &Case<'a>,
     ) -> Result<Verdict, Fault> {
         for line in &case.lines {
-            self.take(alloc, texts, *line)?;
+            if let Some(wrong) = self.pass(rt, alloc, texts, *line)? {
+                return Ok(wrong);
+            }
         }
         self.verdict(rt, alloc)
+    }
+
+    /// Takes the next line. Where it ends a run that is wrong, the verdict on that run is given.
+    fn pass<R: Threads + Sync>(
+        &mut self,
+        rt: &R,
+        alloc: Global,
+        texts: &Texts<'_>,
+        line: Line<'a>,
+    ) -> Result<Option<Verdict>, Fault> {
+        if line.key != "again" {
+            self.take(alloc, texts, line)?;
+            return Ok(None);
+        }
+        match self.verdict(rt, alloc)? {
+            Verdict::Right => {
+                self.go_on(alloc, line.value);
+                Ok(None)
+            }
+            wrong => Ok(Some(wrong)),
+        }
+    }
+
+    /// Begins another run, with the journal as it is wanted to be left, as the file of this name.
+    fn go_on(&mut self, alloc: Global, name: &'a str) {
+        let next = Outcome::of(alloc, 0, Vec::new(alloc));
+        let wanted = mem::replace(&mut self.wanted, next);
+        self.outside.go_on(alloc, name, wanted.into_journal());
     }
 
     /// Takes the lines of a case of a service, and tries it.
@@ -123,7 +166,28 @@ impl<'a> RunCase<'a> {
             "status" | "drawn" | "output" | "port" | "holds" => {
                 self.wanted.take(alloc, texts, line)
             }
-            _ => self.outside.take(alloc, texts, line),
+            "kept" => self.keep_all(alloc),
+            _ => self.take_given(alloc, texts, line),
+        }
+    }
+
+    /// Wants that the journal holds what it held before.
+    fn keep_all(&mut self, alloc: Global) -> Result<(), Fault> {
+        let journal = self.outside.journal.holds.copy(alloc)?;
+        drop(mem::replace(&mut self.wanted.journal, journal));
+        Ok(())
+    }
+
+    /// Takes the next line, which says what the journal is to hold then, or what there is before.
+    fn take_given(
+        &mut self,
+        alloc: Global,
+        texts: &Texts<'_>,
+        line: Line<'a>,
+    ) -> Result<(), Fault> {
+        match line.key.strip_prefix("kept_") {
+            Some(key) => self.wanted.journal.take(alloc, texts, Line { key, ..line }),
+            None => self.outside.take(alloc, texts, line),
         }
     }
 

@@ -16,6 +16,10 @@ pub struct Troubles<'a> {
     /// The port that was asked for.
     pub port: u16,
     pub of_port: Option<ErrorKind>,
+
+    /// The journal that was asked for; empty where there was no memory to note it.
+    pub journal: &'a str,
+    pub of_journal: Option<ErrorKind>,
 }
 
 /// Why a call of the system failed, in words.
@@ -28,6 +32,7 @@ impl Display for Reason {
             Some(ErrorKind::StorageFull) => f.write_str("no space left"),
             Some(ErrorKind::Interrupted) => f.write_str("interrupted again and again"),
             Some(ErrorKind::WriteZero) => f.write_str("takes nothing more"),
+            Some(ErrorKind::WouldBlock) => f.write_str("in use by another process"),
             Some(ErrorKind::Other | ErrorKind::Uncategorized) | None => f.write_str(
                 "refused by the system",
             ),
@@ -58,13 +63,22 @@ pub fn say_end<R: Eprint>(rt: &R, status: Status, troubles: &Troubles<'_>) {
                 Reason(troubles.of_port)
             )
         }
+        Status::JournalFault => {
+            let journal = if troubles.journal.is_empty() {
+                "the journal"
+            } else {
+                troubles.journal
+            };
+            eprintln!(rt; "bigwig: {}: {}", journal, Reason(troubles.of_journal))
+        }
         Status::Memory => say_memory(rt),
         Status::Done
         | Status::ServiceRefused
         | Status::SchemaRefused
         | Status::PageRefused
         | Status::FormatsRefused
-        | Status::NoFile => Ok(()),
+        | Status::NoFile
+        | Status::JournalRefused => Ok(()),
     };
 }
 

@@ -15,6 +15,7 @@ use bigwig::{Status, run};
 use bw_door::{Lack, Limits, PortDoor, Settles};
 use bw_lang::{Memory, Text, Words};
 use bw_out::{DiskFiles, Quiet, RandomKeys, Steps, Writing};
+use bw_stable::DiskJournals;
 use rand_chacha::ChaCha20Rng;
 use std::alloc::Global;
 use std::io::{ErrorKind, IsTerminal};
@@ -108,9 +109,19 @@ fn counted<L: Ledger, R: Threads + Sync + Net + Clock + Wait>(
     let mut steps: Steps<L> = Steps::new(blank);
     let mut out = Writing::new(io::writer(rt));
     let mut files = DiskFiles::new(alloc, rt);
+    let mut journals = DiskJournals::new(alloc, rt);
     let mut keys = RandomKeys::new(generator);
     let status = run(
-        threads, alloc, words, &mut files, &mut door, &mut keys, &mut out, &Quiet, &mut steps,
+        threads,
+        alloc,
+        words,
+        &mut files,
+        &mut journals,
+        &mut door,
+        &mut keys,
+        &mut out,
+        &Quiet,
+        &mut steps,
     );
     let troubles = Troubles {
         file: files.last_name(),
@@ -118,6 +129,8 @@ fn counted<L: Ledger, R: Threads + Sync + Net + Clock + Wait>(
         of_output: out.trouble(),
         port: door.port,
         of_port: door.inner.last_error(),
+        journal: journals.last_name(),
+        of_journal: journals.trouble(),
     };
     say_end(rt, status, &troubles);
 

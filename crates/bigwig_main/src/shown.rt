@@ -1,8 +1,14 @@
 //! A door that says where it stands.
 ghost use Rattle.std.specs.Prelude.{◌≡◌};
 
+use bw_door::{PortDoor, Settles};
+use bw_keeping::WideDoor;
 use bw_out::{Door, Failed};
+use bw_stable::ReadyDoor;
 use std::io::Eprint;
+use std::net::Net;
+use std::sync::Wait;
+use std::time::Clock;
 
 /// A door that says on standard error, once it stands at a port, which address is to be opened and how the program is
 /// stopped. It does so only where it is shown to somebody. In all else it is the door inside.
@@ -59,6 +65,26 @@ impl<'a, D: Door, R: Eprint> Door for ShownDoor<'a, D, R> {
     }
 
     fn give_back(&mut self, link: D::Link) {
+        self.inner.give_back(link);
+    }
+}
+
+impl<'a, R: Net + Clock + Wait + Copy, S: Settles, E: Eprint> ReadyDoor
+    for ShownDoor<'a, PortDoor<R, S>, E> {
+    fn is_ready(&self) -> bool {
+        self.inner.is_due()
+    }
+}
+
+impl<'a, R: Net + Clock + Wait + Copy, S: Settles, E: Eprint> WideDoor
+    for ShownDoor<'a, PortDoor<R, S>, E> {
+    ghost out = { λ door. door.inner.crowd.out };
+
+    fn next_link(&mut self) -> Result<Option<<PortDoor<R, S> as Door>::Link>, Failed> {
+        self.inner.next()
+    }
+
+    fn take_back(&mut self, link: <PortDoor<R, S> as Door>::Link) {
         self.inner.give_back(link);
     }
 }

@@ -18,6 +18,14 @@ names_far : (ls : List Lexeme) (ds : List Draft) (d n at : ℕ) → length ls �
 names_far ls ds d n at h = let p = plugged_far ls n h in let s = sign_far ls (n + 1) (codes "=") (omega arith) in rw (p, s) refl
 
 -- a token behind the last one stands for each of those
+pub same_plugged : (ls : List Lexeme) (n m : ℕ) → m ≡ min n (length ls) → is_plugged ls m ≡ is_plugged ls n
+same_plugged ls n m e = by_test (nat_le n (length ls)) refl
+  where
+    by_test : (b : Bool) → nat_le n (length ls) ≡ b → is_plugged ls m ≡ is_plugged ls n
+    by_test true t = let h : n ≤ length ls = leb-true n (length ls) t in ap (is_plugged ls) (omega (arith, e, h))
+    by_test false t =
+        let h = leb-false n (length ls) t in plugged_far ls m (omega (arith, e, h)) ∙ sym (plugged_far ls n (omega (arith, h)))
+
 pub same_names : (ls : List Lexeme) (ds : List Draft) (d n m at : ℕ) → m ≡ min n (length ls) → names_at ls ds d m at ≡ names_at ls ds d n at
 same_names ls ds d n m at e = by_test (nat_le n (length ls)) refl
   where

@@ -4,3 +4,7 @@ pub mod Steps
 pub mod SameBlocks
 pub mod Far
 pub mod Nearer
+pub mod GoesOn
+pub mod FoundGaps
+pub mod Walked
+pub mod Taken

@@ -1,8 +1,6 @@
 -- What is shown behind the line of a refusal: where, what is wrong, and how it is mended.
-use Rattle.std.specs.Prelude.{ℕ, ◌+◌, ◌-◌, Bool, true, false, ◌==◌, if◌then◌else◌, max, List, [], ◌++◌, length, take, drop, codes, decimal, Option, Some, None}
+use Rattle.std.specs.Prelude.{ℕ, ◌+◌, ◌-◌, ◌==◌, if◌then◌else◌, max, List, [], ◌++◌, length, take, drop, codes, decimal, Option, Some, None}
 use Rattle.bw_blame.specs.declared.site.Blamed.{Blamed}
-use Rattle.bw_blame.specs.declared.site.Site.{Site}
-use Rattle.bw_blame.specs.declared.site.Site.TheVariants as sites
 use Rattle.bw_excerpt.specs.Columns.{spot_of}
 use Rattle.bw_excerpt.specs.Excerpts.{excerpt, note, start_in, readable}
 use Rattle.bw_excerpt.specs.declared.excerpt.Place.{Place}
@@ -11,8 +9,9 @@ use Rattle.bw_hints.specs.Hints as hints
 use Rattle.bw_lang.specs.declared.declaration.Draft.{Draft}
 use Rattle.bw_syntax.specs.declared.fault.SyntaxFault.{SyntaxFault}
 use Rattle.bw_types.specs.declared.fault.TypeFault.{TypeFault}
-use Rattle.bw_diagnose.specs.Meant.{meant}
-use Rattle.bw_diagnose.specs.Places.{syntax_place, blamed_place, fault_place, fault_element, name_place}
+use Rattle.bw_diagnose.specs.Meant.{meant, role_of}
+use Rattle.bw_diagnose.specs.Places.{blamed_place, fault_place, fault_element, name_place}
+use Rattle.bw_diagnose.specs.Templates.{syntax_shown}
 
 -- the digits of the number of a place's line
 abbrev pub line_digits : List ℕ → Place → ℕ
@@ -37,16 +36,9 @@ block name text first second what mend = block_in (widest text first second) nam
 
 -- of a text that is read as no service
 abbrev pub syntax_block : List ℕ → List ℕ → SyntaxFault → List ℕ
-syntax_block name text fault = block name (readable text) (syntax_place text fault) None (hints.syntax_what fault) (hints.syntax_mend fault)
-
--- it is about a variable that is received
-abbrev pub is_target_site : Site → Bool
-is_target_site (sites.Target at) = true
-is_target_site site = false
-
-abbrev pub is_target : Option Blamed → Bool
-is_target None = false
-is_target (Some b) = is_target_site b.site
+syntax_block name text fault =
+    block name (readable text) (syntax_shown text fault).first (syntax_shown text fault).second (hints.syntax_what fault)
+    (hints.syntax_mend fault (syntax_shown text fault).expected)
 
 -- the name that may be meant
 abbrev pub meant_note : ℕ → Option (List ℕ) → List ℕ
@@ -56,7 +48,7 @@ meant_note wide (Some w) = note wide (hints.meant_words w)
 -- of a service that isn't well typed
 abbrev pub type_block : List ℕ → List ℕ → List Draft → Option Blamed → TypeFault → List ℕ
 type_block name text ds blamed fault =
-    block name text (blamed_place text ds blamed) None (hints.type_what fault) (hints.type_mend fault (is_target blamed))
+    block name text (blamed_place text ds blamed) None (hints.type_what fault) (hints.type_mend fault (role_of text ds blamed))
     ++ meant_note (widest text (blamed_place text ds blamed) None) (meant text ds blamed fault)
 
 -- the elements of the wrappers of pages, by their numbers

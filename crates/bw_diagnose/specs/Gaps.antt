@@ -1,5 +1,8 @@
 -- The gaps of a template, found among the bytes of its inside.
-use Rattle.std.specs.Prelude.{ℕ, Bool, false, ◌==◌, ◌||◌, if◌then◌else◌, List, [], ◌∷◌, ◌++◌, take}
+use Rattle.std.specs.Prelude.{◌≡◌, ℕ, Bool, false, ◌==◌, ◌||◌, if◌then◌else◌, List, [], ◌∷◌, ◌++◌, take}
+use Rattle.bw_lang.specs.Template.PieceGaps.{gap_names}
+use Rattle.bw_lang.specs.Template.Pieces.{SpellsPieces}
+use Rattle.bw_lang.specs.declared.pieces.Piece.{Piece}
 use Rattle.bw_diagnose.specs.Places.{word_length}
 use Rattle.bw_diagnose.specs.declared.gaps.Part.{Part}
 use Rattle.bw_diagnose.specs.declared.gaps.Part.TheVariants as parts
@@ -23,3 +26,7 @@ gap_there part b behind = if opens_gap part b then take (word_length behind) beh
 abbrev pub gaps_in : Part → List ℕ → List (List ℕ)
 gaps_in part [] = []
 gaps_in part (b ∷ bs) = gap_there part b bs ++ gaps_in (part_behind part b) bs
+
+-- where bytes are pieces, they are the gaps of those
+abbrev pub GapsAreFound : Type 0
+GapsAreFound = (ps : List Piece) (bytes : List ℕ) → SpellsPieces ps bytes → gaps_in parts.Outside bytes ≡ gap_names ps

@@ -1,7 +1,11 @@
+pub mod Attributes
 pub mod Blocks
 pub mod Finding
 pub mod Gaps
 pub mod Known
+pub mod Markup
 pub mod Meant
+pub mod Pairing
 pub mod Places
+pub mod Templates
 pub mod Walks

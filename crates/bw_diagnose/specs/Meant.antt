@@ -3,6 +3,8 @@ use Rattle.std.specs.Prelude.{ℕ, ◌+◌, ◌-◌, Bool, ◌&&◌, ◌||◌, i
 use Rattle.bw_blame.specs.declared.site.Blamed.{Blamed}
 use Rattle.bw_blame.specs.declared.site.Site.{Site}
 use Rattle.bw_blame.specs.declared.site.Site.TheVariants as sites
+use Rattle.bw_hints.specs.declared.hints.Role.{Role}
+use Rattle.bw_hints.specs.declared.hints.Role.TheVariants as roles
 use Rattle.bw_lang.specs.declared.declaration.Draft.{Draft}
 use Rattle.bw_lang.specs.declared.declaration.Draft.TheVariants as drafts
 use Rattle.bw_lang.specs.declared.token.Lexeme.{Lexeme}
@@ -65,6 +67,21 @@ may_stand ls ds d own site = []
 abbrev pub stand_in : List Lexeme → List Draft → Blamed → Option Span → List (List ℕ)
 stand_in ls ds b None = []
 stand_in ls ds b (Some own) = may_stand ls ds b.declaration own.from b.site
+
+-- what a test is about, at a site of a declaration whose first token is `own`
+abbrev pub role_at : List Lexeme → ℕ → Site → Role
+role_at ls own (sites.Tokens from to) = if is_plugged ls (own + from) then roles.Gap else roles.Value
+role_at ls own (sites.Target at) = roles.Target
+role_at ls own sites.Literal = roles.Literal
+role_at ls own site = roles.Value
+
+abbrev pub role_in : List Lexeme → Site → Option Span → Role
+role_in ls site None = roles.Value
+role_in ls site (Some own) = role_at ls own.from site
+
+abbrev pub role_of : List ℕ → List Draft → Option Blamed → Role
+role_of text ds None = roles.Value
+role_of text ds (Some b) = role_in (lexemes_in text) b.site (declared_at ds b.declaration 3)
 
 -- the name that may be meant by an unknown one
 abbrev pub meant : List ℕ → List Draft → Option Blamed → TypeFault → Option (List ℕ)

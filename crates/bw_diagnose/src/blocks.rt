@@ -4,9 +4,10 @@ ghost use Rattle.bw_diagnose.specs.Blocks as spec;
 ghost use Rattle.bw_hints.specs.Hints as hints;
 
 use crate::known::Known;
-use crate::meant::meant;
-use crate::places::{blamed_place, fault_element, fault_place, name_place, syntax_place};
-use bw_blame::{Blamed, Site};
+use crate::meant::{meant, role_of};
+use crate::places::{blamed_place, fault_element, fault_place, name_place};
+use crate::templates::syntax_shown;
+use bw_blame::Blamed;
 use bw_excerpt::{Paper, Place, digits, push_excerpt, push_note, readable, spot_of, start_in};
 use bw_faults::Fault;
 use bw_hints::{
@@ -84,27 +85,23 @@ pub fn push_syntax_block(
 ) -> Result<(), Memory>
     ensures { OnOk result (out.new.items ≡ out.old.items ++ spec.syntax_block paper.entry.name.now paper.entry.text.now fault.now) }
 {
-    let first = syntax_place(alloc, paper.text, fault)?;
+    let found = syntax_shown(alloc, paper.text, fault)?;
     let text = readable(alloc, paper.text)?;
     let shown = Paper {
         name: paper.name,
         text: &text,
     };
     let places = Places {
-        first,
-        second: None,
+        first: found.first,
+        second: found.second,
     };
-    push_block(out, shown, places, syntax_what(fault), syntax_mend(fault))
-}
-
-/// Whether the first test that fails is about a variable that is received.
-fn is_target(blamed: Option<Blamed>) -> bool
-    ensures { result ≡ spec.is_target blamed }
-{
-    match blamed {
-        Some(blamed) => matches!(blamed.site, Site::Target(_)),
-        None => false,
-    }
+    push_block(
+        out,
+        shown,
+        places,
+        syntax_what(fault),
+        syntax_mend(fault, found.expected),
+    )
 }
 
 /// The name that may be meant, in a margin of this width.
@@ -155,7 +152,7 @@ pub fn push_type_block(
         paper,
         places,
         &what,
-        type_mend(fault, is_target(blamed)),
+        type_mend(fault, role_of(known, blamed)),
     )?;
     push_meant(out, alloc, widest(paper.text, places), &name_meant)
 }

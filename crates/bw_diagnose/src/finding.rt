@@ -20,7 +20,7 @@ pub enum Wanted {
 }
 
 /// Whether the token of this number is this word.
-fn word_at(lexemes: &[Lexeme], at: usize, word: &[u8]) -> bool
+pub fn word_at(lexemes: &[Lexeme], at: usize, word: &[u8]) -> bool
     ensures { result ≡ spec.word_at lexemes.now at word.now }
 {
     match lexemes.get(at) {

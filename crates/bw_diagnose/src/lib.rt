@@ -1,13 +1,18 @@
 //! What is shown behind the line of a refusal: where in the text it is, what is wrong, and how it is mended.
 #![tactic(auto)]
 
+mod attributes;
 mod blocks;
 mod finding;
 mod gaps;
 mod known;
+pub mod laws;
+mod markup;
 mod meant;
+mod pairing;
 mod places;
 mod tags;
+mod templates;
 mod walk;
 
 pub use blocks::{

@@ -9,6 +9,7 @@ use crate::finding::sign_at;
 use crate::gaps::nearest_gap;
 use crate::known::Known;
 use bw_blame::{Blamed, Site};
+use bw_hints::Role;
 use bw_lang::{Bytes, Draft, Lexeme, Memory, Words};
 use bw_near::nearer;
 use bw_places::{declaration, locals_at};
@@ -78,8 +79,9 @@ fn nearest_variable(
     ensures { IfOk result (λ o. o ≡ nearest_behind word.now None (spec.variables_there drafts.now number at)) }
 {
     let locals = locals_there(alloc, drafts, number, at)?;
-    let best = nearest_word(alloc, word, &locals)?;
-    nearest_declared(alloc, word, best, Sort::Shared, drafts)
+    let best = nearest_word(alloc, word, &locals);
+    drop(locals);
+    nearest_declared(alloc, word, best?, Sort::Shared, drafts)
 }
 
 /// The nearest of some names.
@@ -187,6 +189,38 @@ fn nearest_there(
         Site::Target(at) => nearest_variable(alloc, word, &known.drafts, blamed.declaration, at),
         Site::Literal => nearest_declared(alloc, word, None, Sort::Template, &known.drafts),
         Site::StartTag(_) | Site::Hole(_) => Ok(None),
+    }
+}
+
+/// What a test is about, at a site of a declaration whose first token is `own`.
+#[tactic(auto, using(crate::proofs::Far::same_plugged))]
+fn role_at(lexemes: &[Lexeme], own: usize, site: Site) -> Role
+    ensures { result ≡ spec.role_at lexemes.now own site }
+{
+    match site {
+        Site::Tokens(at, _) => {
+            if is_plugged(lexemes, own.saturating_add(at).min(lexemes.len())) {
+                Role::Gap
+            } else {
+                Role::Value
+            }
+        }
+        Site::Target(_) => Role::Target,
+        Site::Literal => Role::Literal,
+        Site::StartTag(_) | Site::Hole(_) => Role::Value,
+    }
+}
+
+/// What the first test that fails is about.
+pub fn role_of(known: &Known<'_>, blamed: Option<Blamed>) -> Role
+    ensures { result ≡ spec.role_of known.now.told.text.now known.now.drafts.items blamed }
+{
+    match blamed {
+        Some(blamed) => match declaration(&known.drafts, blamed.declaration) {
+            Some(own) => role_at(&known.told.lexemes, own.from, blamed.site),
+            None => Role::Value,
+        },
+        None => Role::Value,
     }
 }
 

@@ -1,5 +1,5 @@
 //! Names with their values.
-ghost use Rattle.std.specs.Prelude.{◌≡◌, ◌≤◌, ◌^◌, ◌++◌, ◌∷◌, [], List, None, IfOk, IfSome, OnOk, OnErr, length, take, option_map, position};
+ghost use Rattle.std.specs.Prelude.{◌≡◌, ◌≤◌, ◌^◌, ◌++◌, ◌∷◌, [], List, None, IfOk, IfSome, OnOk, OnErr, length, map, take, option_map, position};
 ghost use Rattle.bw_lang.specs.declared.service.Template.{Template};
 ghost use Rattle.bw_lang.specs.Table.Names.{beside, same};
 ghost use Rattle.bw_meaning.specs.Values as meaning;
@@ -67,6 +67,13 @@ impl Values {
         ensures { result ≡ length self.now }
     {
         self.list.len()
+    }
+
+    /// The variables, in their order.
+    pub fn as_slice(&self) -> &[Variable]
+        ensures { map (λ x. (x.name, x.value)) result.now ≡ self.now }
+    {
+        self.list.as_slice()
     }
 
     /// A variable more, behind the others.

@@ -48,6 +48,7 @@ use Rattle.bw_format.specs.Reading.{at, outside, piece, bracket, inside, dash, r
 use Rattle.bw_format.specs.Spelling.{spell, spell_members, AreMembers, IsClass, level, Levelled, nest, Spells}
 use Rattle.std.proofs.lemmas.Bool.{eqb-true, leb-true, le-ltb}
 use Rattle.std.proofs.lemmas.List.{append-nil}
+use Rattle.bw_format.specs.declared.limits.TheConstants.{MAX_GROUPS}
 
 -- the sign of a plain character
 pub plain_sign : (s : Sign) → IsTrue (is_plain_sign s) → s ≡ signs.Plain
@@ -127,7 +128,7 @@ of outer f = Some (outside (record { outer = outer; frame = f }))
 
 -- reading the spelling leads from one frame to another
 abbrev pub Leads : Pattern → Frame → Frame → Type 0
-Leads p from to = (outer : List Frame) (rest : List ℕ) → nest p + length outer ≤ 16 → run_on (spell p rest) (of outer from) ≡ run_on rest (of outer to)
+Leads p from to = (outer : List Frame) (rest : List ℕ) → nest p + length outer ≤ MAX_GROUPS → run_on (spell p rest) (of outer from) ≡ run_on rest (of outer to)
 
 abbrev pub Atom : Pattern → Type 0
 Atom p = (f : Frame) → Leads p f (with_atom f p)
@@ -153,7 +154,7 @@ atom_piece p h f = (with_atom f p, refl, refl, h f)
 
 group_atom : (p : Pattern) → Choice p → Atom (group p)
 group_atom p h f outer rest room =
-    let few : nat_le 16 (length outer) ≡ false = not_true (nat_le 16 (length outer)) (λ t. omega (arith, leb-true 16 (length outer) t, room)) in
+    let few : nat_le MAX_GROUPS (length outer) ≡ false = not_true (nat_le MAX_GROUPS (length outer)) (λ t. omega (arith, leb-true MAX_GROUPS (length outer) t, room)) in
     ap (λ b. run_on (spell p (41 ∷ rest)) (maybe_outside (cond b None (Some (record { outer = f ∷ outer; frame = fresh None }))))) few
     ∙ h.2 (f ∷ outer) (41 ∷ rest) (omega (arith, room))
     ∙ ap (λ q. run_on rest (of outer (with_atom f (group q)))) h.1

@@ -51,6 +51,7 @@ use Rattle.bw_format.specs.Reading as reading
 use Rattle.bw_format.specs.Reading.{at, outside, maybe_outside, piece, bracket, inside, dash, step, run_on, start, finish, finished_in, read}
 use Rattle.bw_format.specs.Spelling.{spell, spell_class, spell_member, spell_members, IsMember, AreMembers, IsClass, level, Levelled, nest, Spells}
 use Rattle.std.proofs.lemmas.List.{append-nil}
+use Rattle.bw_format.specs.declared.limits.TheConstants.{MAX_GROUPS}
 
 -- the characters that are read
 abbrev pub shown_mode : Mode → List ℕ → List ℕ
@@ -84,7 +85,7 @@ pub record GoodFrame (f : Frame) : Type 0 where
 
 abbrev pub GoodOuter : List Frame → Type 0
 GoodOuter [] = Unit {0}
-GoodOuter (f ∷ outer) = GoodFrame f × (nest (whole f) + length outer ≤ 16) × GoodOuter outer
+GoodOuter (f ∷ outer) = GoodFrame f × (nest (whole f) + length outer ≤ MAX_GROUPS) × GoodOuter outer
 
 abbrev pub GoodMode : Mode → Type 0
 GoodMode Outside = Unit {0}
@@ -96,7 +97,7 @@ GoodMode (Dash ms c) = AreMembers ms × IsTrue (is_inner c)
 pub record Good (g : Groups) : Type 0 where
   pub outer : GoodOuter g.outer
   pub frame : GoodFrame g.frame
-  pub nest : nest (whole g.frame) + length g.outer ≤ 16
+  pub nest : nest (whole g.frame) + length g.outer ≤ MAX_GROUPS
 
 -- the answer, if there is one, is well formed and shows these characters
 abbrev pub Follows : (List ℕ → List ℕ) → Option Reader → Type 0
@@ -124,7 +125,7 @@ good_with_atom f p h e l =
     record { earlier = h.earlier; row_level = r.0; row = r.1; last = (e, l) }
 
 -- a piece behind a sequence nests no deeper than either, and is written behind it
-nest_piece : (e : Option Pattern) (row p : Pattern) (n : ℕ) → nest (behind e row) + n ≤ 16 → nest p + n ≤ 16 → nest (behind e (sequence row p)) + n ≤ 16
+nest_piece : (e : Option Pattern) (row p : Pattern) (n : ℕ) → nest (behind e row) + n ≤ MAX_GROUPS → nest p + n ≤ MAX_GROUPS → nest (behind e (sequence row p)) + n ≤ MAX_GROUPS
 nest_piece None row p n h k = omega (arith, h, k)
 nest_piece (Some e) row p n h k = omega (arith, h, k)
 
@@ -134,7 +135,7 @@ spell_piece (Some e) row p rest = refl
 
 -- one more piece that stands alone
 atom_follows : (outer : List Frame) (f : Frame) (p : Pattern) (before : List ℕ → List ℕ)
-    → GoodOuter outer → GoodFrame f → nest (whole f) + length outer ≤ 16 → level p ≡ 3 → Levelled p → nest p + length outer ≤ 16
+    → GoodOuter outer → GoodFrame f → nest (whole f) + length outer ≤ MAX_GROUPS → level p ≡ 3 → Levelled p → nest p + length outer ≤ MAX_GROUPS
     → ((rest : List ℕ) → shown_outer outer (spell (whole f) (spell p rest)) ≡ before rest)
     → Follows before (Some (outside (record { outer = outer; frame = with_atom f p })))
 atom_follows outer f p before o h n e l k b = (
@@ -159,12 +160,12 @@ good_times time.Plus p e l = (refl, (e, l))
 good_times time.Optional p e l = (refl, (e, l))
 
 -- what the frame holds apart from its last piece nests no deeper
-nest_without : (e : Option Pattern) (row p : Pattern) (n : ℕ) → nest (behind e (sequence row p)) + n ≤ 16 → (nest (behind e row) + n ≤ 16) × (nest p + n ≤ 16)
+nest_without : (e : Option Pattern) (row p : Pattern) (n : ℕ) → nest (behind e (sequence row p)) + n ≤ MAX_GROUPS → (nest (behind e row) + n ≤ MAX_GROUPS) × (nest p + n ≤ MAX_GROUPS)
 nest_without None row p n h = (omega (arith, h), omega (arith, h))
 nest_without (Some e) row p n h = (omega (arith, h), omega (arith, h))
 
 repeated_follows : (outer : List Frame) (e : Option Pattern) (row : Pattern) (last : Option Pattern) (t : Times) (sign : ℕ) (before : List ℕ → List ℕ)
-    → GoodOuter outer → GoodFrame (record { earlier = e; row = row; last = last }) → nest (behind e (full_row row last)) + length outer ≤ 16
+    → GoodOuter outer → GoodFrame (record { earlier = e; row = row; last = last }) → nest (behind e (full_row row last)) + length outer ≤ MAX_GROUPS
     → ((p : Pattern) (rest : List ℕ) → spell (times t p) rest ≡ spell p (sign ∷ rest))
     → ((rest : List ℕ) → shown_outer outer (spell (behind e (full_row row last)) (sign ∷ rest)) ≡ before rest)
     → Follows before (maybe_outside (frames.in_groups outer (with_repeated t (record { earlier = e; row = row; last = last }) last)))
@@ -182,20 +183,20 @@ repeated_follows outer e row (Some p) t sign before o h n s b =
           ∙ b rest,
     )
 
-opened_follows : (g : Groups) (b : Bool) → nat_le 16 (length g.outer) ≡ b → Good g
+opened_follows : (g : Groups) (b : Bool) → nat_le MAX_GROUPS (length g.outer) ≡ b → Good g
     → Follows (λ rest. shown g (40 ∷ rest)) (maybe_outside (cond b None (Some (record { outer = g.frame ∷ g.outer; frame = fresh None }))))
 opened_follows g true e h = tt
 opened_follows g false e h = (
   record {
     outer = (h.frame, h.nest, h.outer);
     frame = good_fresh None tt;
-    nest = omega (arith, leb-false 16 (length g.outer) e);
+    nest = omega (arith, leb-false MAX_GROUPS (length g.outer) e);
   },
   tt,
   λ rest. refl,
 )
 
-closed_follows : (outer : List Frame) (f : Frame) → GoodOuter outer → GoodFrame f → nest (whole f) + length outer ≤ 16
+closed_follows : (outer : List Frame) (f : Frame) → GoodOuter outer → GoodFrame f → nest (whole f) + length outer ≤ MAX_GROUPS
     → Follows (λ rest. shown_outer outer (spell (whole f) (41 ∷ rest))) (maybe_outside (frames.closed_in outer f))
 closed_follows [] f o h n = tt
 closed_follows (around ∷ outer) f o h n =
@@ -301,7 +302,7 @@ piece_follows g signs.Escape c e p h = via g 92 c (Some (at g Escape)) e (h, tt,
 piece_follows g signs.Any c e p h = via g 46 c (Some (outside (frames.with_class g class.Any))) e (class_follows g class.Any _ h tt (λ rest. refl))
 piece_follows g signs.OpenBracket c e p h = via g 91 c (Some (at g (Inside []))) e (h, tt, λ rest. refl)
 piece_follows g signs.CloseBracket c e p h = tt
-piece_follows g signs.Open c e p h = via g 40 c (maybe_outside (frames.opened g)) e (opened_follows g (nat_le 16 (length g.outer)) refl h)
+piece_follows g signs.Open c e p h = via g 40 c (maybe_outside (frames.opened g)) e (opened_follows g (nat_le MAX_GROUPS (length g.outer)) refl h)
 piece_follows g signs.Close c e p h = via g 41 c (maybe_outside (frames.closed g)) e (closed_follows g.outer g.frame h.outer h.frame h.nest)
 piece_follows g signs.Bar c e p h = via g 124 c (Some (outside (frames.groups_barred g))) e (barred_follows g h)
 piece_follows g signs.Star c e p h =
@@ -331,7 +332,7 @@ run_follows (c ∷ cs) before (Some r) h =
     (same_follows (λ rest. shown r.groups (shown_mode r.mode (c ∷ rest))) _ (step r c) (λ rest. h.2 (c ∷ rest)) (step_follows r.groups r.mode c h.0 h.1))
 
 -- what ends well is written so
-finished_spells : (outer : List Frame) (f : Frame) (text : List ℕ) (p : Pattern) → GoodFrame f → nest (whole f) + length outer ≤ 16
+finished_spells : (outer : List Frame) (f : Frame) (text : List ℕ) (p : Pattern) → GoodFrame f → nest (whole f) + length outer ≤ MAX_GROUPS
     → shown_outer outer (spell (whole f) []) ≡ text → frames.finished_in outer f ≡ Some p → Spells text p
 finished_spells (around ∷ outer) f text p h n e s = cc
 finished_spells [] f text p h n e s =

@@ -10,7 +10,7 @@ use Rattle.bw_format.specs.declared.steps.Walk.{Walk}
 use Rattle.bw_format.specs.Classes.{holds}
 use Rattle.bw_format.specs.Pattern.{Pattern, nothing, one, sequence, either, star, plus, optional, group, places, repeats}
 use Rattle.bw_format.specs.Marks.{marked, ends, skips, ended, shifted, light_from}
-use Rattle.bw_format.specs.Steps.{Op, take_one, keep, turn, join, begin, after_star, after_plus, at_start, past, inside, again, code, Fits, no_ends, or_ends, walk, stepped, run, read}
+use Rattle.bw_format.specs.Steps.{Op, keep, turn, join, begin, after_star, after_plus, at_start, past, inside, again, code, Fits, no_ends, or_ends, walk, stepped, run, read}
 use Rattle.bw_format.proofs.Again.{ends_again}
 use Rattle.bw_format.proofs.Ended.{or_none, ends_entered, ends_first, ended_first, length-ended, front_is, back_is, both_ended}
 use Rattle.bw_format.proofs.Left.{length-shifted}

@@ -1,5 +1,5 @@
 -- A pattern laid out as steps, which are taken one after another for each character.
-use Rattle.std.specs.Prelude.{◌<◌, ℕ, ◌+◌, Bool, true, false, ◌&&◌, ◌||◌, List, [], ◌∷◌, ◌++◌, get_or, set}
+use Rattle.std.specs.Prelude.{◌<◌, ℕ, ◌+◌, Bool, false, ◌&&◌, ◌||◌, List, [], ◌∷◌, ◌++◌, get_or, set}
 use Rattle.bw_format.specs.declared.pattern.Class.{Class}
 use Rattle.bw_format.specs.declared.steps.At.{At}
 use Rattle.bw_format.specs.declared.steps.Ends.{Ends}

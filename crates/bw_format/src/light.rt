@@ -244,13 +244,16 @@ impl Pattern {
         light_at(ends, enter, walk.marks(self.places()))
     }
 
-    /// The light of a text. It takes no memory. The steps take a fraction of the time that the tree takes, which is there
-    /// for patterns that have no room for their steps.
+    /// The light of a text. It takes no memory. The steps take a fraction of the time that the tree takes. By the tree go
+    /// the empty text, for which it would take longer to lay them out, and a pattern that has no room for them.
     pub fn light(&self, text: &str) -> Light
         requires places { places self.now ≤ MAX_PATTERN_CHARS }
         requires repeats { repeats self.now ≤ MAX_PATTERN_CHARS }
         ensures { result ≡ spec.light self.now (chars text.now) }
     {
+        if text.is_empty() {
+            return self.light_by_tree(text);
+        }
         let mut steps = ArrayVec::new();
         match self.lay_out(At::start(), &mut steps) {
             Some(skips) => self.light_by_steps(&steps, skips, text),

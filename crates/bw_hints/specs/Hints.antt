@@ -1,5 +1,5 @@
 -- The words of refusals: what is wrong, and how it is mended.
-use Rattle.std.specs.Prelude.{ℕ, Bool, ◌==◌, if◌then◌else◌, List, [], ◌++◌, codes}
+use Rattle.std.specs.Prelude.{ℕ, ◌==◌, if◌then◌else◌, List, [], ◌++◌, codes, Option, Some, None}
 use Rattle.bw_lang.specs.declared.limits.Limit.{Limit}
 use Rattle.bw_lang.specs.declared.limits.Limit.TheVariants as limits
 use Rattle.bw_lang.specs.declared.stmt.Kind.{Kind}
@@ -12,6 +12,10 @@ use Rattle.bw_tmpl.specs.declared.fault.TmplFault.{TmplFault}
 use Rattle.bw_tmpl.specs.declared.fault.TmplFault.TheVariants as templates
 use Rattle.bw_types.specs.declared.fault.TypeFault.{TypeFault}
 use Rattle.bw_types.specs.declared.fault.TypeFault.TheVariants as typing
+use Rattle.bw_hints.specs.declared.hints.Expected.{Expected}
+use Rattle.bw_hints.specs.declared.hints.Expected.TheVariants as expects
+use Rattle.bw_hints.specs.declared.hints.Role.{Role}
+use Rattle.bw_hints.specs.declared.hints.Role.TheVariants as roles
 
 abbrev pub lex_what : LexFault → List ℕ
 lex_what (lexing.BadByte at) = codes "this character begins nothing that a service is made of"
@@ -68,20 +72,32 @@ limit_mend limits.NameBytes = codes "shorten it"
 limit_mend limits.StringBytes = codes "cut it in two and join them by +, or put the text into a template"
 limit_mend limits.Weight = codes "cut it in two, and plug one into the other"
 
-abbrev pub template_mend : TmplFault → List ℕ
-template_mend templates.Malformed = codes "write &lt; and &amp; in texts, quotes around values, names of tags in lower case, and gaps as <[name]>"
-template_mend templates.RepeatedAttribute = codes "keep one of the two"
-template_mend templates.Mismatched = codes "close each element in front of the end of the one around it; br, hr, img, input, meta and link have no end tag"
-template_mend templates.Nesting = codes "plug the inner part as a template of its own"
-template_mend templates.Memory = []
+-- where a template's markup stops, and this is expected
+abbrev pub markup_mend : Option Expected → List ℕ
+markup_mend None = codes "write &lt; and &amp; in texts, quotes around values, names of tags in lower case, and gaps as <[name]>"
+markup_mend (Some expects.Text) = codes "write &lt; for <, &amp; for &, and other characters as they are; a tag's name is in lower case"
+markup_mend (Some expects.Gap) = codes "a gap is written <[name]>, and name=[gap] in a tag"
+markup_mend (Some expects.EndTag) = codes "an end tag is written </name>, with the name in lower case"
+markup_mend (Some expects.Tag) = codes "behind a tag's name stand attributes, each behind a blank, and > or />; names are in lower case"
+markup_mend (Some expects.Attribute) = codes "write a value behind the attribute's name, as in name=\"value\""
+markup_mend (Some expects.Value) = codes "put the value between quotes, or write [gap]"
+markup_mend (Some expects.Quoted) = codes "close the value by its quote; in a value < is written &lt;, and & is written &amp;"
 
-abbrev pub syntax_mend : SyntaxFault → List ℕ
-syntax_mend reading.TooLong = codes "cut the service in two"
-syntax_mend (reading.Lex fault) = lex_mend fault
-syntax_mend (reading.TooMany limit n) = limit_mend limit
-syntax_mend (reading.Syntax at) = codes "look in front of this place for a missing ; or bracket; a service ends with } for each { that is open"
-syntax_mend (reading.Template name fault) = template_mend fault
-syntax_mend reading.Memory = []
+abbrev pub template_mend : TmplFault → Option Expected → List ℕ
+template_mend templates.Malformed expected = markup_mend expected
+template_mend templates.RepeatedAttribute expected = codes "keep one of the two"
+template_mend templates.Mismatched expected = codes "close each element in front of the end of the one around it; br, hr, img, input, meta and link have no end tag"
+template_mend templates.Nesting expected = codes "plug the inner part as a template of its own"
+template_mend templates.Memory expected = []
+
+abbrev pub syntax_mend : SyntaxFault → Option Expected → List ℕ
+syntax_mend reading.TooLong expected = codes "cut the service in two"
+syntax_mend (reading.Lex fault) expected = lex_mend fault
+syntax_mend (reading.TooMany limit n) expected = limit_mend limit
+syntax_mend (reading.Syntax at) expected =
+    codes "look in front of this place for a missing ; or bracket; a service ends with } for each { that is open"
+syntax_mend (reading.Template name fault) expected = template_mend fault expected
+syntax_mend reading.Memory expected = []
 
 abbrev pub kind_name : Kind → List ℕ
 kind_name kinds.Int = codes "an int"
@@ -98,6 +114,8 @@ kind_mend kinds.Html kinds.Int = codes "write text(..) around it, and plug that 
 kind_mend kinds.Str kinds.Html = codes "a document is no text: plug it into a gap for content"
 kind_mend kinds.Str kinds.Strs = codes "go over the list by foreach, and use each of its strings"
 kind_mend kinds.Strs kinds.Str = codes "only a field with several values, or none, is a list"
+kind_mend kinds.Bool kinds.Int = codes "compare it with a number, as in n > 0"
+kind_mend kinds.Bool kinds.Str = codes "compare it with a string, as in s == \"yes\""
 kind_mend wanted found = codes "give it another value, or declare the variable otherwise"
 
 abbrev pub type_what : TypeFault → List ℕ
@@ -117,17 +135,28 @@ abbrev pub target_mend : Kind → List ℕ
 target_mend kinds.Int = codes "receive it into a string, and use number(..) of that behind a test by isnumber(..)"
 target_mend found = codes "receive it into a string, or into strings where the field has several values"
 
-abbrev pub type_mend : TypeFault → Bool → List ℕ
-type_mend (typing.Repeated name) target = codes "choose another name; templates, shared variables, sessions and a session's locals share them"
-type_mend (typing.Unknown name) target = codes "mend its spelling, or declare it in front; a gap of this name must stand in a template"
-type_mend (typing.GapKinds name) target = codes "use two names"
-type_mend (typing.FieldKinds name) target = codes "use two names"
-type_mend (typing.BadControl name) target = codes "write name and type as plain values, and leave out disabled"
-type_mend (typing.ReservedTag name) target = codes "leave this element out"
-type_mend (typing.FileInput name) target = codes "leave this input out"
-type_mend (typing.NoExit name) target = codes "end it with exit and a page"
-type_mend (typing.Kind wanted found) target = if target then target_mend found else kind_mend wanted found
-type_mend typing.Memory target = []
+-- of another kind, and of an unknown name
+abbrev pub role_mend : Role → Kind → Kind → List ℕ
+role_mend roles.Target wanted found = target_mend found
+role_mend roles.Literal wanted found = codes "give it another value, or declare the variable otherwise"
+role_mend role wanted found = kind_mend wanted found
+
+abbrev pub unknown_mend : Role → List ℕ
+unknown_mend roles.Gap = codes "mend its spelling, or write a gap of this name into a template"
+unknown_mend roles.Literal = codes "mend its spelling, or add a template of this name"
+unknown_mend role = codes "mend its spelling, or declare it; a local is known behind its declaration, to the end of its block"
+
+abbrev pub type_mend : TypeFault → Role → List ℕ
+type_mend (typing.Repeated name) role = codes "choose another name; templates, shared variables, sessions and a session's locals share them"
+type_mend (typing.Unknown name) role = unknown_mend role
+type_mend (typing.GapKinds name) role = codes "use two names"
+type_mend (typing.FieldKinds name) role = codes "use two names"
+type_mend (typing.BadControl name) role = codes "write name and type as plain values, and leave out disabled"
+type_mend (typing.ReservedTag name) role = codes "leave this element out"
+type_mend (typing.FileInput name) role = codes "leave this input out"
+type_mend (typing.NoExit name) role = codes "end it with exit and a page"
+type_mend (typing.Kind wanted found) role = role_mend role wanted found
+type_mend typing.Memory role = []
 
 -- the name that may be meant by an unknown one
 abbrev pub meant_words : List ℕ → List ℕ

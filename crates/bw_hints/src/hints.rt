@@ -8,6 +8,25 @@ use bw_syntax::SyntaxFault;
 use bw_tmpl::TmplFault;
 use bw_types::TypeFault;
 
+/// What is expected where a template's markup stops.
+#[derive(Clone, Copy, Debug)]
+pub enum Expected {
+    /// A text, a tag or a gap.
+    Text,
+    /// The rest of a gap.
+    Gap,
+    /// The rest of an end tag.
+    EndTag,
+    /// An attribute or the end of a tag.
+    Tag,
+    /// An attribute's value, behind its name.
+    Attribute,
+    /// An attribute's value, behind `=`.
+    Value,
+    /// The rest of a value in quotes.
+    Quoted,
+}
+
 /// What is wrong with a text that has no tokens.
 fn lex_what(fault: &LexFault) -> &'static [u8]
     ensures { result.now ≡ spec.lex_what fault.now }
@@ -101,13 +120,33 @@ fn limit_mend(limit: Limit) -> &'static [u8]
     }
 }
 
+/// How it is mended where a template's markup stops, and this is expected.
+fn markup_mend(expected: Option<Expected>) -> &'static [u8]
+    ensures { result.now ≡ spec.markup_mend expected }
+{
+    match expected {
+        None =>
+            b"write &lt; and &amp; in texts, quotes around values, names of tags in lower case, and gaps as <[name]>",
+        Some(Expected::Text) =>
+            b"write &lt; for <, &amp; for &, and other characters as they are; a tag's name is in lower case",
+        Some(Expected::Gap) => b"a gap is written <[name]>, and name=[gap] in a tag",
+        Some(Expected::EndTag) => b"an end tag is written </name>, with the name in lower case",
+        Some(Expected::Tag) =>
+            b"behind a tag's name stand attributes, each behind a blank, and > or />; names are in lower case",
+        Some(Expected::Attribute) =>
+            b"write a value behind the attribute's name, as in name=\"value\"",
+        Some(Expected::Value) => b"put the value between quotes, or write [gap]",
+        Some(Expected::Quoted) =>
+            b"close the value by its quote; in a value < is written &lt;, and & is written &amp;",
+    }
+}
+
 /// How it is mended with a template.
-fn template_mend(fault: TmplFault) -> &'static [u8]
-    ensures { result.now ≡ spec.template_mend fault }
+fn template_mend(fault: TmplFault, expected: Option<Expected>) -> &'static [u8]
+    ensures { result.now ≡ spec.template_mend fault expected }
 {
     match fault {
-        TmplFault::Malformed =>
-            b"write &lt; and &amp; in texts, quotes around values, names of tags in lower case, and gaps as <[name]>",
+        TmplFault::Malformed => markup_mend(expected),
         TmplFault::RepeatedAttribute => b"keep one of the two",
         TmplFault::Mismatched =>
             b"close each element in front of the end of the one around it; br, hr, img, input, meta and link have no end tag",
@@ -116,9 +155,9 @@ fn template_mend(fault: TmplFault) -> &'static [u8]
     }
 }
 
-/// How it is mended with a text that is no service.
-pub fn syntax_mend(fault: &SyntaxFault) -> &'static [u8]
-    ensures { result.now ≡ spec.syntax_mend fault.now }
+/// How it is mended with a text that is no service; where a template's markup stops, this is expected.
+pub fn syntax_mend(fault: &SyntaxFault, expected: Option<Expected>) -> &'static [u8]
+    ensures { result.now ≡ spec.syntax_mend fault.now expected }
 {
     match fault {
         SyntaxFault::TooLong => b"cut the service in two",
@@ -126,7 +165,7 @@ pub fn syntax_mend(fault: &SyntaxFault) -> &'static [u8]
         SyntaxFault::TooMany(limit, _) => limit_mend(*limit),
         SyntaxFault::Syntax(_) =>
             b"look in front of this place for a missing ; or bracket; a service ends with } for each { that is open",
-        SyntaxFault::Template(_, fault) => template_mend(*fault),
+        SyntaxFault::Template(_, fault) => template_mend(*fault, expected),
         SyntaxFault::Memory => b"",
     }
 }
@@ -144,6 +183,19 @@ fn kind_name(kind: Kind) -> &'static [u8]
     }
 }
 
+/// What a test of names and kinds is about.
+#[derive(Clone, Copy, Debug)]
+pub enum Role {
+    /// A value, or a name that is declared.
+    Value,
+    /// The variable of a receive.
+    Target,
+    /// The gap of a plug.
+    Gap,
+    /// The literal of a shared variable.
+    Literal,
+}
+
 /// How a value of another kind is mended.
 fn kind_mend(wanted: Kind, found: Kind) -> &'static [u8]
     ensures { result.now ≡ spec.kind_mend wanted found }
@@ -156,6 +208,8 @@ fn kind_mend(wanted: Kind, found: Kind) -> &'static [u8]
         (Kind::Str, Kind::Html) => b"a document is no text: plug it into a gap for content",
         (Kind::Str, Kind::Strs) => b"go over the list by foreach, and use each of its strings",
         (Kind::Strs, Kind::Str) => b"only a field with several values, or none, is a list",
+        (Kind::Bool, Kind::Int) => b"compare it with a number, as in n > 0",
+        (Kind::Bool, Kind::Str) => b"compare it with a string, as in s == \"yes\"",
         _ => b"give it another value, or declare the variable otherwise",
     }
 }
@@ -171,28 +225,44 @@ fn target_mend(found: Kind) -> &'static [u8]
     }
 }
 
-/// How a fault of names and kinds is mended; `is_target`: it is about a variable that is received.
-pub fn type_mend(fault: &TypeFault, is_target: bool) -> &'static [u8]
-    ensures { result.now ≡ spec.type_mend fault.now is_target }
+/// How another kind is mended in this role.
+fn role_mend(role: Role, wanted: Kind, found: Kind) -> &'static [u8]
+    ensures { result.now ≡ spec.role_mend role wanted found }
+{
+    match role {
+        Role::Target => target_mend(found),
+        Role::Literal => b"give it another value, or declare the variable otherwise",
+        Role::Value | Role::Gap => kind_mend(wanted, found),
+    }
+}
+
+/// How an unknown name is mended in this role.
+fn unknown_mend(role: Role) -> &'static [u8]
+    ensures { result.now ≡ spec.unknown_mend role }
+{
+    match role {
+        Role::Gap => b"mend its spelling, or write a gap of this name into a template",
+        Role::Literal => b"mend its spelling, or add a template of this name",
+        Role::Value | Role::Target =>
+            b"mend its spelling, or declare it; a local is known behind its declaration, to the end of its block",
+    }
+}
+
+/// How a fault of names and kinds is mended, whose test is about this.
+pub fn type_mend(fault: &TypeFault, role: Role) -> &'static [u8]
+    ensures { result.now ≡ spec.type_mend fault.now role }
 {
     match fault {
         TypeFault::Repeated(_) =>
             b"choose another name; templates, shared variables, sessions and a session's locals share them",
-        TypeFault::Unknown(_) =>
-            b"mend its spelling, or declare it in front; a gap of this name must stand in a template",
+        TypeFault::Unknown(_) => unknown_mend(role),
         TypeFault::GapKinds(_) => b"use two names",
         TypeFault::FieldKinds(_) => b"use two names",
         TypeFault::BadControl(_) => b"write name and type as plain values, and leave out disabled",
         TypeFault::ReservedTag(_) => b"leave this element out",
         TypeFault::FileInput(_) => b"leave this input out",
         TypeFault::NoExit(_) => b"end it with exit and a page",
-        TypeFault::Kind(wanted, found) => {
-            if is_target {
-                target_mend(*found)
-            } else {
-                kind_mend(*wanted, *found)
-            }
-        }
+        TypeFault::Kind(wanted, found) => role_mend(role, *wanted, *found),
         TypeFault::Memory => b"",
     }
 }

@@ -17,5 +17,5 @@ pub mod walk;
 
 pub use fields::{FieldFault, missing};
 pub use firsts::first_values;
-pub use rests::Rests;
+pub use rests::{Rest, Rests};
 pub use turn::{Frame, SharedValues, Turn, resume, start};

@@ -49,7 +49,7 @@ impl Rest {
     }
 
     /// The strings in their order.
-    fn as_slice(&self) -> &[Text]
+    pub fn as_slice(&self) -> &[Text]
         ensures { result.now ≡ self.now }
     {
         &self.strings.as_slice()[self.taken..]
@@ -108,6 +108,13 @@ impl Rests {
         ensures { result ≡ length self.now }
     {
         self.list.len()
+    }
+
+    /// What is still to come of each foreach, the outermost first.
+    pub fn as_slice(&self) -> &[Rest]
+        ensures { result.now ≡ self.now }
+    {
+        self.list.as_slice()
     }
 
     /// A foreach inside the others.

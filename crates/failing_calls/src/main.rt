@@ -1,13 +1,16 @@
 //! Every call that may fail fails in its turn: the first read, the second, and so on until a run meets no failure, and then
 //! the writes, each in pieces of 1, 7 and 4,096 bytes. Requests of a file are answered up to the failure, each earlier reply
 //! whole. On a link the failure ends that link alone: the world is as after the last request that was taken, and the links
-//! behind it are answered as if nothing had been.
+//! behind it are answered as if nothing had been. Beside a journal, its opening fails, each cut, and each piece that is to be
+//! kept: the program ends, no link that waited holds a byte, and who begins again with the journal answers what was left.
 //!
 //! With the word `memory` it answers a guest book's requests and checks a service by four workers, for tools/without_memory, and
 //! ends with code 20 where a request for memory was refused and a run ended for it, with 21 where a request was answered by
 //! 503, and with 22 where there was no memory for the trial itself.
 #![tactic(auto)]
 
+mod door;
+mod journals;
 mod memory;
 mod replays;
 mod runs;
@@ -87,5 +90,5 @@ fn try_all<R: Threads + Sync>(rt: &R, alloc: Global) -> Result<u32, Wrong> {
         tally = tally.saturating_add(serves::try_reads(rt, alloc, piece)?);
         tally = tally.saturating_add(serves::try_writes(rt, alloc, piece)?);
     }
-    Ok(tally)
+    Ok(tally.saturating_add(journals::try_all(rt, alloc)?))
 }

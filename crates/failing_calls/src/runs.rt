@@ -1,9 +1,12 @@
 //! Runs of the whole program over forms in memory whose calls fail as they are told to.
 ghost use Rattle.std.specs.Prelude.{◌≡◌, ◌<◌};
 
+use crate::door::GroupDoor;
 use bigwig::run;
+use bw_keeping::WideDoor;
 use bw_lang::{Memory, Text, Words};
 use bw_out::{MemDoor, MemFile, MemFiles, MemKeys, MemLink, MemSink, MemSource, Quiet, Steps};
+use bw_stable::MemJournals;
 use std::alloc::{AllocError, AllocFailed, Global};
 use std::fmt;
 use std::marker::Brand;
@@ -28,6 +31,8 @@ pub enum Wrong {
     Output(u64),
     /// A link behind the failure wasn't answered as if nothing had been.
     Later(u64),
+    /// The journal holds something else than is due.
+    Journal(u64),
     /// Where a request for memory was refused, something else came than is due.
     Refused,
     /// There was no memory for what is wanted.
@@ -40,6 +45,7 @@ impl fmt::Display for Wrong {
             Wrong::Status(call) => write!(f, "call {call}: another status"),
             Wrong::Output(call) => write!(f, "call {call}: another output"),
             Wrong::Later(call) => write!(f, "call {call}: another answer on a later link"),
+            Wrong::Journal(call) => write!(f, "call {call}: another journal"),
             Wrong::Refused => write!(f, "a refused request for memory: another output"),
             Wrong::Memory => write!(f, "out of memory"),
         }
@@ -144,16 +150,31 @@ fn printed<R: Threads + Sync>(
     folder: &[MemFile<'_>],
     out: MemSink<'_>,
 ) -> Result<Replayed, Wrong> {
-    let mut out = out;
-    let mut door = MemDoor::new(alloc, Vec::new(alloc))?;
-    let status = status_of(rt, alloc, words, folder, &mut door, &mut out);
-    drop(door);
-    let output = Vec::from_slice(alloc, out.bytes());
-    drop(out);
+    let mut lent = Lent {
+        journals: no_journal(alloc),
+        door: MemDoor::new(alloc, Vec::new(alloc))?,
+        out,
+    };
+    let status = status_of(rt, alloc, words, folder, &mut lent);
+    let output = Vec::from_slice(alloc, lent.out.bytes());
+    drop(lent);
     Ok(Replayed {
         status: status?,
         output: output?,
     })
+}
+
+/// What a run is lent in memory beside its files and its keys.
+#[derive(Drop)]
+struct Lent<'a, D> {
+    journals: MemJournals<'a>,
+    door: D,
+    out: MemSink<'a>,
+}
+
+/// A journal of which nobody asks.
+fn no_journal(alloc: Global) -> MemJournals<'static> {
+    MemJournals::new(Vec::new(alloc), &[], &[])
 }
 
 /// What each link of a run holds, and the run's exit code.
@@ -171,10 +192,113 @@ pub fn serve<R: Threads + Sync>(
     place: usize,
     calls: Calls<'_>,
 ) -> Result<Served, Wrong> {
-    let mut door = door_of(alloc, requests, place, calls)?;
-    let served = serve_at(rt, alloc, &mut door);
-    drop(door);
+    let mut lent = Lent {
+        journals: no_journal(alloc),
+        door: door_of(alloc, requests, place, calls)?,
+        out: MemSink::new(alloc, ROOM, usize::MAX, &[])?,
+    };
+    let served = serve_by(rt, alloc, &mut lent);
+    drop(lent);
     served
+}
+
+/// Serves the links of a door.
+fn serve_by<R: Threads + Sync>(
+    rt: &R,
+    alloc: Global,
+    lent: &mut Lent<'_, MemDoor<'_>>,
+) -> Result<Served, Wrong> {
+    let folder = [service_file(TWICE)];
+    let status = status_of(rt, alloc, &["serve", "s"], &folder, lent);
+    Ok(Served {
+        status: status?,
+        held: held_by(alloc, lent.door.returned())?,
+    })
+}
+
+/// How a run beside a journal goes.
+#[derive(Clone, Copy)]
+pub struct Beside<'a> {
+    /// What the journal holds before.
+    pub journal: &'a [u8],
+    /// Whether all links are at hand at once, so that they are kept together; else each is kept for itself.
+    pub is_ready: bool,
+    /// The numbers of the openings of the journal that fail.
+    pub openings: &'a [u64],
+    /// The numbers of the other calls of it that fail.
+    pub failing: &'a [u64],
+}
+
+/// What came of a run beside a journal: its exit code, what it printed, what the links and the journal hold.
+#[derive(Drop)]
+pub struct Kept {
+    pub status: u8,
+    pub output: Vec<u8>,
+    pub held: Vec<Vec<u8>>,
+    pub journal: Vec<u8>,
+}
+
+/// Serves these links beside a journal.
+pub fn keep<R: Threads + Sync>(
+    rt: &R,
+    alloc: Global,
+    requests: &[&[u8]],
+    beside: Beside<'_>,
+) -> Result<Kept, Wrong> {
+    let calls = sound(NonZeroUsize::MAX);
+    let mut lent = Lent {
+        journals: journals_of(alloc, beside)?,
+        door: GroupDoor {
+            door: door_of(alloc, requests, 0, calls)?,
+            is_ready: beside.is_ready,
+        },
+        out: MemSink::new(alloc, ROOM, usize::MAX, &[])?,
+    };
+    let kept = keep_by(rt, alloc, beside.journal, &mut lent);
+    drop(lent);
+    kept
+}
+
+/// The journal as it is before the run.
+fn journals_of<'a>(alloc: Global, beside: Beside<'a>) -> Result<MemJournals<'a>, Wrong> {
+    let file = Vec::from_slice(alloc, beside.journal)?;
+    Ok(MemJournals::new(file, beside.openings, beside.failing))
+}
+
+/// Serves the links of a door beside a journal, whose file holds this.
+fn keep_by<R: Threads + Sync>(
+    rt: &R,
+    alloc: Global,
+    journal: &[u8],
+    lent: &mut Lent<'_, GroupDoor<'_>>,
+) -> Result<Kept, Wrong> {
+    let folder = [service_file(TWICE), journal_file(journal)];
+    let words = ["serve", "s", "--journal", "j"];
+    let status = status_of(rt, alloc, &words, &folder, lent);
+    Ok(Kept {
+        status: status?,
+        output: Vec::from_slice(alloc, lent.out.bytes())?,
+        held: held_by(alloc, lent.door.door.returned())?,
+        journal: content_of(alloc, &lent.journals)?,
+    })
+}
+
+/// What the journal's file holds.
+fn content_of(alloc: Global, journals: &MemJournals<'_>) -> Result<Vec<u8>, AllocError> {
+    match journals.file() {
+        Some(content) => Vec::from_slice(alloc, content),
+        None => Ok(Vec::new(alloc)),
+    }
+}
+
+/// The file of a journal.
+fn journal_file(content: &[u8]) -> MemFile<'_> {
+    MemFile {
+        name: "j",
+        content,
+        piece: usize::MAX,
+        failing: &[],
+    }
 }
 
 /// A door with these links.
@@ -221,22 +345,6 @@ fn link_of<'a>(alloc: Global, request: &'a [u8], calls: Calls<'a>) -> Result<Mem
     })
 }
 
-/// Serves the links of a door.
-fn serve_at<R: Threads + Sync>(
-    rt: &R,
-    alloc: Global,
-    door: &mut MemDoor<'_>,
-) -> Result<Served, Wrong> {
-    let mut out = MemSink::new(alloc, ROOM, usize::MAX, &[])?;
-    let folder = [service_file(TWICE)];
-    let status = status_of(rt, alloc, &["serve", "s"], &folder, door, &mut out);
-    drop(out);
-    Ok(Served {
-        status: status?,
-        held: held_by(alloc, door.returned())?,
-    })
-}
-
 /// What each of these links holds.
 fn held_by(alloc: Global, links: &[MemLink<'_>]) -> Result<Vec<Vec<u8>>, Wrong> {
     let mut held = Vec::new(alloc);
@@ -255,28 +363,26 @@ fn words_of(alloc: Global, words: &[&str]) -> Result<Words, Memory> {
 }
 
 /// The exit code of a run by these words.
-fn status_of<R: Threads + Sync>(
+fn status_of<R: Threads + Sync, D: WideDoor>(
     rt: &R,
     alloc: Global,
     words: &[&str],
     folder: &[MemFile<'_>],
-    door: &mut MemDoor<'_>,
-    out: &mut MemSink<'_>,
+    lent: &mut Lent<'_, D>,
 ) -> Result<u8, Wrong> {
     let words = words_of(alloc, words)?;
-    let status = counted::<Brand, _>(rt, alloc, &words, folder, door, out, Blank::new(1));
+    let status = counted::<Brand, R, D>(rt, alloc, &words, folder, lent, Blank::new(1));
     drop(words);
     Ok(status)
 }
 
 /// Runs the program with keys from 1, and a count of steps that nobody reads, and gives its exit code.
-fn counted<L: Ledger, R: Threads + Sync>(
+fn counted<L: Ledger, R: Threads + Sync, D: WideDoor>(
     rt: &R,
     alloc: Global,
     words: &Words,
     folder: &[MemFile<'_>],
-    door: &mut MemDoor<'_>,
-    out: &mut MemSink<'_>,
+    lent: &mut Lent<'_, D>,
     blank: Blank,
 ) -> u8
     requires name { blank.name ≡ L.name }
@@ -287,7 +393,16 @@ fn counted<L: Ledger, R: Threads + Sync>(
     let mut files = MemFiles::new(folder, &[]);
     let mut keys = MemKeys::new(&[1, 2, 3, 4, 5, 6]);
     run(
-        rt, alloc, words, &mut files, door, &mut keys, out, &Quiet, &mut steps,
+        rt,
+        alloc,
+        words,
+        &mut files,
+        &mut lent.journals,
+        &mut lent.door,
+        &mut keys,
+        &mut lent.out,
+        &Quiet,
+        &mut steps,
     )
     .code()
 }

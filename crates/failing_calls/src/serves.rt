@@ -44,7 +44,7 @@ fn are_alike(served: &Served, other: &Served) -> bool {
 }
 
 /// The requests of the links.
-const REQUESTS: [&[u8]; 4] = [START, FORM, FIRST, SECOND];
+pub const REQUESTS: [&[u8]; 4] = [START, FORM, FIRST, SECOND];
 
 /// Has each read of the link fail in its turn: nothing is answered on it, and the session stands at its first turn, as if the
 /// form had never been sent.

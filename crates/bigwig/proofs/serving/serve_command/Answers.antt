@@ -14,8 +14,8 @@ returns-in-Ok-clause-comes g c =
     let judging = c.args.named.judging.now in
     let form = c.args.named.formats.now in
     port_comes _ c.args.named.service.now judging form c.args.port c.args.most (ruled_by c.in-Ok.served)
-    (seen_of g.F.Files g.D.Door g.K.Keys g.W.Channel c.args.lent.now)
-    (seen_of g.F.Files g.D.Door g.K.Keys g.W.Channel c.serve_service.new.lent)
+    (seen_of g.F.Files g.J.Journals g.D.Door g.K.Keys g.W.Channel c.args.lent.now)
+    (seen_of g.F.Files g.J.Journals g.D.Door g.K.Keys g.W.Channel c.serve_service.new.lent)
     _
     c.in-Ok.ensures.answers
     c.serve_service.ensures.comes
@@ -26,7 +26,7 @@ returns-in-Err-clause-comes g c =
     let form = c.args.named.formats.now in
     let asks : Disk → Question Work = λ disk. work disk (Serve c.args.named.service.now judging form c.args.port c.args.most) in
     speaks_comes _ asks _ _ _
-    (seen_of g.F.Files g.D.Door g.K.Keys g.W.Channel c.args.lent.now) _
+    (seen_of g.F.Files g.J.Journals g.D.Door g.K.Keys g.W.Channel c.args.lent.now) _
     (stopped_speaks _ asks c.in-Err.stop _ _ _
     (told_first _ (λ disk. accepted_file disk c.args.named.service.now judging form) (λ disk. at_port c.args.port c.args.most) c.in-Err.stop
     c.in-Err.ensures.answers) c.report.ensures.reported)

@@ -15,4 +15,5 @@ returns c =
     let e6 = c.in_ok-c-6.ensures ∙ ap (λ (a : App). with_rule a (option_rule (codes "limit"))) e5 in
     let e7 = c.in_ok-c-7.ensures ∙ ap (λ (a : App). with_rule a (option_rule (codes "port"))) e6 in
     let e8 = c.in_ok-c-8.ensures ∙ ap (λ (a : App). with_rule a (option_rule (codes "formats"))) e7 in
-    IfOk-weaker c.with_flag.result _ _ (λ r h. h ∙ ap (λ (a : App). with_rule a (flag_rule (codes "show-source"))) e8) c.with_flag.ensures
+    let e9 = c.in_ok-c-9.ensures ∙ ap (λ (a : App). with_rule a (option_rule (codes "journal"))) e8 in
+    IfOk-weaker c.with_flag.result _ _ (λ r h. h ∙ ap (λ (a : App). with_rule a (flag_rule (codes "show-source"))) e9) c.with_flag.ensures

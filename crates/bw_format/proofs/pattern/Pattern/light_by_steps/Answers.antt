@@ -1,4 +1,4 @@
-use Rattle.std.proofs.Common.{◌≡◌, ℕ, Bool, List, IsUtf8, ◌∙◌, ap, sym, subst, true, false, chars, map, take, replicate, arith}
+use Rattle.std.proofs.Common.{◌≡◌, Bool, IsUtf8, ◌∙◌, ap, sym, subst, true, false, chars, map, take, replicate, arith}
 use Rattle.std.proofs.lemmas.Grind.{common_steps}
 use Rattle.std.specs.Str.Iter.{chars_rest}
 use Rattle.std.proofs.lemmas.Str.{IsUtf8-past_char, chars_past_char}

@@ -1,0 +1,426 @@
+-- Serving beside a journal: what is found in it, what is done to it, and the links that are served.
+use Rattle.std.specs.Io.KnownBytes.{Appends}
+use Rattle.std.proofs.Common.{Vec, Global, ◌≡◌, ◌⊎◌, ◌+◌, ℕ, List, [], ◌∷◌, ◌++◌, length, Option, None, Some, IfSome, Result, Ok, Err, IfOk, IfErr}
+use Rattle.std.proofs.Common.{◌<◌, IsErrOf, refl, sym, ap, ◌∙◌, subst, inl, inr, arith}
+use Rattle.bw_check.specs.Accepts.{Accepts}
+use Rattle.bw_format.specs.declared.format.Format.{Format}
+use Rattle.bw_journal.specs.Heads.{head_of, start_sum}
+use Rattle.bw_journal.specs.Layout.{Entry}
+use Rattle.bw_journal.specs.Reading.{IsCut}
+use Rattle.bw_keeping.specs.Answered.{AreAnswered, Between as Stage, Exchange, IsAnswered, at_link, backs_of}
+use Rattle.bw_keeping.specs.Bringing.{Brings}
+use Rattle.bw_keeping.specs.Recalling.{IsRecalled, Stands}
+use Rattle.bw_keeping.specs.Served.{Serves, view}
+use Rattle.bw_keeping.specs.declared.ended.Ended.{Ended}
+use Rattle.bw_keeping.specs.declared.recalling.Recalled.{Recalled}
+use Rattle.bw_keeping.specs.declared.recalling.Recalled.TheVariants as recalled
+use Rattle.bw_keeping.proofs.Bringing.{brings_keep_sound, brings_keep_within}
+use Rattle.bw_lang.specs.declared.service.Service.{Service}
+use Rattle.bw_lang.specs.declared.text.Memory.{Memory}
+use Rattle.bw_model.specs.Sessions.{World, empty}
+use Rattle.bw_model.proofs.Storing.{empty_is_within}
+use Rattle.bw_out.specs.Causes.{Rose, Shows}
+use Rattle.bw_out.specs.Doors.{Returned, Asks, MayAsk}
+use Rattle.bw_out.specs.Told.{Disk, Finds}
+use Rattle.bw_out.specs.Writes.{AppendsPart}
+use Rattle.bw_sound.specs.Worlds.{BeginsSound}
+use Rattle.bw_sound.proofs.Runs.{runs_are_good}
+use Rattle.bw_stable.specs.Deeds.{Deed, cut, kept}
+use Rattle.bw_world.specs.Seen.{Seen}
+use Rattle.bw_world.specs.Stands.{StandsFor}
+use Rattle.bigwig.specs.Asked.{Ruled, accepted_file, beside}
+use Rattle.bigwig.specs.Asked.Work.{keeps}
+use Rattle.bigwig.specs.Behind.{content_of}
+use Rattle.bigwig.specs.Checks.{IsFitWorld, IsRuled}
+use Rattle.bigwig.specs.Codes.{status_for}
+use Rattle.bigwig.specs.Finding.{AreDone, IsFoundIn, IsRefusal, IsRefusedBy, IsToldBy, begun_by, head_if, recalled_of}
+use Rattle.bigwig.specs.Keeping.{Brought, EndsWith, IsBegun, IsKept, IsUntouched, Keeps, Refuses, ServesKept, sum_behind}
+use Rattle.bigwig.specs.Keeping.IsBegun.{head, behind}
+use Rattle.bigwig.specs.Keeping.IsKept.{stopped, refused, failed, begun}
+use Rattle.bigwig.specs.Keeping.Keeps.{no_port, no_line, links_served}
+use Rattle.bigwig.specs.Lent.{ShowsJournal}
+use Rattle.bigwig.specs.Lines.{journal_line}
+use Rattle.bigwig.specs.Outcomes.{Comes}
+use Rattle.bigwig.specs.Outcomes.Comes.{done}
+use Rattle.bigwig.specs.Questions.{Said, ◌>>=◌, line}
+use Rattle.bigwig.specs.Reports.{IsReported, SaysLine}
+use Rattle.bigwig.specs.Works.{AreServed, Between, IsServed, Outside, Prints, serving_line}
+use Rattle.bigwig.specs.declared.command.Judging.{Judging}
+use Rattle.bigwig.specs.declared.keeping.Found.{Found}
+use Rattle.bigwig.specs.declared.keeping.Found.TheVariants.{Nothing, Entries}
+use Rattle.bigwig.specs.declared.status.Refusal.{Refusal}
+use Rattle.bigwig.specs.declared.status.Refusal.TheVariants as refusals
+use Rattle.bigwig.specs.declared.status.Status.{Status}
+use Rattle.bigwig.specs.declared.status.Status.TheVariants as status
+use Rattle.bigwig.specs.declared.stop.Stop.{Stop}
+use Rattle.bigwig.specs.declared.stop.Stop.TheVariants as stop
+use Rattle.bigwig.proofs.Endings.{comes_then}
+use Rattle.bigwig.proofs.Reaching.{course_is_fit}
+use Rattle.bigwig.proofs.Replies.{found_accepted}
+use Rattle.bigwig.proofs.Stops.{no_stop}
+
+-- ---- links
+
+-- between two links, as serving without a journal has it
+abbrev plain : Stage → Between
+plain b = record { world = b.world; keys = b.keys; steps = b.steps }
+
+-- a link that was answered beside a journal was served as one without
+link_served : (ruled : Ruled) (from to : Stage) (bytes : List ℕ) (back : Returned) (entries : List Entry) → Accepts ruled.service ruled.schema
+    → IsFitWorld ruled from.world → IsAnswered ruled.formats ruled.service from bytes back to entries
+    → IsServed ruled (plain from) bytes back (plain to) × IsFitWorld ruled to.world
+link_served ruled from to bytes back entries accepts fit a =
+    let later = course_is_fit ruled 1 (at_link from bytes) (at_link to a.rest) (Some []) back.written a.taken a.cost a.end accepts a.course fit in (
+      record {
+        end = a.end;
+        streamed = record {
+          rest = a.rest;
+          taken = a.taken;
+          cost = a.cost;
+          course = a.course;
+          unhandled = a.unhandled;
+          steps = a.steps;
+          pages = λ replies. runs_are_good ruled.formats ruled.service ruled.schema (at_link from bytes) replies accepts fit.0;
+          within = later.1;
+        };
+        read_fault = a.read_fault;
+        write_fault = a.write_fault;
+      },
+      later,
+    )
+
+all_served : (ruled : Ruled) (from to : Stage) (links rest : List (List ℕ)) (xs : List Exchange) → Accepts ruled.service ruled.schema
+    → IsFitWorld ruled from.world → AreAnswered ruled.formats ruled.service from links xs to rest
+    → AreServed ruled (plain from) links (backs_of xs) (plain to) rest
+all_served ruled from to links rest [] accepts fit a = (ap plain a.0, a.1)
+all_served ruled from to links rest (x ∷ xs) accepts fit a =
+    let one = link_served ruled from a.2 a.0 x.back x.entries accepts fit a.4 in
+    (a.0, a.1, plain a.2, a.3, one.0, all_served ruled a.2 to a.1 rest xs accepts one.1 a.5)
+
+same_links : (o : Outside) (asked printed : Option (List ℕ)) (coming : Option (List (List ℕ))) (returned : Option (List Returned)) → coming ≡ o.coming
+    → returned ≡ o.returned
+    → record o { printed = printed; asked = asked; coming = coming; returned = returned } ≡ record o { printed = printed; asked = asked }
+same_links o asked printed coming returned c r =
+    ap (λ (x : Option (List (List ℕ))). let y : Outside = record o { printed = printed; asked = asked; coming = x; returned = returned } in y) c
+    ∙ ap (λ (x : Option (List Returned)). let y : Outside = record o { printed = printed; asked = asked; returned = x } in y) r
+
+-- the port couldn't be listened on
+pub port_fails : (ruled : Ruled) (m : World) (port most sum : ℕ) (o : Outside) (asked : Option (List ℕ)) (coming : Option (List (List ℕ)))
+    (returned : Option (List Returned)) → coming ≡ o.coming → returned ≡ o.returned → MayAsk o.asked asked port
+    → Keeps ruled m port most sum o (record o { asked = asked; coming = coming; returned = returned }) status.DoorFault
+port_fails ruled m port most sum o asked coming returned c r may = no_port refl may (same_links o asked o.printed coming returned c r)
+
+-- the line was printed in a first part
+pub line_fails : (ruled : Ruled) (m : World) (port most sum : ℕ) (o : Outside) (printed asked : Option (List ℕ)) (coming : Option (List (List ℕ)))
+    (returned : Option (List Returned)) → coming ≡ o.coming → returned ≡ o.returned → Asks o.asked asked port
+    → AppendsPart o.printed printed (serving_line port)
+    → Keeps ruled m port most sum o (record o { printed = printed; asked = asked; coming = coming; returned = returned }) status.WriteFault
+line_fails ruled m port most sum o printed asked coming returned c r asks part = no_line refl asks part (same_links o asked printed coming returned c r)
+
+-- links were served
+pub links_kept : (ruled : Ruled) (m : World) (seen later : Seen) (formats : List Format) (port most sum next : ℕ) (o after : Outside)
+    (asked printed : Option (List ℕ)) (coming : Option (List (List ℕ))) (returned : Option (List Returned)) (end : Ended) (s : Status)
+    → coming ≡ o.coming → returned ≡ o.returned → IsRuled seen.service formats ruled → StandsFor seen m → IsFitWorld ruled m
+    → Asks o.asked asked port → after.asked ≡ asked → Appends o.printed printed (serving_line port) → EndsWith printed after.printed end s
+    → Serves formats seen.service most (view seen o.keys coming returned o.deeds sum o.steps)
+    (view later after.keys after.coming after.returned after.deeds next after.steps) end
+    → Keeps ruled m port most sum o after s
+links_kept ruled m seen later formats port most sum next o after asked printed coming returned end s c r is stands fit asks same whole ends serves =
+    let now = view later after.keys after.coming after.returned after.deeds next after.steps in
+    let here = view seen o.keys coming returned o.deeds sum o.steps in
+    let by : Serves ruled.formats ruled.service most here now end =
+    subst (λ f. Serves f ruled.service most here now end) (sym is.2) (subst (λ t. Serves formats t most here now end) (sym is.0) serves) in
+    let all : ServesKept ruled m sum most o after end = λ keys k links l given g deeds d.
+    let from : Stage = record { world = m; keys = keys; steps = o.steps } in
+    let x = by from links given deeds (record { stands = stands; keys = k; coming = c ∙ l; returned = r ∙ g; deeds = d; steps = refl }) in
+    record {
+      world = later;
+      behind = next;
+      served = x;
+      good = all_served ruled from x.to links x.rest x.exchanges is.1 fit x.answered;
+    } in
+    links_served printed end (subst (λ a. Asks o.asked a port) (sym same) asks) whole ends all
+
+-- ---- what is found
+
+-- the world in which nothing was requested yet is fit
+begins_fit : (ruled : Ruled) (formats : List Format) (seen : Seen) → IsRuled seen.service formats ruled → BeginsSound seen.service
+    → IsFitWorld ruled (empty ruled.service)
+begins_fit ruled formats seen is sound =
+    (subst BeginsSound (sym is.0) sound ruled.schema 1 1 is.1, empty_is_within ruled.formats ruled.service)
+
+-- the entries were handled, and the world stands for the one that they bring about
+brought_so : (ruled : Ruled) (formats : List Format) (text bytes tail : List ℕ) (before now : Seen) (entries : List Entry) (rest : List ℕ)
+    (size sum len : ℕ) → IsRuled before.service formats ruled → StandsFor before (empty before.service) → BeginsSound before.service
+    → bytes ≡ head_of text ++ tail → Stands formats before now (start_sum text) tail entries rest size sum → len ≡ length (head_of text) + size
+    → (world : World) × Brought ruled text bytes entries rest len sum world × StandsFor now world × IsFitWorld ruled world
+brought_so ruled formats text bytes tail before now entries rest size sum len is stands sound whole s long =
+    let b = s.brought (empty before.service) stands in
+    let brings : Brings ruled.formats ruled.service (empty ruled.service) entries b.0 =
+    subst (λ f. Brings f ruled.service (empty ruled.service) entries b.0) (sym is.2)
+    (subst (λ t. Brings formats t (empty t) entries b.0) (sym is.0) b.1) in
+    let first = begins_fit ruled formats before is sound in (
+      b.0,
+      record { behind = tail; size = size; head = whole; splits = s.splits; ends = s.ends; len_is = long; brings = brings },
+      b.2,
+      (
+        brings_keep_sound ruled.formats ruled.service ruled.schema (empty ruled.service) b.0 entries is.1 brings first.0,
+        brings_keep_within ruled.formats ruled.service (empty ruled.service) b.0 entries brings first.1,
+      ),
+    )
+
+found_so : (ruled : Ruled) (formats : List Format) (text bytes : List ℕ) (before now : Seen) (found : Found) → IsRuled before.service formats ruled
+    → StandsFor before (empty before.service) → BeginsSound before.service → IsRecalled formats before now text bytes (recalled_of found)
+    → IsFoundIn ruled text bytes now found
+found_so ruled formats text bytes before now Nothing is stands sound r = (
+  empty ruled.service,
+  (r.0, refl),
+  subst (λ s. StandsFor s (empty ruled.service)) (sym r.1) (subst (λ t. StandsFor before (empty t)) (sym is.0) stands),
+  begins_fit ruled formats before is sound,
+)
+found_so ruled formats text bytes before now (Entries len sum) is stands sound r =
+    let x = r.recalled in
+    let b = brought_so ruled formats text bytes r.behind before now x.0 x.1 x.2 sum len is stands sound r.head x.3 x.5 in
+    (b.0, (x.0, x.1, b.1, x.4), b.2, b.3)
+
+-- there is no file of the name
+pub nothing_found : {File : Type 0} (left : File → Option (List ℕ)) (told : Option Disk) (name text : List ℕ) (next : Option File) (formats : List Format)
+    (seen : Seen) → next ≡ None → Finds left told name next → StandsFor seen (empty seen.service) → BeginsSound seen.service
+    → IfSome told (λ disk. (ruled : Ruled) → IsRuled seen.service formats ruled → IsFoundIn ruled text (content_of (disk name)) seen Nothing)
+nothing_found left None name text next formats seen none f stands sound = tt
+nothing_found left (Some disk) name text next formats seen none f stands sound = λ ruled is.
+    let absent : disk name ≡ None = subst (λ x. Finds left (Some disk) name x) none f in
+    subst (λ c. IsFoundIn ruled text c seen Nothing) (ap content_of (sym absent))
+    (found_so ruled formats text [] seen seen Nothing is stands sound (no_bytes text, refl))
+  where
+    no_bytes : (text : List ℕ) → IsCut (head_of text) []
+    no_bytes text = record { more = head_of text; some = omega arith; whole = refl }
+
+-- there is one, and it was read
+pub journal_found : {File : Type 0} (left : File → Option (List ℕ)) (told : Option Disk) (name text : List ℕ) (next : Option File) (file : File)
+    (formats : List Format) (before now : Seen) (why : Recalled) (r : Result Found Stop) → next ≡ Some file → Finds left told name next
+    → StandsFor before (empty before.service) → BeginsSound before.service
+    → IfSome (left file) (λ bytes. IsRecalled formats before now text bytes why) → IfOk r (λ found. why ≡ recalled_of found)
+    → IfOk r (λ found. IfSome told (λ disk. (ruled : Ruled) → IsRuled before.service formats ruled
+    → IsFoundIn ruled text (content_of (disk name)) now found))
+journal_found left told name text next file formats before now why (Err s) some f stands sound r same = tt
+journal_found left None name text next file formats before now why (Ok found) some f stands sound r same = tt
+journal_found left (Some disk) name text next file formats before now why (Ok found) some f stands sound r same = λ ruled is.
+    let there = subst (λ x. Finds left (Some disk) name x) some f in
+    let all = subst (λ o. IfSome o (λ bytes. IsRecalled formats before now text bytes why)) there.2 r in
+    subst (λ c. IsFoundIn ruled text c now found) (ap content_of (sym there.1))
+    (found_so ruled formats text there.0 before now found is stands sound (subst (λ w. IsRecalled formats before now text there.0 w) same all))
+
+-- why the bytes are no journal of the service
+refused_so : (ruled : Ruled) (formats : List Format) (text bytes : List ℕ) (before now : Seen) (why : Recalled) → IsRuled before.service formats ruled
+    → StandsFor before (empty before.service) → BeginsSound before.service → IsRefusal why → IsRecalled formats before now text bytes why
+    → Refuses ruled text bytes why
+refused_so ruled formats text bytes before now (recalled.Damaged len) is stands sound w (inl x) = inl (x.0, x.1)
+refused_so ruled formats text bytes before now (recalled.Damaged len) is stands sound w (inr r) =
+    let x = r.recalled in
+    let b = brought_so ruled formats text bytes r.behind before now x.0 x.1 x.2 x.3 len is stands sound r.head x.4 x.6 in
+    inr (x.0, x.1, x.3, b.0, b.1, x.5)
+refused_so ruled formats text bytes before now (recalled.Version n) is stands sound w r = r.0
+refused_so ruled formats text bytes before now recalled.Other is stands sound w r = r.0
+refused_so ruled formats text bytes before now recalled.New is stands sound w r = absurd w
+refused_so ruled formats text bytes before now (recalled.Done len sum) is stands sound w r = absurd w
+refused_so ruled formats text bytes before now recalled.ReadFault is stands sound w r = absurd w
+refused_so ruled formats text bytes before now recalled.Memory is stands sound w r = absurd w
+
+stopped_so : (ruled : Ruled) (formats : List Format) (text bytes : List ℕ) (before now : Seen) (why : Recalled) (s : Stop)
+    → IsRuled before.service formats ruled → StandsFor before (empty before.service) → BeginsSound before.service → IsToldBy why s
+    → IsRecalled formats before now text bytes why → IsRefusedBy ruled text bytes s
+stopped_so ruled formats text bytes before now why (stop.Says refusal said) is stands sound t r =
+    (why, refused_so ruled formats text bytes before now why is stands sound t.0 r, t.1)
+stopped_so ruled formats text bytes before now why stop.ReadFault is stands sound t r = tt
+stopped_so ruled formats text bytes before now why stop.Memory is stands sound t r = tt
+
+pub journal_refused : {File : Type 0} (left : File → Option (List ℕ)) (told : Option Disk) (name text : List ℕ) (next : Option File) (file : File)
+    (formats : List Format) (before now : Seen) (why : Recalled) (r : Result Found Stop) → next ≡ Some file → Finds left told name next
+    → StandsFor before (empty before.service) → BeginsSound before.service
+    → IfSome (left file) (λ bytes. IsRecalled formats before now text bytes why) → IfErr r (IsToldBy why)
+    → IfErr r (λ s. IfSome told (λ disk. (ruled : Ruled) → IsRuled before.service formats ruled → IsRefusedBy ruled text (content_of (disk name)) s))
+journal_refused left told name text next file formats before now why (Ok found) some f stands sound r t = tt
+journal_refused left None name text next file formats before now why (Err s) some f stands sound r t = tt
+journal_refused left (Some disk) name text next file formats before now why (Err s) some f stands sound r t = λ ruled is.
+    let there = subst (λ x. Finds left (Some disk) name x) some f in
+    let all = subst (λ o. IfSome o (λ bytes. IsRecalled formats before now text bytes why)) there.2 r in
+    subst (λ c. IsRefusedBy ruled text c s) (ap content_of (sym there.1))
+    (stopped_so ruled formats text there.0 before now why s is stands sound t all)
+
+-- the reading ended with a refusal, and its line is said
+pub told_by : (why : Recalled) (l : Result (Vec ℕ Global) Memory) (s : Stop) → IsRefusal why → IfOk l (λ x. SaysLine refusals.Journal x.items s)
+    → IfErr l (λ e. s ≡ stop.Memory) → IfOk l (λ x. x.items ≡ journal_line why) → IsToldBy why s
+told_by why (Ok x) (stop.Says refusal said) is says none tells = (is, subst (λ t. SaysLine refusals.Journal t (stop.Says refusal said)) tells says)
+told_by why (Ok x) stop.ReadFault is says none tells = absurd says
+told_by why (Ok x) stop.Memory is says none tells = tt
+told_by why (Err e) s is says none tells = subst (IsToldBy why) (sym none) tt
+
+-- ---- what is done to it
+
+-- nothing was done to it before, so this is all that was
+deeds_are : (P : List Deed → Type 0) (before now : Option (List Deed)) (deeds : List Deed) → IfSome before (λ all. all ≡ [])
+    → AreDone before now deeds → P deeds → IfSome now P
+deeds_are P None now deeds none are p = subst (λ x. IfSome x P) (sym are) tt
+deeds_are P (Some before) now deeds none are p =
+    subst (λ x. IfSome x P) (sym are) (subst (λ b. P (b ++ deeds)) (sym none) p)
+
+begun_so : (text start : List ℕ) (found : Found) (given : Option (List Returned)) (printed : Option (List ℕ)) → start ≡ head_if text found
+    → IsBegun text given printed (recalled_of found) (begun_by found start given printed)
+begun_so text start Nothing given printed same =
+    subst (λ h. IsBegun text given printed recalled.New (cut 0 ∷ (kept h given printed ∷ []))) (sym same) head
+begun_so text start (Entries len sum) given printed same = behind len sum
+
+-- the journal was begun, and then links were served beside it
+pub begun_kept : (ruled : Ruled) (text content start : List ℕ) (port most sum : ℕ) (seen : Seen) (found : Found) (o mid after : Outside) (s : Status)
+    → IsFoundIn ruled text content seen found → start ≡ head_if text found → IfSome o.deeds (λ all. all ≡ [])
+    → AreDone o.deeds mid.deeds (begun_by found start o.returned o.printed)
+    → mid ≡ record o { unread = mid.unread; steps = mid.steps; deeds = mid.deeds } → sum ≡ sum_behind text (recalled_of found)
+    → ((m : World) → StandsFor seen m → IsFitWorld ruled m → Keeps ruled m port most sum mid after s)
+    → IsKept ruled text content port most o after s
+begun_kept ruled text content start port most sum seen found o mid after s f same none are others sums serves =
+    begun (recalled_of found) f.0 mid f.1 others
+    (deeds_are (IsBegun text o.returned o.printed (recalled_of found)) o.deeds mid.deeds _ none are
+    (begun_so text start found o.returned o.printed same))
+    (subst (λ n. Keeps ruled f.0 port most n mid after s) sums (serves f.0 f.2 f.3))
+
+abbrev said_so : Status → List ℕ → Said
+said_so status text = record { status = status; text = text }
+
+-- the program stopped at the journal
+pub stopped_kept : (ruled : Ruled) (text content : List ℕ) (port most : ℕ) (o : Outside) (unread printed : Option (List ℕ)) (steps : ℕ) (why : Stop) (s : Status)
+    → IsRefusedBy ruled text content why → IsReported why o.printed printed s
+    → IsKept ruled text content port most o (record o { printed = printed; unread = unread; steps = steps }) s
+stopped_kept ruled text content port most o unread printed steps (stop.Says refusal said) s r p =
+    refused r.0 r.1 (record { prints = subst (λ (x : Said). Prints x o.printed printed s) (says_journal refusal said.items r.0 r.2) p; kept = refl }) (inl refl)
+  where
+    says_journal : (refusal : Refusal) (text : List ℕ) (why : Recalled) → (refusal ≡ refusals.Journal) × (text ≡ line (journal_line why))
+        → said_so (status_for refusal) text ≡ said_so status.JournalRefused (line (journal_line why))
+    says_journal refusal text why e =
+        ap (λ (x : Refusal). said_so (status_for x) text) e.0 ∙ ap (said_so status.JournalRefused) e.1
+stopped_kept ruled text content port most o unread printed steps stop.ReadFault s r p =
+    stopped (inl p.0) (ap (λ (h : Option (List ℕ)). let x : Outside = record o { printed = h; unread = unread; steps = steps } in x) p.1) (inl refl)
+stopped_kept ruled text content port most o unread printed steps stop.Memory s r p =
+    stopped (inr p.0) (ap (λ (h : Option (List ℕ)). let x : Outside = record o { printed = h; unread = unread; steps = steps } in x) p.1) (inl refl)
+
+-- ---- the work
+
+-- what was done before to a journal that was closed, and what is left of a file, are of no account
+touched : (before d after : Option (List Deed)) → IfSome d (λ all. all ≡ []) → IsUntouched d after → IsUntouched before after
+touched before d after none (inl e) = inr (subst (λ x. IfSome x (λ all. all ≡ [])) (sym e) none)
+touched before d after none (inr h) = inr h
+
+pub of_journal : (ruled : Ruled) (text content : List ℕ) (port most : ℕ) (before after : Outside) (d : Option (List Deed)) (s : Status)
+    → IfSome d (λ all. all ≡ []) → IsKept ruled text content port most (record before { deeds = d }) after s
+    → IsKept ruled text content port most before after s
+of_journal ruled text content port most before after d s none (stopped e k u) = stopped e k (touched before.deeds d after.deeds none u)
+of_journal ruled text content port most before after d s none (refused why r i u) =
+    refused why r (record { prints = i.prints; kept = i.kept }) (touched before.deeds d after.deeds none u)
+of_journal ruled text content port most before after d s none (failed i) = failed (record { prints = i.prints; kept = i.kept })
+of_journal ruled text content port most before after d s none (begun found world mid h k b ks) = begun found world mid h k b ks
+
+of_reading : (ruled : Ruled) (text content : List ℕ) (port most : ℕ) (before after : Outside) (u : Option (List ℕ)) (n : ℕ) (s : Status)
+    → IsKept ruled text content port most (record before { unread = u; steps = n }) after s → IsKept ruled text content port most before after s
+of_reading ruled text content port most before after u n s (stopped e k h) = stopped e k h
+of_reading ruled text content port most before after u n s (refused why r i h) = refused why r (record { prints = i.prints; kept = i.kept }) h
+of_reading ruled text content port most before after u n s (failed i) = failed (record { prints = i.prints; kept = i.kept })
+of_reading ruled text content port most before after u n s (begun found world mid h k b ks) = begun found world mid h k b ks
+
+-- ---- where the files tell
+
+pub told_all : (told : Option Disk) (P : Disk → Type 0) → ((disk : Disk) → P disk) → IfSome told P
+told_all None P h = tt
+told_all (Some disk) P h = h disk
+
+-- the program stopped at the journal
+pub stopped_told : (told : Option Disk) (service : Service) (formats : List Format) (name text : List ℕ) (port most : ℕ) (o : Outside)
+    (unread printed : Option (List ℕ)) (steps : ℕ) (why : Stop) (s : Status)
+    → IfSome told (λ disk. (ruled : Ruled) → IsRuled service formats ruled → IsRefusedBy ruled text (content_of (disk name)) why)
+    → IsReported why o.printed printed s
+    → IfSome told (λ disk. (ruled : Ruled) → IsRuled service formats ruled
+    → IsKept ruled text (content_of (disk name)) port most o (record o { printed = printed; unread = unread; steps = steps }) s)
+stopped_told None service formats name text port most o unread printed steps why s r p = tt
+stopped_told (Some disk) service formats name text port most o unread printed steps why s r p = λ ruled is.
+    stopped_kept ruled text (content_of (disk name)) port most o unread printed steps why s (r ruled is) p
+
+-- all of the journal was read, and then it was begun
+pub begun_told : (told : Option Disk) (service now : Service) (formats held : List Format) (name text : List ℕ) (port most : ℕ) (o after : Outside)
+    (u : Option (List ℕ)) (n : ℕ) (seen : Seen) (found : Found) (s : Status) → now ≡ service → held ≡ formats
+    → IfSome told (λ disk. (ruled : Ruled) → IsRuled service formats ruled → IsFoundIn ruled text (content_of (disk name)) seen found)
+    → ((ruled : Ruled) (content : List ℕ) → IsRuled now held ruled → IsFoundIn ruled text content seen found
+    → IsKept ruled text content port most (record o { unread = u; steps = n }) after s)
+    → IfSome told (λ disk. (ruled : Ruled) → IsRuled service formats ruled → IsKept ruled text (content_of (disk name)) port most o after s)
+begun_told None service now formats held name text port most o after u n seen found s e f finds begins = tt
+begun_told (Some disk) service now formats held name text port most o after u n seen found s e f finds begins = λ ruled is.
+    of_reading ruled text (content_of (disk name)) port most o after u n s
+    (begins ruled (content_of (disk name)) (is.0 ∙ sym e, is.1, is.2 ∙ sym f) (finds ruled is))
+
+-- the journal was closed again
+pub closed_told : (told : Option Disk) (service : Service) (formats : List Format) (name text : List ℕ) (port most : ℕ) (before after : Outside)
+    (d e : Option (List Deed)) (s : Status) → IfSome d (λ all. all ≡ []) → after.deeds ≡ e
+    → IfSome told (λ disk. (ruled : Ruled) → IsRuled service formats ruled
+    → IsKept ruled text (content_of (disk name)) port most (record before { deeds = d }) (record after { deeds = e }) s)
+    → IfSome told (λ disk. (ruled : Ruled) → IsRuled service formats ruled → IsKept ruled text (content_of (disk name)) port most before after s)
+closed_told None service formats name text port most before after d e s none closed h = tt
+closed_told (Some disk) service formats name text port most before after d e s none closed h = λ ruled is.
+    of_journal ruled text (content_of (disk name)) port most before after d s none
+    (subst (λ (x : Option (List Deed)). IsKept ruled text (content_of (disk name)) port most (record before { deeds = d }) (record after { deeds = x }) s)
+    (sym closed) (h ruled is))
+
+-- the service and the formats are those that the server was made with, and the text is the one that it was read from
+pub made_told : (told : Option Disk) (service now : Service) (formats held : List Format) (name text given : List ℕ) (port most : ℕ)
+    (before after : Outside) (s : Status) → now ≡ service → held ≡ formats → given ≡ text
+    → IfSome told (λ disk. (ruled : Ruled) → IsRuled now held ruled → IsKept ruled given (content_of (disk name)) port most before after s)
+    → IfSome told (λ disk. (ruled : Ruled) → IsRuled service formats ruled → IsKept ruled text (content_of (disk name)) port most before after s)
+made_told None service now formats held name text given port most before after s e f t h = tt
+made_told (Some disk) service now formats held name text given port most before after s e f t h = λ ruled is.
+    subst (λ x. IsKept ruled x (content_of (disk name)) port most before after s) t (h ruled (is.0 ∙ sym e, is.1, is.2 ∙ sym f))
+
+-- ---- causes
+
+-- what a file had when it was closed is what the files then show
+pub closes_so : (fact told : Type 0) (r s x y z : ℕ) → (told → fact) → (fact → told) → r ≡ 0 → Shows fact r s → y ≡ x → (0 < s → Rose y z)
+    → (s ≡ 0 → z ≡ y) → Shows told x z
+closes_so fact told r s x y z to from none shows same rose still = record {
+  only = λ t. subst (λ k. Rose k z) same (rose (let up = subst (λ k. Rose k s) none (shows.only (to t)) in omega (arith, up)));
+  other = λ f. still (shows.other (λ x. f (from x)) ∙ none) ∙ same;
+}
+
+-- and what a journal had
+pub journal_shows : (s : Status) (j k x y z : ℕ) → j ≡ 0 → ShowsJournal s j k → y ≡ x → (0 < k → Rose y z) → (k ≡ 0 → z ≡ y) → ShowsJournal s x z
+journal_shows s j k x y z none shows same rose still = record {
+  only = λ t. subst (λ m. Rose m z) same (rose (let up = subst (λ m. Rose m k) none (shows.only t) in omega (arith, up)));
+  other = λ f g. still (shows.other f g ∙ none) ∙ same;
+}
+
+-- it couldn't be opened
+pub open_fails : (s : Status) (x y : ℕ) → (s ≡ status.JournalFault) ⊎ (s ≡ status.WriteFault) → Rose x y → ShowsJournal s x y
+open_fails s x y told rose = record {
+  only = λ e. rose;
+  other = λ f g. absurd (elim told [ inl e ↦ f e | inr e ↦ g e ]);
+}
+
+-- three parts had no read fault
+pub none_shows : {A B C D : Type 0} (v : D) (a : A) (b : B) (c : C) (x y z w : ℕ) → Shows (IsErrOf {T = A} (Ok a) stop.ReadFault) x y
+    → Shows (IsErrOf {T = B} (Ok b) stop.ReadFault) y z → Shows (IsErrOf {T = C} (Ok c) stop.ReadFault) z w
+    → Shows (IsErrOf {T = D} (Ok v) stop.ReadFault) x w
+none_shows v a b c x y z w first second third = record {
+  only = λ f. absurd (no_stop v stop.ReadFault f);
+  other = λ f. third.other (no_stop c stop.ReadFault) ∙ second.other (no_stop b stop.ReadFault) ∙ first.other (no_stop a stop.ReadFault);
+}
+
+-- the service was found, and then it was served beside the journal
+pub keep_comes : (told later : Option Disk) (name : List ℕ) (judging : Judging) (form : Option (List ℕ)) (journal text : List ℕ) (port most : ℕ)
+    (ruled : Ruled) (before after : Outside) (u : Option (List ℕ)) (s : Status) → later ≡ told → IfSome told (λ d. d name ≡ Some text)
+    → IfSome told (λ d. (accepted_file d name judging form).gives ruled)
+    → IfSome later (λ d. (x : Ruled) → IsRuled ruled.service ruled.formats x
+    → IsKept x text (content_of (d journal)) port most (record before { unread = u }) after s)
+    → IfSome told (λ d. Comes (accepted_file d name judging form >>= beside d name journal port most) before after s)
+keep_comes None later name judging form journal text port most ruled before after u s e there g h = tt
+keep_comes (Some d) later name judging form journal text port most ruled before after u s e there g h =
+    let all = subst (λ o. IfSome o (λ d. (x : Ruled) → IsRuled ruled.service ruled.formats x
+    → IsKept x text (content_of (d journal)) port most (record before { unread = u }) after s)) e h in
+    comes_then (accepted_file d name judging form) (beside d name journal port most) ruled before after s g
+    (done (keeps ruled text (content_of (d journal)) port most) (text, there, refl)
+    (of_reading ruled text (content_of (d journal)) port most before after u before.steps s
+    (all ruled (found_accepted d name judging form ruled g))))

@@ -1,0 +1,14 @@
+use Rattle.bigwig.specs.Lent.{seen_of}
+use Rattle.bigwig.proofs.Beside.{links_kept}
+use Rattle.bigwig.proofs.keeping.keep_port.Goals as goal
+
+pub returns-in-Ok-print_serving-clause-serves : goal.returns-in-Ok-print_serving-clause-serves
+returns-in-Ok-print_serving-clause-serves g c ruled m is stands fit =
+    let x = c.keep_links.ensures.serves in
+    links_kept ruled m c.args.server.now.world c.keep_links.new.server.world c.args.server.now.formats c.args.place.port c.args.place.most
+    c.args.room.now.group.sum c.keep_links.new.room.group.sum
+    (record (seen_of g.F.Files g.J.Journals g.D.Door g.K.Keys g.W.Channel c.args.lent.now) { deeds = g.I.Journal.deeds c.args.journal.now })
+    (record (seen_of g.F.Files g.J.Journals g.D.Door g.K.Keys g.W.Channel c.keep_links.new.lent) { deeds = g.I.Journal.deeds c.keep_links.new.journal })
+    (g.D.Door.asked c.listen.new.self) (g.W.Channel.held c.print_serving.new.out) (g.D.Door.coming c.listen.new.self)
+    (g.D.Door.returned c.listen.new.self) x.0 c.keep_links.result c.in-Ok.ensures.coming c.in-Ok.ensures.returned is stands fit c.in-Ok.ensures.port
+    c.keep_links.ensures.asked c.in-Ok-print_serving.ensures.writes.whole x.1 x.2

@@ -1,0 +1,145 @@
+-- What serving beside a journal comes to.
+use Rattle.std.specs.Prelude.{◌≡◌, ◌⊎◌, ◌+◌, ℕ, List, [], ◌∷◌, ◌++◌, length, Option, Some, IfSome, codes}
+use Rattle.std.specs.Io.KnownBytes.{Appends}
+use Rattle.bw_journal.specs.Heads.{HasOther, HasVersion, head_of, start_sum}
+use Rattle.bw_journal.specs.Journals.{Ends, Splits}
+use Rattle.bw_journal.specs.Layout.{Entry}
+use Rattle.bw_journal.specs.Reading.{IsCut, IsShort}
+use Rattle.bw_keeping.specs.Answered.{backs_of}
+use Rattle.bw_keeping.specs.Served.{HasServed, View}
+use Rattle.bw_keeping.specs.declared.ended.Ended.{Ended}
+use Rattle.bw_keeping.specs.declared.ended.Ended.TheVariants as ended
+use Rattle.bw_model.specs.Sessions.{World, empty}
+use Rattle.bw_out.specs.Doors.{Returned, Asks, MayAsk}
+use Rattle.bw_out.specs.Told.{Coming}
+use Rattle.bw_out.specs.Writes.{AppendsPart}
+use Rattle.bw_keeping.specs.Bringing.{Brings}
+use Rattle.bw_keeping.specs.Recalling.{HasNoHead, IsWrong}
+use Rattle.bw_keeping.specs.declared.recalling.Recalled.{Recalled}
+use Rattle.bw_keeping.specs.declared.recalling.Recalled.TheVariants as recalled
+use Rattle.bw_stable.specs.Deeds.{Deed, cut, kept}
+use Rattle.bw_world.specs.Seen.{Seen}
+use Rattle.bigwig.specs.Asked.{Ruled}
+use Rattle.bigwig.specs.Lines.{journal_line}
+use Rattle.bigwig.specs.Questions.{line}
+use Rattle.bigwig.specs.Works.{Between, Outside, AreServed, IsSaid, Prints, serving_line}
+use Rattle.bigwig.specs.declared.status.Status.{Status}
+use Rattle.bigwig.specs.declared.status.Status.TheVariants.{Done, ReadFault, WriteFault, DoorFault, Memory, JournalRefused, JournalFault}
+
+-- ---- what a journal holds
+
+-- The bytes are the head of a journal of this text, these entries, which end behind so many bytes and with this check, and then
+-- these bytes. The entries bring about this world from the one in which nothing was requested yet.
+pub record Brought (ruled : Ruled) (text bytes : List ℕ) (entries : List Entry) (rest : List ℕ) (len sum : ℕ) (world : World) : Type 0 where
+  pub behind : List ℕ
+  pub size : ℕ
+  pub head : bytes ≡ head_of text ++ behind
+  pub splits : Splits (start_sum text) behind entries rest
+  pub ends : Ends (start_sum text) entries size sum
+  pub len_is : len ≡ length (head_of text) + size
+  pub brings : Brings ruled.formats ruled.service (empty ruled.service) entries world
+
+-- The bytes are a journal of the service, which brings about this world: nothing was kept yet, and no whole head either; or
+-- there are entries, and behind them less than one more.
+abbrev pub Holds : Ruled → List ℕ → List ℕ → Recalled → World → Type 0
+Holds ruled text bytes recalled.New world = IsCut (head_of text) bytes × (world ≡ empty ruled.service)
+Holds ruled text bytes (recalled.Done len sum) world =
+    (entries : List Entry) × (rest : List ℕ) × Brought ruled text bytes entries rest len sum world × IsShort sum rest
+Holds ruled text bytes _ world = ⊥
+
+-- why the bytes are no journal of the service
+abbrev pub Refuses : Ruled → List ℕ → List ℕ → Recalled → Type 0
+Refuses ruled text bytes (recalled.Damaged len) =
+    ((len ≡ 0) × HasNoHead text bytes)
+    ⊎ ((entries : List Entry) × (rest : List ℕ) × (sum : ℕ) × (world : World) × Brought ruled text bytes entries rest len sum world × IsWrong sum rest)
+Refuses ruled text bytes (recalled.Version version) = HasVersion bytes version
+Refuses ruled text bytes recalled.Other = HasOther text bytes
+Refuses ruled text bytes _ = ⊥
+
+-- ---- what is done to it before any link
+
+-- a head is put there where there is none, and what is less than an entry is cut off
+pub data IsBegun (text : List ℕ) (given : Option (List Returned)) (printed : Option (List ℕ)) : Recalled → List Deed → Type 0 where
+  head : IsBegun text given printed recalled.New (cut 0 ∷ (kept (head_of text) given printed ∷ []))
+  behind : (len sum : ℕ) → IsBegun text given printed (recalled.Done len sum) (cut len ∷ [])
+
+-- the check behind what a journal then holds
+abbrev pub sum_behind : List ℕ → Recalled → ℕ
+sum_behind text (recalled.Done len sum) = sum
+sum_behind text _ = start_sum text
+
+-- no journal was closed, or one to which nothing was done
+abbrev pub IsUntouched : Option (List Deed) → Option (List Deed) → Type 0
+IsUntouched before after = (after ≡ before) ⊎ IfSome after (λ all. all ≡ [])
+
+-- ---- links
+
+-- what is seen between two links, where the world is seen so and what is kept has this check
+abbrev pub view_of : Seen → ℕ → Outside → View
+view_of world sum o = record {
+  world = world;
+  keys = o.keys;
+  coming = o.coming;
+  returned = o.returned;
+  deeds = o.deeds;
+  sum = sum;
+  steps = o.steps;
+}
+
+-- Links were served from this model world on. Each was answered and given back as without a journal, in the order in which
+-- they came, and what is kept of it was kept before it was given back and before a byte was written on it. Links behind these,
+-- of which nothing was kept, were given back without a byte, where the door failed or the journal.
+pub record AreKeptLinks (ruled : Ruled) (most sum : ℕ) (from : Between) (links : List (List ℕ)) (given : List Returned) (deeds : List Deed)
+    (after : Outside) (end : Ended) : Type 0 where
+  pub world : Seen
+  pub behind : ℕ
+  pub served : HasServed ruled.formats ruled.service most sum (record { world = from.world; keys = from.keys; steps = from.steps }) links given deeds
+      (view_of world behind after) end
+  pub good : AreServed ruled from links (backs_of served.exchanges) (record { world = served.to.world; keys = served.to.keys; steps = served.to.steps })
+      served.rest
+
+-- so it is where the keys, the door and the journal tell
+abbrev pub ServesKept : Ruled → World → ℕ → ℕ → Outside → Outside → Ended → Type 0
+ServesKept ruled world sum most before after end =
+    (keys : Coming) → before.keys ≡ Some keys → (links : List (List ℕ)) → before.coming ≡ Some links → (given : List Returned) → before.returned ≡ Some given
+    → (deeds : List Deed) → before.deeds ≡ Some deeds
+    → AreKeptLinks ruled most sum (record { world = world; keys = keys; steps = before.steps }) links given deeds after end
+
+-- what is printed where the journal failed
+abbrev pub fault_line : List ℕ
+fault_line = line (codes "journal fault")
+
+-- What was printed behind the line of the port, and the status: that the journal failed, or nothing.
+abbrev pub EndsWith : Option (List ℕ) → Option (List ℕ) → Ended → Status → Type 0
+EndsWith held now ended.Done status = (status ≡ Done) × (now ≡ held)
+EndsWith held now ended.DoorFault status = (status ≡ DoorFault) × (now ≡ held)
+EndsWith held now ended.JournalFault status = Prints (record { status = JournalFault; text = fault_line }) held now status
+
+-- What comes of serving beside a journal that is begun, from this model world on and behind this check. The port couldn't be
+-- listened on, and nothing else has changed; or its line was printed in a first part; or the whole line was, and then links were
+-- served.
+pub data Keeps (ruled : Ruled) (world : World) (port most sum : ℕ) (before after : Outside) (status : Status) : Type 0 where
+  no_port : status ≡ DoorFault → MayAsk before.asked after.asked port → after ≡ record before { asked = after.asked }
+      → Keeps ruled world port most sum before after status
+  no_line : status ≡ WriteFault → Asks before.asked after.asked port → AppendsPart before.printed after.printed (serving_line port)
+      → after ≡ record before { asked = after.asked; printed = after.printed } → Keeps ruled world port most sum before after status
+  links_served : (printed : Option (List ℕ)) (end : Ended) → Asks before.asked after.asked port → Appends before.printed printed (serving_line port)
+      → EndsWith printed after.printed end status → ServesKept ruled world sum most before after end → Keeps ruled world port most sum before after status
+
+-- ---- the work
+
+-- What comes of serving an accepted service beside a journal of this content. There was a read fault or no memory for it, or it
+-- is refused, and nothing was done to it; or it failed before any link, and that was printed; or it was begun, and then it was
+-- served beside, from the world that the journal brings about.
+pub data IsKept (ruled : Ruled) (text content : List ℕ) (port most : ℕ) (before after : Outside) (status : Status) : Type 0 where
+  stopped : (status ≡ ReadFault) ⊎ (status ≡ Memory) → after ≡ record before { unread = after.unread; steps = after.steps; deeds = after.deeds }
+      → IsUntouched before.deeds after.deeds → IsKept ruled text content port most before after status
+  refused : (why : Recalled) → Refuses ruled text content why
+      → IsSaid (record { status = JournalRefused; text = line (journal_line why) }) (record before { steps = after.steps; deeds = after.deeds }) after status
+      → IsUntouched before.deeds after.deeds → IsKept ruled text content port most before after status
+  failed : IsSaid (record { status = JournalFault; text = fault_line }) (record before { steps = after.steps; deeds = after.deeds }) after status
+      → IsKept ruled text content port most before after status
+  begun : (found : Recalled) (world : World) (mid : Outside) → Holds ruled text content found world
+      → mid ≡ record before { unread = mid.unread; steps = mid.steps; deeds = mid.deeds }
+      → IfSome mid.deeds (IsBegun text before.returned before.printed found) → Keeps ruled world port most (sum_behind text found) mid after status
+      → IsKept ruled text content port most before after status

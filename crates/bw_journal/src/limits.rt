@@ -1,0 +1,7 @@
+//! The limits of a journal.
+
+/// The bytes of a message: those of the longest head and of the longest body.
+pub const MAX_MESSAGE_BYTES: usize = 81_920;
+
+/// The bytes of an entry: a message with its length, its key and two checks.
+pub const MAX_ENTRY_BYTES: usize = 81_948;

@@ -1,0 +1,22 @@
+pub mod Advancing
+pub mod Answering
+mod Arriving
+pub mod Bringing
+mod Counting
+mod Ending
+pub mod Entering
+mod Fitting
+mod Giving
+pub mod LinksBring
+pub mod Lists
+pub mod Messages
+pub mod OneRequest
+pub mod Opening
+pub mod Parting
+pub mod Pieces
+mod Queued
+pub mod Restarting
+mod Sending
+mod ServedSoFar
+pub mod SoFar
+mod Surviving

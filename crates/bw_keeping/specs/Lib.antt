@@ -1,0 +1,17 @@
+pub mod Answered
+pub mod Bringing
+pub mod Counts
+pub mod Entering
+pub mod EntryLaws
+pub mod Groups
+pub mod Kept
+pub mod Laws
+pub mod Noting
+pub mod Recalling
+pub mod Restarts
+pub mod Served
+pub mod Steps
+pub mod Surviving
+pub mod Taking
+pub mod Windows
+pub mod Written

@@ -1,0 +1,58 @@
+//! Laws of journals and worlds, and of links that are served beside a journal. A law is the contract of an empty function.
+ghost use Rattle.bw_keeping.specs.EntryLaws.{BringsByParts, BringsInParts, BringsKeepSound, BringsKeepWithin, BringsOnce, BringsReach};
+ghost use Rattle.bw_keeping.specs.Laws.{AnsweredBring, AnsweredFit, KeptInParts, PiecesAreGroups};
+ghost use Rattle.bw_keeping.specs.Restarts.{CutsLeaveEntries, HeadsAreBegun, RestartsGoOn};
+ghost use Rattle.bw_keeping.specs.Surviving.{LinksSurvive};
+
+/// The same entries bring about one world.
+pub fn entries_bring_once()
+    ensures { BringsOnce }
+{}
+
+/// What some entries and then others bring about goes by the world between.
+pub fn brings_in_parts()
+    ensures parts { BringsByParts }
+    ensures whole { BringsInParts }
+{}
+
+/// The world that entries bring about is one that requests reach. So it is sound where the one before is, and what its
+/// sessions stored is within the formats.
+pub fn entries_keep_worlds_fit()
+    ensures reach { BringsReach }
+    ensures within { BringsKeepWithin }
+    ensures sound { BringsKeepSound }
+{}
+
+/// Whenever a crash comes in the course of the groups that are kept, and whatever it leaves: behind the head it is a
+/// journal, of the entries before, of all groups that were kept whole, and of the first entries of at most one group more.
+/// From the world that these bring about, the others bring about what they did.
+pub fn restarts_go_on()
+    ensures { RestartsGoOn }
+{}
+
+/// What a crash leaves before a group is kept: while less than an entry is cut off behind a journal, the entries; and while
+/// the head is written, a first part of it.
+pub fn openings_go_on()
+    ensures cuts { CutsLeaveEntries }
+    ensures heads { HeadsAreBegun }
+{}
+
+/// What is kept of links that were answered one after another brings about the world that they left.
+pub fn answered_bring()
+    ensures bring { AnsweredBring }
+    ensures fit { AnsweredFit }
+{}
+
+/// The pieces that were kept are groups of what is kept of links, one after another. Wherever they are parted, those before
+/// kept what is kept of the first links, and those behind what is kept of the others.
+pub fn pieces_are_groups()
+    ensures groups { PiecesAreGroups }
+    ensures parts { KeptInParts }
+{}
+
+/// Whenever a crash comes in the course of the pieces that are kept, and whatever it leaves: the file is a journal of what is
+/// kept of the first links, all pieces that were kept whole among it, and of the first entries of at most one piece more. No
+/// link was given back but these, and those of which nothing is kept. The world goes on from there as if there had been no crash.
+pub fn links_survive()
+    ensures { LinksSurvive }
+{}

@@ -1,0 +1,41 @@
+//! A service beside a journal: its world is brought back (`recall`), and links are served so that what is kept of a message
+//! is in the journal before a byte of its reply is sent (`serve_kept`).
+//!
+//! **What is kept.** A journal keeps of each request that a page answered the bytes of its message and the key that was
+//! drawn for it. A request is one step of the world by its key, so these entries, one after another, bring about the world
+//! again. Each other reply leaves the world as it was, and nothing of its request is kept.
+//!
+//! **Groups.** A link that came waits with its reply until no further link is at hand, or until as many wait as may be. Then
+//! what is kept of all of them goes into the journal in one piece, and they are sent their replies in the order in which
+//! they came. So where many clients come at once, one wait for the disk serves many of them.
+//!
+//! **What is promised.** `serve_kept` says what each link that was given back got, by one run of the world over all of them,
+//! and that its entry stood in a piece that was kept while neither it nor a later link had been given back. Where the
+//! door or the journal fails, the links of which nothing was kept are given back without a byte.
+#![tactic(auto)]
+
+pub mod doors;
+pub mod ended;
+mod flushing;
+mod group;
+mod handling;
+pub mod laws;
+mod notes;
+mod recalling;
+mod replying;
+mod room;
+mod serving;
+mod taken;
+mod taking;
+mod waiting;
+mod window;
+
+pub use doors::WideDoor;
+pub use ended::Ended;
+pub use group::Group;
+pub use notes::Notes;
+pub use recalling::{Recalled, recall};
+pub use room::Room;
+pub use serving::serve_kept;
+pub use taken::Taken;
+pub use taking::take_kept;

@@ -1,0 +1,12 @@
+pub mod Again
+pub mod Built
+pub mod ContentGaps
+pub mod Found
+pub mod Kept
+pub mod Lawful
+pub mod Loaded
+pub mod Made
+pub mod SumCovers
+pub mod SumLaws
+pub mod Truncated
+pub mod Variables

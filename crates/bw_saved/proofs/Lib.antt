@@ -1,0 +1,10 @@
+pub mod Codecs
+pub mod DocumentLaws
+pub mod FieldLaws
+pub mod Files
+pub mod LeftLaws
+pub mod Lengths
+pub mod Loop
+pub mod SessionLaws
+pub mod ValueLaws
+pub mod Waiting

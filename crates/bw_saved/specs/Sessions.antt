@@ -1,0 +1,4 @@
+pub mod Demands
+pub mod Layout
+pub mod Reading
+pub mod Weights

@@ -1,0 +1,3 @@
+pub mod Demands
+pub mod Layout
+pub mod Reading

@@ -1,0 +1,5 @@
+pub mod Coding
+pub mod Deeds
+pub mod Disk
+pub mod MemJournals
+pub mod Memory
