@@ -106,7 +106,9 @@ def last_of(process):
 def end(server, number=signal.SIGKILL):
     """Ends the program; gives its code and what else it printed."""
     if server.poll() is None:
-        os.kill(last_of(server.pid), number)
+        # It may have ended by itself since.
+        with contextlib.suppress(ProcessLookupError):
+            os.kill(last_of(server.pid), number)
     out, err = server.communicate(timeout=SECONDS)
     return server.returncode, out, err.decode()
 

@@ -11,6 +11,8 @@ use Rattle.bw_lang.specs.declared.service.Service.{Service}
 use Rattle.bw_lang.specs.declared.text.Memory.{Memory}
 use Rattle.bw_lang.specs.Service.Reads.{Reads}
 use Rattle.bw_syntax.specs.Refusals.{IsServiceRefused}
+use Rattle.bw_syntax.specs.Told.{IsTold}
+use Rattle.bw_syntax.specs.declared.told.Told.{Told}
 use Rattle.bw_syntax.specs.declared.fault.SyntaxFault.{SyntaxFault}
 use Rattle.bw_syntax.specs.declared.fault.SyntaxFault.TheVariants as reading
 use Rattle.bw_syntax.proofs.OneAnswer.{one_reason_each}
@@ -19,7 +21,7 @@ use Rattle.bw_types.specs.declared.fault.TypeFault.{TypeFault}
 use Rattle.bw_types.specs.declared.fault.TypeFault.TheVariants as typing
 use Rattle.bw_out.specs.Told.{Disk}
 use Rattle.bigwig.specs.Asked.{file, read, typed, service_text}
-use Rattle.bigwig.specs.Behind.{Shown, AreShown, IsBlamed, shown_if, shown_file, content_of, behind_syntax, behind_type, blamed_in}
+use Rattle.bigwig.specs.Behind.{Shown, AreKept, AreShown, told_if, IsBlamed, shown_if, shown_file, content_of, behind_syntax, behind_type, blamed_in}
 use Rattle.bigwig.specs.Codes.{status_for}
 use Rattle.bigwig.specs.Lines.{syntax_line, type_line}
 use Rattle.bigwig.specs.Questions.{Said, Question, ◌>>=◌, IsStop, IsAnswer, line}
@@ -32,6 +34,13 @@ use Rattle.bigwig.specs.declared.stop.Stop.TheVariants as stop
 use Rattle.bigwig.proofs.Answering.{asks_next, stops_first}
 use Rattle.bigwig.proofs.Files.{take_short, refused_all}
 use Rattle.bigwig.proofs.Stops.{text_stops}
+
+-- ---- the tokens of a text that is shown are kept
+
+pub are_kept : (source : Bool) (text : List ℕ) (told : Told) (kept : Option Told) → kept ≡ told_if source told → IsTold text told
+    → AreKept source text kept
+are_kept true text told kept e t = subst (AreKept true text) (sym e) (record { asked = refl; told_of = t })
+are_kept false text told kept e t = subst (AreKept false text) (sym e) (record { asked = refl; told_of = tt })
 
 -- ---- the front of a file tells which service it is
 

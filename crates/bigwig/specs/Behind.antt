@@ -1,5 +1,5 @@
 -- What is shown behind the line of a refusal, where the text of the service is shown.
-use Rattle.std.specs.Prelude.{◌≡◌, ⊤, ℕ, ◌+◌, Bool, true, false, List, [], take, Option, None, Some, option_map}
+use Rattle.std.specs.Prelude.{◌≡◌, ⊤, ℕ, ◌+◌, Bool, true, false, List, [], take, Option, None, Some, IfSome, is_some, option_map}
 use Rattle.bw_blame.specs.Blames.{first_blamed}
 use Rattle.bw_blame.specs.declared.site.Blamed.{Blamed}
 use Rattle.bw_diagnose.specs.Blocks.{syntax_block, type_block, fault_block, points_block, facts_block}
@@ -11,8 +11,11 @@ use Rattle.bw_lang.specs.declared.declaration.Draft.{Draft}
 use Rattle.bw_lang.specs.declared.limits.TheConstants.{MAX_FILE_BYTES}
 use Rattle.bw_lang.specs.declared.service.Service.{Service}
 use Rattle.bw_out.specs.Told.{Disk}
+use Rattle.bw_syntax.specs.Told.{IsTold}
 use Rattle.bw_syntax.specs.declared.fault.SyntaxFault.{SyntaxFault}
+use Rattle.bw_syntax.specs.declared.told.Told.{Told}
 use Rattle.bw_types.specs.declared.fault.TypeFault.{TypeFault}
+use Rattle.bigwig.specs.declared.sight.Seen.{Seen}
 use Rattle.bigwig.specs.declared.sight.Sight.{Sight}
 
 -- a file whose text is shown: its name, and what it has
@@ -34,8 +37,11 @@ abbrev pub shown_file : Bool → Disk → List ℕ → Option Shown
 shown_file source disk name = shown_if source name (content_of (disk name))
 
 -- as the code holds it
-abbrev pub shown_of : Option Paper → Option Shown
-shown_of = option_map (λ p. record { name = p.name.now; text = p.text.now })
+abbrev pub shown_paper : Paper → Shown
+shown_paper p = record { name = p.name.now; text = p.text.now }
+
+abbrev pub shown_of : Option Seen → Option Shown
+shown_of = option_map (λ s. record { name = s.name.now; text = s.told.text.now })
 
 abbrev pub shown_in : Option Sight → Option Shown
 shown_in = option_map (λ s. record { name = s.name.now; text = s.known.told.text.now })
@@ -43,6 +49,15 @@ shown_in = option_map (λ s. record { name = s.name.now; text = s.known.told.tex
 abbrev pub drafts_in : Option Sight → List Draft
 drafts_in None = []
 drafts_in (Some s) = s.known.drafts.items
+
+-- its tokens are kept where it is shown
+abbrev pub told_if : Bool → Told → Option Told
+told_if true told = Some told
+told_if false told = None
+
+pub record AreKept (source : Bool) (text : List ℕ) (told : Option Told) : Type 0 where
+  pub asked : is_some told ≡ source
+  pub told_of : IfSome told (IsTold text)
 
 -- where the text is shown, it is written for these declarations
 abbrev pub AreShown : Option Shown → List Draft → Type 0

@@ -16,12 +16,11 @@ use crate::command::{Judging, Named};
 use crate::fault_lines::check_stop;
 use crate::formats::formats_for;
 use crate::lent::Tools;
-use crate::loading::{Loaded, load_service, typed_of};
+use crate::loading::{Loaded, Read, load_service, typed_of};
 use crate::schemas::{default_schema, load_schema};
-use crate::sight::shown_as;
+use crate::sight::{Seen, seen_as};
 use crate::stop::Stop;
 use bw_check::{Checked, check};
-use bw_diagnose::Paper;
 use bw_format::Formats;
 use bw_lang::{Memory, Text, Words};
 use bw_out::{Files, Pulse};
@@ -83,17 +82,22 @@ pub fn load_kept<R: Threads + Sync, F: Files, P: Pulse>(
 {
     let name = named.service.as_str();
     let loaded = load_service(tools.alloc, files, name, named.judging.source)?;
-    let Loaded { typed, text } = loaded;
-    let how = shown_as(named.judging.source, name, &text);
+    let Loaded { typed, text, told } = loaded;
+    let how = seen_as(name, &text, &told);
     match load_schema(tools.alloc, files, &named.judging.schema) {
         Ok(schema) => match checked_with(tools, files, typed, schema, named, how) {
-            Ok(served) => Ok(Kept { served, text }),
+            Ok(served) => {
+                drop(told);
+                Ok(Kept { served, text })
+            }
             Err(stop) => {
+                drop(told);
                 drop(text);
                 Err(stop)
             }
         },
         Err(stop) => {
+            drop(told);
             drop(typed);
             drop(text);
             Err(stop)
@@ -108,7 +112,7 @@ fn checked_with<R: Threads + Sync, F: Files, P: Pulse>(
     typed: Typed,
     schema: Schema,
     named: Named<'_, '_, '_>,
-    how: Option<Paper<'_>>,
+    how: Option<Seen<'_>>,
 ) -> Result<Served, Stop>
     requires { AreWorkers named.judging.now.workers }
     ensures answers { IfSome (F.told files.old) (λ disk.
@@ -163,7 +167,9 @@ pub fn made_checked<R: Threads + Sync, P: Pulse>(
     ensures answers { IsAnswer ruled_by (asked.accepted_text text.now) result }
     ensures no_read { IsErrOf result Stop.ReadFault → ⊥ }
 {
-    let typed = typed_of(tools.alloc, text, None)?;
+    let read = typed_of(tools.alloc, text, "", false)?;
+    let Read { typed, told } = read;
+    drop(told);
     match default_schema(tools.alloc) {
         Ok(schema) => checked(tools, typed, schema, Formats::none(), workers, None),
         Err(stop) => {
@@ -181,7 +187,7 @@ fn checked<R: Threads + Sync, P: Pulse>(
     schema: Schema,
     formats: Formats,
     workers: u32,
-    how: Option<Paper<'_>>,
+    how: Option<Seen<'_>>,
 ) -> Result<Served, Stop>
     requires { AreWorkers workers }
     ensures answers { IsAnswer ruled_by (asked.checked (shown_of how.entry) typed.service schema formats) result }

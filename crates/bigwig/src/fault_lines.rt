@@ -9,11 +9,12 @@ ghost use Rattle.bigwig.specs.Questions.{line};
 ghost use Rattle.bigwig.specs.Reports.{SaysWhy};
 
 use crate::lines::{points_line, shown};
-use crate::sight::{Sight, push_behind_facts, push_behind_fault, push_behind_points, sight_of};
+use crate::sight::{
+    Seen, Sight, push_behind_facts, push_behind_fault, push_behind_points, sight_of,
+};
 use crate::status::Refusal;
 use crate::stop::Stop;
 use bw_check::CheckFault;
-use bw_diagnose::Paper;
 use bw_faults::{Fault, Faults};
 use bw_lang::{Memory, TemplateId, Text};
 use itoa::Buffer;
@@ -21,7 +22,7 @@ use std::alloc::Global;
 
 /// Why the service isn't accepted, whose templates have these names. Where its text is shown, it is shown so. Want of memory
 /// has no line.
-pub fn check_stop(alloc: Global, names: &[Text], fault: &CheckFault, how: Option<Paper<'_>>) -> Stop
+pub fn check_stop(alloc: Global, names: &[Text], fault: &CheckFault, how: Option<Seen<'_>>) -> Stop
     ensures { SaysWhy (shown_of how.entry) names.now fault.now result }
 {
     match shown_stop(alloc, names, fault, how) {
@@ -35,7 +36,7 @@ fn shown_stop(
     alloc: Global,
     names: &[Text],
     fault: &CheckFault,
-    how: Option<Paper<'_>>,
+    how: Option<Seen<'_>>,
 ) -> Result<Vec<u8>, Memory>
     ensures text { IfOk result (λ text. (drafts : List Draft_) × AreShown (shown_of how.entry) drafts
         × (text.items ≡ spec.check_text (shown_of how.entry) drafts names.now fault.now)) }

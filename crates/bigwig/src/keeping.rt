@@ -1,38 +1,32 @@
 //! Links that are served beside a journal, over the world that it brings about.
-ghost use Rattle.std.specs.Prelude.{◌≡◌, ◌≢◌, ◌⊎◌, ◌^◌, ◌<◌, ℕ, List, [], ◌∷◌, length, Option, None, Some, IfOk, IfErr, IfSome, IsErrOf, OnOk, OnErr};
+ghost use Rattle.std.specs.Prelude.{◌≡◌, ◌≢◌, ◌^◌, ◌<◌, [], length, None, Some, IfOk, IfErr, IfSome, IsErrOf};
 ghost use Rattle.bw_model.specs.Sessions as model;
-ghost use Rattle.bw_out.specs.Causes.{HasCause, Shows};
-ghost use Rattle.bw_out.specs.Doors.{Returned};
+ghost use Rattle.bw_out.specs.Causes.{Shows};
 ghost use Rattle.bw_sound.specs.Worlds.{BeginsSound};
-ghost use Rattle.bw_stable.specs.Deeds.{Does, cut, kept};
 ghost use Rattle.bw_world.specs.Stands.{StandsFor};
 ghost use Rattle.bigwig.specs.Asked.{Ruled, work};
 ghost use Rattle.bigwig.specs.Behind.{content_of};
-ghost use Rattle.bigwig.specs.Checks.{IsFitWorld, IsRuled};
+ghost use Rattle.bigwig.specs.Checks.{IsRuled};
 ghost use Rattle.bigwig.specs.Commands.{AreWorkers};
-ghost use Rattle.bigwig.specs.Finding.{AreDone, IsFoundIn, IsRefusedBy, IsToldBy, begun_by, head_if, recalled_of};
-ghost use Rattle.bigwig.specs.Keeping.{EndsWith, IsKept, Keeps, fault_line, sum_behind};
-ghost use Rattle.bw_keeping.specs.Served.{Serves, view};
-ghost use Rattle.bw_keeping.specs.declared.ended.Ended.{Ended as Ended_};
+ghost use Rattle.bigwig.specs.Finding.{IsFoundIn, IsRefusedBy, IsToldBy, recalled_of};
+ghost use Rattle.bigwig.specs.Keeping.{IsKept};
 ghost use Rattle.bigwig.specs.Lent.{AreSame, HasCauses, ShowsJournal, faults_of, seen_of};
 ghost use Rattle.bigwig.specs.Outcomes.{Comes};
-ghost use Rattle.bigwig.specs.Works.{Prints};
 ghost use Rattle.bigwig.specs.declared.command.Command.TheVariants as commands;
 
+use crate::beginning::{keep_begun, opening_for, tell_fault};
 use crate::checking::{Kept, load_kept};
 use crate::command::Named;
 use crate::lent::{Lent, Tools};
 use crate::lines::journal_line;
 use crate::loading::refused;
-use crate::report::{print_line, report};
+use crate::report::report;
 use crate::server::Server;
-use crate::serving::print_serving;
 use crate::status::{Refusal, Status};
 use crate::stop::Stop;
-use bw_journal::{put_head, start_sum};
-use bw_keeping::{Ended, Recalled, Room, WideDoor, recall, serve_kept};
+use bw_keeping::{Recalled, Room, WideDoor, recall};
 use bw_lang::{Memory, Text};
-use bw_out::{Failed, Files, Keys, Pulse, Sink, Steps, WriteFault};
+use bw_out::{Failed, Files, Keys, Pulse, Sink, Steps};
 use bw_stable::{Journal, Journals};
 use std::alloc::Global;
 use std::sync::ledger::Ledger;
@@ -56,17 +50,6 @@ pub enum Found {
     Nothing,
     /// Its entries end behind so many bytes, and this is the check there.
     Entries { len: u64, sum: u64 },
-}
-
-/// What is done to a journal before any link.
-#[derive(Drop)]
-struct Opening {
-    /// What was found in it.
-    found: Found,
-    /// The head that is put there: nothing where there are entries.
-    head: Vec<u8>,
-    /// The check behind what it then holds.
-    sum: u64,
 }
 
 /// `serve` beside a journal: the world that it brings about is brought back, and then the links of a port are served. What
@@ -200,38 +183,6 @@ fn keep_beside<F: Files, J: Journals, I: Journal, D: WideDoor, K: Keys, W: Sink,
     status
 }
 
-/// The same where all of the journal was read: it is begun, and then links are served.
-fn keep_begun<F: Files, J: Journals, I: Journal, D: WideDoor, K: Keys, W: Sink, L: Ledger>(
-    server: &mut Server,
-    room: &mut Room<D::Link>,
-    opening: &Opening,
-    place: Place<'_>,
-    journal: &mut I,
-    lent: &mut Lent<F, J, D, K, W, Steps<L>>,
-) -> Status
-    requires journal { I.is_sound journal.old }
-    requires fresh { IfSome (I.deeds journal.old) (λ deeds. deeds ≡ []) }
-    requires bytes { room.old.group.bytes ≡ [] }
-    requires queue { room.old.queue.links.items ≡ [] }
-    ensures keeps { (ruled : Ruled) (text content : List ℕ) → IsRuled server.old.world.service server.old.formats ruled
-        → IsFoundIn ruled text content server.old.world opening.now.found → opening.now.head.items ≡ head_if text opening.now.found
-        → room.old.group.sum ≡ sum_behind text (recalled_of opening.now.found) → IsKept ruled text content place.entry.port place.entry.most
-        (record (seen_of F.Files J.Journals D.Door K.Keys W.Channel lent.old) { deeds = I.deeds journal.old })
-        (record (seen_of F.Files J.Journals D.Door K.Keys W.Channel lent.new) { deeds = I.deeds journal.new }) result }
-    ensures others { (result ≢ Status.Usage) × (result ≢ Status.ReadFault) }
-    ensures write_fault { Shows (result ≡ Status.WriteFault) (W.write_faults lent.old.out.now) (W.write_faults lent.new.out.now) }
-    ensures door_fault { Shows (result ≡ Status.DoorFault) (D.faults lent.old.door.now) (D.faults lent.new.door.now) }
-    ensures journal_fault { ShowsJournal result (I.faults journal.old) (I.faults journal.new) }
-    ensures kept { (lent.new.files.now ≡ lent.old.files.now) × (lent.new.journals.now ≡ lent.old.journals.now) }
-    ensures same { AreSame lent.old lent.new }
-    ensures queue { room.new.queue.links.items ≡ [] }
-{
-    match begin(opening, journal, lent.door, lent.out) {
-        Err(Failed) => tell_fault(lent.out),
-        Ok(()) => keep_port(server, room, place, journal, lent),
-    }
-}
-
 /// Brings back the world of a journal. Where there is no file, nothing was kept yet. The file is closed again.
 fn read_journal<F: Files, L: Ledger>(
     server: &mut Server,
@@ -285,131 +236,4 @@ fn found_of(alloc: Global, recalled: Recalled) -> Result<Found, Stop>
             Err(refused(Refusal::Journal, journal_line(alloc, recalled)))
         }
     }
-}
-
-/// What is done to a journal in which this was found.
-fn opening_for(alloc: Global, text: &[u8], found: Found) -> Result<Opening, Memory>
-    requires { length text.now < 2 ^ 32 }
-    ensures found { IfOk result (λ opening. opening.found ≡ found) }
-    ensures head { IfOk result (λ opening. opening.head.items ≡ head_if text.now found) }
-    ensures sum { IfOk result (λ opening. opening.sum ≡ sum_behind text.now (recalled_of found)) }
-{
-    let mut head = Vec::new(alloc);
-    match found {
-        Found::Entries { sum, .. } => Ok(Opening { found, head, sum }),
-        Found::Nothing => {
-            put_head(&mut head, text)?;
-            Ok(Opening {
-                found,
-                head,
-                sum: start_sum(text),
-            })
-        }
-    }
-}
-
-/// Makes a journal ready for entries: puts the head there where there is none, and cuts off what is less than an entry.
-fn begin<J: Journal, D: WideDoor, W: Sink>(
-    opening: &Opening,
-    journal: &mut J,
-    door: &D,
-    out: &W,
-) -> Result<(), Failed>
-    requires { J.is_sound journal.old }
-    ensures begun { OnOk result (AreDone (J.deeds journal.old) (J.deeds journal.new) (begun_by opening.now.found opening.now.head.items (D.returned door.now) (W.held out.now))) }
-    ensures sound { OnOk result (J.is_sound journal.new) }
-    ensures cause { HasCause (J.faults journal.old) (J.faults journal.new) result }
-{
-    match opening.found {
-        Found::Entries { len, .. } => journal.cut(len),
-        Found::Nothing => {
-            journal.cut(0)?;
-            journal.keep(door, out, &opening.head)
-        }
-    }
-}
-
-/// Listens, prints the line that says so, and then serves links beside a journal that is begun.
-fn keep_port<F: Files, J: Journals, I: Journal, D: WideDoor, K: Keys, W: Sink, L: Ledger>(
-    server: &mut Server,
-    room: &mut Room<D::Link>,
-    place: Place<'_>,
-    journal: &mut I,
-    lent: &mut Lent<F, J, D, K, W, Steps<L>>,
-) -> Status
-    requires journal { I.is_sound journal.old }
-    requires bytes { room.old.group.bytes ≡ [] }
-    requires queue { room.old.queue.links.items ≡ [] }
-    ensures serves { (ruled : Ruled) (m : model.World) → IsRuled server.old.world.service server.old.formats ruled → StandsFor server.old.world m
-        → IsFitWorld ruled m → Keeps ruled m place.entry.port place.entry.most room.old.group.sum
-        (record (seen_of F.Files J.Journals D.Door K.Keys W.Channel lent.old) { deeds = I.deeds journal.old })
-        (record (seen_of F.Files J.Journals D.Door K.Keys W.Channel lent.new) { deeds = I.deeds journal.new }) result }
-    ensures others { (result ≢ Status.Usage) × (result ≢ Status.ReadFault) }
-    ensures write_fault { Shows (result ≡ Status.WriteFault) (W.write_faults lent.old.out.now) (W.write_faults lent.new.out.now) }
-    ensures door_fault { Shows (result ≡ Status.DoorFault) (D.faults lent.old.door.now) (D.faults lent.new.door.now) }
-    ensures journal_fault { ShowsJournal result (I.faults journal.old) (I.faults journal.new) }
-    ensures kept { (lent.new.files.now ≡ lent.old.files.now) × (lent.new.journals.now ≡ lent.old.journals.now) }
-    ensures same { AreSame lent.old lent.new }
-    ensures queue { room.new.queue.links.items ≡ [] }
-{
-    match lent.door.listen(place.port) {
-        Err(Failed) => Status::DoorFault,
-        Ok(()) => match print_serving(lent.out, place.port) {
-            Err(WriteFault) => Status::WriteFault,
-            Ok(()) => keep_links(server, room, place.most, journal, lent),
-        },
-    }
-}
-
-/// The same where the port is listened on and that was printed.
-fn keep_links<F: Files, J: Journals, I: Journal, D: WideDoor, K: Keys, W: Sink, L: Ledger>(
-    server: &mut Server,
-    room: &mut Room<D::Link>,
-    most: u32,
-    journal: &mut I,
-    lent: &mut Lent<F, J, D, K, W, Steps<L>>,
-) -> Status
-    requires journal { I.is_sound journal.old }
-    requires bytes { room.old.group.bytes ≡ [] }
-    requires queue { room.old.queue.links.items ≡ [] }
-    ensures serves { (end : Ended_) × EndsWith (W.held lent.old.out.now) (W.held lent.new.out.now) end result
-        × Serves server.old.formats server.old.world.service most
-        (view server.old.world (K.coming lent.old.keys.now) (D.coming lent.old.door.now) (D.returned lent.old.door.now) (I.deeds journal.old)
-        room.old.group.sum lent.old.steps.now)
-        (view server.new.world (K.coming lent.new.keys.now) (D.coming lent.new.door.now) (D.returned lent.new.door.now) (I.deeds journal.new)
-        room.new.group.sum lent.new.steps.now) end }
-    ensures others { (result ≢ Status.Usage) × (result ≢ Status.ReadFault) }
-    ensures asked { D.asked lent.new.door.now ≡ D.asked lent.old.door.now }
-    ensures write_fault { Shows (result ≡ Status.WriteFault) (W.write_faults lent.old.out.now) (W.write_faults lent.new.out.now) }
-    ensures door_fault { Shows (result ≡ Status.DoorFault) (D.faults lent.old.door.now) (D.faults lent.new.door.now) }
-    ensures journal_fault { ShowsJournal result (I.faults journal.old) (I.faults journal.new) }
-    ensures kept { (lent.new.files.now ≡ lent.old.files.now) × (lent.new.journals.now ≡ lent.old.journals.now) }
-    ensures same { AreSame lent.old lent.new }
-    ensures queue { room.new.queue.links.items ≡ [] }
-{
-    let ended = serve_kept(
-        server.alloc,
-        &mut server.world,
-        &server.formats,
-        room,
-        lent.door,
-        journal,
-        lent.keys,
-        most,
-        lent.steps,
-    );
-    match ended {
-        Ended::Done => Status::Done,
-        Ended::DoorFault => Status::DoorFault,
-        Ended::JournalFault => tell_fault(lent.out),
-    }
-}
-
-/// Prints that the journal failed.
-fn tell_fault<W: Sink>(out: &mut W) -> Status
-    ensures prints { Prints (record { status = Status.JournalFault; text = fault_line }) (W.held out.old) (W.held out.new) result }
-    ensures status { (result ≡ Status.JournalFault) ⊎ (result ≡ Status.WriteFault) }
-    ensures write_fault { Shows (result ≡ Status.WriteFault) (W.write_faults out.old) (W.write_faults out.new) }
-{
-    print_line(out, Status::JournalFault, b"journal fault")
 }

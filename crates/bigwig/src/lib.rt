@@ -1,6 +1,7 @@
 //! All that the program does: `run` takes the words of the command line and the outside, and ends with a status.
 #![tactic(auto)]
 
+mod beginning;
 mod checking;
 mod command;
 mod fault_lines;
@@ -15,6 +16,7 @@ mod loading;
 mod making;
 mod numbers;
 mod program;
+mod reading;
 mod replaying;
 mod report;
 mod schemas;

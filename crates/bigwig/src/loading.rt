@@ -1,20 +1,22 @@
 //! What the files give: the service.
-ghost use Rattle.std.specs.Prelude.{◌≡◌, ◌≢◌, ◌≤◌, ◌++◌, List, ℕ, IfOk, IfErr, IfSome, IsErrOf, length, take, Some};
+ghost use Rattle.std.specs.Prelude.{◌≡◌, ◌≢◌, ◌≤◌, ◌++◌, List, ℕ, IfOk, IfErr, IfSome, IsErrOf, is_some, length, take, Some};
+ghost use Rattle.bw_diagnose.specs.Known.{IsLent};
 ghost use Rattle.bw_lang.specs.Service.Reads.{IsReadable};
 ghost use Rattle.bw_lang.specs.declared.declaration.Draft.{Draft as Draft_};
 ghost use Rattle.bw_lang.specs.declared.limits.TheConstants.{MAX_FILE_BYTES};
 ghost use Rattle.bw_out.specs.Causes.{Shows};
+ghost use Rattle.bw_syntax.specs.Told.{IsTold};
 ghost use Rattle.bw_syntax.specs.declared.fault.SyntaxFault.TheVariants as faults;
 ghost use Rattle.bw_types.specs.declared.fault.TypeFault.TheVariants as types;
 ghost use Rattle.bigwig.specs.Asked.{file, typed, service_text, service_file};
-ghost use Rattle.bigwig.specs.Behind.{shown_of, shown_file, AreShown, IsBlamed, behind_syntax, behind_type};
+ghost use Rattle.bigwig.specs.Behind.{shown_if, shown_of, shown_file, AreKept, AreShown, IsBlamed, behind_syntax, behind_type};
 ghost use Rattle.bigwig.specs.Lines as lines;
 ghost use Rattle.bigwig.specs.Questions.{IsAnswer, IsStop, line};
 ghost use Rattle.bigwig.specs.Reports.{SaysLine, SaysText};
 ghost use Rattle.bigwig.specs.declared.status.Refusal.TheVariants as refusals;
 
 use crate::lines::{no_file_line, syntax_line, type_line};
-use crate::sight::{push_behind_syntax, push_behind_type, shown_as, sight_of};
+use crate::sight::{Seen, kept, push_behind_syntax, push_behind_type, seen_as, sight_of};
 use crate::status::Refusal;
 use crate::stop::Stop;
 use bw_blame::{Blamed, blame};
@@ -22,18 +24,26 @@ use bw_diagnose::Paper;
 use bw_lang::limits::MAX_FILE_BYTES;
 use bw_lang::{Memory, Service};
 use bw_out::{Failed, Files, ReadStop, read_up_to};
-use bw_syntax::{SyntaxFault, read_service};
+use bw_syntax::{SyntaxFault, Told, read_told, tell};
 use bw_types::{TypeFault, Typed, resolve};
 use std::alloc::Global;
 
 /// One byte more than a service file may have.
 const SERVICE_FRONT: usize = MAX_FILE_BYTES + 1;
 
-/// A service that is well typed, with the text of its file.
+/// A service that is well typed, with the text of its file, and the tokens of that, where it is shown.
 #[derive(Drop)]
 pub struct Loaded {
     pub typed: Typed,
     pub text: Vec<u8>,
+    pub told: Option<Told>,
+}
+
+/// The same without the text.
+#[derive(Drop)]
+pub struct Read {
+    pub typed: Typed,
+    pub told: Option<Told>,
 }
 
 /// That this is refused, or isn't there, with the line that says why.
@@ -118,45 +128,113 @@ pub fn load_service<F: Files>(
         IsAnswer (λ l. l.typed.service) (service_file (shown_file source disk name.now) disk name.now) result) }
     ensures text { IfOk result (λ l. IfSome (F.told files.old) (λ disk. disk name.now ≡ Some l.text.items)) }
     ensures short { IfOk result (λ l. length l.text.items ≤ MAX_FILE_BYTES) }
+    ensures kept { IfOk result (λ l. AreKept source l.text.items l.told) }
     ensures told { F.told files.new ≡ F.told files.old }
     ensures read_fault { Shows (IsErrOf result Stop.ReadFault) (F.faults files.old) (F.faults files.new) }
 {
     let text = fetch_bytes(alloc, files, name, SERVICE_FRONT)?;
-    match typed_of(alloc, &text, shown_as(source, name, &text)) {
-        Ok(typed) => Ok(Loaded { typed, text }),
+    match typed_of(alloc, &text, name, source) {
+        Ok(read) => {
+            let Read { typed, told } = read;
+            Ok(Loaded { typed, text, told })
+        }
         Err(stop) => Err(stop),
     }
 }
 
-/// The service that these bytes read as, where it is well typed.
-pub fn typed_of(alloc: Global, bytes: &[u8], how: Option<Paper<'_>>) -> Result<Typed, Stop>
-    ensures answers { IsAnswer (λ t. t.service) (service_text (shown_of how.entry) bytes.now) result }
+/// The service that these bytes of a file read as, where it is well typed. Where it is refused and `source` is set, its source
+/// is shown.
+pub fn typed_of(alloc: Global, bytes: &[u8], name: &str, source: bool) -> Result<Read, Stop>
+    ensures answers { IsAnswer (λ r. r.typed.service) (service_text (shown_if source name.now bytes.now) bytes.now) result }
+    ensures kept { IfOk result (λ r. AreKept source bytes.now r.told) }
     ensures no_read { IsErrOf result Stop.ReadFault → ⊥ }
 {
-    match read_service(alloc, bytes) {
-        Ok(service) => resolved(alloc, service, how),
-        Err(fault) => Err(refused_text(Refusal::Service, syntax_text(alloc, how, &fault))),
+    match tell(alloc, bytes) {
+        Ok(told) => typed_told(alloc, bytes, told, name, source),
+        Err(fault) => {
+            let text = syntax_text(alloc, bytes, name, source, &Told::none(alloc), &fault);
+            Err(refused_text(Refusal::Service, text))
+        }
+    }
+}
+
+/// The same of bytes whose tokens these are.
+fn typed_told(
+    alloc: Global,
+    bytes: &[u8],
+    told: Told,
+    name: &str,
+    source: bool,
+) -> Result<Read, Stop>
+    requires { IsTold bytes.now told }
+    ensures answers { IsAnswer (λ r. r.typed.service) (service_text (shown_if source name.now bytes.now) bytes.now) result }
+    ensures kept { IfOk result (λ r. AreKept source bytes.now r.told) }
+    ensures no_read { IsErrOf result Stop.ReadFault → ⊥ }
+{
+    match read_told(alloc, bytes, &told) {
+        Ok(service) => typed_kept(alloc, service, kept(told, source), name, bytes),
+        Err(fault) => {
+            let text = syntax_text(alloc, bytes, name, source, &told, &fault);
+            drop(told);
+            Err(refused_text(Refusal::Service, text))
+        }
+    }
+}
+
+/// The same of a service, where the tokens of its text are kept.
+fn typed_kept(
+    alloc: Global,
+    service: Service,
+    told: Option<Told>,
+    name: &str,
+    bytes: &[u8],
+) -> Result<Read, Stop>
+    requires readable { IsReadable service }
+    requires told { IfSome told (IsTold bytes.now) }
+    ensures answers { IsAnswer (λ r. r.typed.service) (typed (shown_if (is_some told) name.now bytes.now) service) result }
+    ensures kept { IfOk result (λ r. r.told ≡ told) }
+    ensures no_read { IsErrOf result Stop.ReadFault → ⊥ }
+{
+    match resolved(alloc, service, seen_as(name, bytes, &told)) {
+        Ok(typed) => Ok(Read { typed, told }),
+        Err(stop) => {
+            drop(told);
+            Err(stop)
+        }
     }
 }
 
 /// The line of a text that is read as no service, and what is shown behind it. Want of memory has no line.
 fn syntax_text(
     alloc: Global,
-    how: Option<Paper<'_>>,
+    bytes: &[u8],
+    name: &str,
+    source: bool,
+    told: &Told,
     fault: &SyntaxFault,
 ) -> Result<Vec<u8>, Memory>
-    ensures text { IfOk result (λ text. text.items ≡ line (lines.syntax_line fault.now) ++ behind_syntax (shown_of how.entry) fault.now) }
+    requires { IsLent bytes.now told.now fault.now }
+    ensures text { IfOk result (λ text. text.items ≡ line (lines.syntax_line fault.now)
+        ++ behind_syntax (shown_if source name.now bytes.now) fault.now) }
     ensures reason { IfOk result (λ text. fault.now ≢ faults.Memory) }
 {
     let mut text = syntax_line(alloc, fault)?;
     text.push(b'\n')?;
-    push_behind_syntax(&mut text, alloc, how, fault)?;
-    Ok(text)
+    if source {
+        let paper = Paper {
+            name: name.as_bytes(),
+            text: bytes,
+        };
+        push_behind_syntax(&mut text, alloc, paper, told, fault)?;
+        Ok(text)
+    } else {
+        Ok(text)
+    }
 }
 
 /// A service, where it is well typed. What its first test that fails is about is sought first, where it is shown: a
 /// refusal drops the service.
-fn resolved(alloc: Global, service: Service, how: Option<Paper<'_>>) -> Result<Typed, Stop>
+fn resolved(alloc: Global, service: Service, how: Option<Seen<'_>>) -> Result<Typed, Stop>
     requires { IsReadable service }
     ensures answers { IsAnswer (λ t. t.service) (typed (shown_of how.entry) service) result }
     ensures no_read { IsErrOf result Stop.ReadFault → ⊥ }
@@ -175,7 +253,7 @@ fn resolved(alloc: Global, service: Service, how: Option<Paper<'_>>) -> Result<T
 fn blamed_if(
     alloc: Global,
     service: &Service,
-    how: Option<Paper<'_>>,
+    how: Option<Seen<'_>>,
 ) -> Result<Option<Blamed>, Memory>
     requires { IsReadable service.now }
     ensures { IfOk result (IsBlamed (shown_of how.entry) service.now) }
@@ -189,7 +267,7 @@ fn blamed_if(
 /// The line of a service that isn't well typed, and what is shown behind it. Want of memory has no line.
 fn type_text(
     alloc: Global,
-    how: Option<Paper<'_>>,
+    how: Option<Seen<'_>>,
     blamed: Option<Blamed>,
     fault: &TypeFault,
 ) -> Result<Vec<u8>, Memory>

@@ -11,12 +11,13 @@ ghost use Rattle.bigwig.specs.Works.{outside};
 ghost use Rattle.bigwig.specs.declared.command.Command.TheVariants as commands;
 
 use crate::checking::load_accepted;
-use crate::command::{Command, Judging, Named, read_words};
+use crate::command::{Command, Judging, Named};
 use crate::judging::load_valid;
 use crate::keeping::{Place, keep_command};
 use crate::lent::{Lent, Tools};
 use crate::lighting::load_lights;
 use crate::making::make_command;
+use crate::reading::read_words;
 use crate::replaying::replay_command;
 use crate::report::{print_line, print_text, report};
 use crate::serving::serve_command;
@@ -47,8 +48,13 @@ const USAGE: &[u8] =
 /// The work of `serve` is the same over one world, with one request on each link: each link that comes is given back in its
 /// turn, after a fault too, and holds what the run answers. `light` prints the lights of the lines of its texts.
 ///
+/// With a journal, of `journals`, it is over the world that the requests bring about which the journal holds, and each link is
+/// given back, and a byte is written on it, only behind what is kept of its request. A journal that is damaged, of another version
+/// or of another service is refused (`JournalRefused`), and nothing is done to it.
+///
 /// `Usage` comes only where the words are refused, and `ReadFault`, `WriteFault` and `DoorFault` exactly where the count
-/// of `files`, `out` or `door` rose in this call; a fault on a link is none of these and ends that link alone. After a
+/// of `files`, `out` or `door` rose in this call; a fault on a link is none of these and ends that link alone. `JournalFault`
+/// comes only where the count of `journals` rose, and then nothing more is written on a link. After a
 /// `ReadFault` or a `WriteFault` of `replay` each request before the fault was answered whole. `Memory` comes, with
 /// nothing printed and no link taken, only before the first request.
 pub fn run<

@@ -1,19 +1,28 @@
 //! What is shown behind the line of a refusal, where the text of the service is shown.
-ghost use Rattle.std.specs.Prelude.{◌≡◌, ◌++◌, ◌+◌, take, IfOk, OnOk};
+ghost use Rattle.std.specs.Prelude.{◌≡◌, ◌++◌, ◌+◌, Some, take, is_some, IfOk, IfSome, OnOk};
+ghost use Rattle.bw_diagnose.specs.Known.{IsLent};
 ghost use Rattle.bw_lang.specs.declared.limits.TheConstants.{MAX_FILE_BYTES};
+ghost use Rattle.bw_syntax.specs.Told.{IsTold};
 ghost use Rattle.bigwig.specs.Behind as spec;
 
 use bw_blame::Blamed;
 use bw_diagnose::{
-    Known, Paper, push_facts_block, push_fault_block, push_points_block, push_syntax_block,
-    push_type_block, read_known,
+    Known, Paper, Tokened, push_facts_block, push_fault_block, push_points_block,
+    push_syntax_block, push_type_block, read_known, with_tokens,
 };
 use bw_faults::Fault;
 use bw_lang::Memory;
 use bw_lang::limits::MAX_FILE_BYTES;
-use bw_syntax::SyntaxFault;
+use bw_syntax::{SyntaxFault, Told};
 use bw_types::TypeFault;
 use std::alloc::Global;
+
+/// A file whose text is shown, with its tokens.
+#[derive(Clone, Copy)]
+pub struct Seen<'a> {
+    pub name: &'a [u8],
+    pub told: Tokened<'a>,
+}
 
 /// A file whose text is shown, and which is written for a service.
 #[derive(Drop)]
@@ -22,30 +31,42 @@ pub struct Sight<'a> {
     pub known: Known<'a>,
 }
 
-/// The file, where it is asked for that its text is shown.
-pub fn shown_as<'a>(source: bool, name: &'a str, text: &'a [u8]) -> Option<Paper<'a>>
-    ensures { spec.shown_of result ≡ spec.shown_if source name.entry.now text.entry.now }
+/// The tokens of a text, where it is asked for that it is shown; else nobody needs them any more.
+pub fn kept(told: Told, source: bool) -> Option<Told>
+    ensures { result ≡ spec.told_if source told }
 {
     if source {
-        Some(Paper {
-            name: name.as_bytes(),
-            text,
-        })
+        Some(told)
     } else {
+        drop(told);
         None
     }
 }
 
-/// The tokens and the declarations of a file whose text is shown.
-pub fn sight_of<'a>(alloc: Global, how: Option<Paper<'a>>) -> Result<Option<Sight<'a>>, Memory>
+/// The file, where the tokens of its text are kept.
+pub fn seen_as<'a>(name: &'a str, text: &'a [u8], told: &'a Option<Told>) -> Option<Seen<'a>>
+    requires { IfSome told.now (IsTold text.now) }
+    ensures { spec.shown_of result ≡ spec.shown_if (is_some told.entry.now) name.entry.now text.entry.now }
+{
+    match told {
+        Some(told) => Some(Seen {
+            name: name.as_bytes(),
+            told: with_tokens(text, told),
+        }),
+        None => None,
+    }
+}
+
+/// The declarations of a file whose text is shown.
+pub fn sight_of<'a>(alloc: Global, how: Option<Seen<'a>>) -> Result<Option<Sight<'a>>, Memory>
     ensures shown { IfOk result (λ sight. spec.shown_in sight ≡ spec.shown_of how.entry) }
     ensures drafts { IfOk result (λ sight. spec.AreShown (spec.shown_of how.entry) (spec.drafts_in sight)) }
 {
     match how {
-        Some(paper) => {
-            let known = read_known(alloc, paper.text)?;
+        Some(seen) => {
+            let known = read_known(alloc, seen.told)?;
             Ok(Some(Sight {
-                name: paper.name,
+                name: seen.name,
                 known,
             }))
         }
@@ -68,15 +89,15 @@ fn front_of(paper: Paper<'_>) -> Paper<'_>
 pub fn push_behind_syntax(
     text: &mut Vec<u8>,
     alloc: Global,
-    how: Option<Paper<'_>>,
+    paper: Paper<'_>,
+    told: &Told,
     fault: &SyntaxFault,
 ) -> Result<(), Memory>
-    ensures { OnOk result (text.new.items ≡ text.old.items ++ spec.behind_syntax (spec.shown_of how.entry) fault.now) }
+    requires { IsLent paper.text.now told.now fault.now }
+    ensures { OnOk result (text.new.items ≡ text.old.items
+        ++ spec.behind_syntax (Some (spec.shown_paper paper.entry)) fault.now) }
 {
-    match how {
-        Some(paper) => push_syntax_block(text, alloc, front_of(paper), fault),
-        None => Ok(()),
-    }
+    push_syntax_block(text, alloc, front_of(paper), told, fault)
 }
 
 /// What is shown of a service that isn't well typed, whose first test that fails is about this.

@@ -20,6 +20,15 @@ pub struct Seen {
     pub end: usize,
 }
 
+/// An expression of this kind that is one token, `p`.
+fn single(kind: Kind, p: usize) -> Seen
+    requires { p + 1 < 2 ^ 63 }
+    ensures kind { result.kind ≡ kind }
+    ensures end { result.end ≡ p + 1 }
+{
+    Seen { kind, end: p + 1 }
+}
+
 /// The kind of an expression, whose first token is `p`, and the token behind it; or what the first test that fails is
 /// about.
 #[tactic(auto, using(crate::proofs::Sites::site_steps))]
@@ -38,24 +47,12 @@ pub fn expr(
     ensures first { IfErr result (λ s. spec.first_site (spec.blames_in names.now.service.now locals.now d p (term expr.now)) ≡ Some s) }
 {
     match expr {
-        Expr::Int(_) => Ok(Seen {
-            kind: Kind::Int,
-            end: p + 1,
-        }),
-        Expr::Bool(_) => Ok(Seen {
-            kind: Kind::Bool,
-            end: p + 1,
-        }),
-        Expr::Str(_) => Ok(Seen {
-            kind: Kind::Str,
-            end: p + 1,
-        }),
-        Expr::Nothing => Ok(Seen {
-            kind: Kind::Strs,
-            end: p + 1,
-        }),
+        Expr::Int(_) => Ok(single(Kind::Int, p)),
+        Expr::Bool(_) => Ok(single(Kind::Bool, p)),
+        Expr::Str(_) => Ok(single(Kind::Str, p)),
+        Expr::Nothing => Ok(single(Kind::Strs, p)),
         Expr::Name(name) => match names.name_kind(locals, name.as_str()) {
-            Some(kind) => Ok(Seen { kind, end: p + 1 }),
+            Some(kind) => Ok(single(kind, p)),
             None => Err(Site::Tokens(p, p + 1)),
         },
         Expr::Paren(part) => match part_of(names, locals, d, p + 1, part) {

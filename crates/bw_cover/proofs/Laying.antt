@@ -2,7 +2,7 @@
 use Rattle.std.proofs.Common.{◌≡◌, ℕ, suc, ◌+◌, Bool, true, false, List, [], ◌∷◌, ◌++◌, refl, sym, ap, ◌∙◌, arith}
 use Rattle.std.specs.Prelude.{◌≢◌, ◌||◌}
 use Rattle.std.specs.List.{AllPairs}
-use Rattle.std.proofs.lemmas.Bool.{false≢true, or_parts}
+use Rattle.std.proofs.lemmas.Bool.{false≢true, or_parts, false_from_ne_true}
 use Rattle.std.proofs.lemmas.List.Folds.{list_any-append, list_any_none}
 use Rattle.bw_lang.specs.declared.service.Service.{Service}
 use Rattle.bw_lang.specs.Service.Code.{Code, done, declare, assign, if_then, if_else, while_loop, block, for_each, show, exit, numbered}
@@ -21,10 +21,6 @@ use Rattle.bw_lang.proofs.SameNames.{same_is, same_self}
 
 -- ---- names that differ
 
-not_true : (b : Bool) → (b ≡ true → ⊥) → b ≡ false
-not_true true h = absurd (h refl)
-not_true false h = refl
-
 -- each name is not among those behind it
 abbrev pub Distinct : List (List ℕ) → Type 0
 Distinct [] = Unit {0}
@@ -33,7 +29,7 @@ Distinct (w ∷ ws) = (is_among w ws ≡ false) × Distinct ws
 pub distinct : (ws : List (List ℕ)) → AllPairs (λ v w. v ≢ w) ws → Distinct ws
 distinct [] h = tt
 distinct (w ∷ ws) h = (
-  list_any_none (same w) ws (λ k d lt. not_true (same w _) (λ e. h 0 (suc k) d (omega arith) (omega arith) (same_is w _ e))),
+  list_any_none (same w) ws (λ k d lt. false_from_ne_true (same w _) (λ e. h 0 (suc k) d (omega arith) (omega arith) (same_is w _ e))),
   distinct ws (λ i j d lt l. h (suc i) (suc j) d (omega arith) (omega arith)),
 )
 
@@ -54,7 +50,7 @@ apart_append sc xs ys a =
     (λ w h. (both w h).0, λ w h. (both w h).1)
 
 pub apart_new : (sc : List (List ℕ)) (w : List ℕ) (ws : List (List ℕ)) → Apart sc (w ∷ ws) → is_among w sc ≡ false
-apart_new sc w ws a = not_true (is_among w sc) (λ e. false≢true (sym (or_parts (same w w) (is_among w ws) (a w e)).0 ∙ same_self w))
+apart_new sc w ws a = false_from_ne_true (is_among w sc) (λ e. false≢true (sym (or_parts (same w w) (is_among w ws) (a w e)).0 ∙ same_self w))
 
 pub apart_next : (sc : List (List ℕ)) (w : List ℕ) (ws : List (List ℕ)) → Apart sc (w ∷ ws) → is_among w ws ≡ false → Apart (sc ++ w ∷ []) ws
 apart_next sc w ws a d v h = by_test (is_among v sc) (same v w) refl refl (sym (among-added v w sc) ∙ h)

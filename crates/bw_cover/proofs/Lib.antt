@@ -11,6 +11,7 @@ pub mod First
 pub mod Worlds
 pub mod Rising
 pub mod Solved
+pub mod ContentGaps
 pub mod Typed
 pub mod Checked
 pub mod Flows

@@ -1,6 +1,7 @@
 //! What is shown behind the line of a refusal.
 ghost use Rattle.std.specs.Prelude.{◌≡◌, ◌++◌, OnOk, IfOk, take, drop, ◌+◌, ◌-◌};
 ghost use Rattle.bw_diagnose.specs.Blocks as spec;
+ghost use Rattle.bw_diagnose.specs.Known.{IsLent};
 ghost use Rattle.bw_hints.specs.Hints as hints;
 
 use crate::known::Known;
@@ -15,7 +16,7 @@ use bw_hints::{
     push_meant_words, push_type_what, syntax_mend, syntax_what, type_mend,
 };
 use bw_lang::{Bytes, Memory};
-use bw_syntax::SyntaxFault;
+use bw_syntax::{SyntaxFault, Told};
 use bw_types::TypeFault;
 use std::alloc::Global;
 
@@ -76,16 +77,19 @@ fn push_block(
     push_note(out, wide, mend)
 }
 
-/// The block of a text that is read as no service, behind what is there.
+/// The block of a text that is read as no service, behind what is there. Where the fault is about tokens, those of the text
+/// are lent.
 pub fn push_syntax_block(
     out: &mut Vec<u8>,
     alloc: Global,
     paper: Paper<'_>,
+    told: &Told,
     fault: &SyntaxFault,
 ) -> Result<(), Memory>
+    requires { IsLent paper.text.now told.now fault.now }
     ensures { OnOk result (out.new.items ≡ out.old.items ++ spec.syntax_block paper.entry.name.now paper.entry.text.now fault.now) }
 {
-    let found = syntax_shown(alloc, paper.text, fault)?;
+    let found = syntax_shown(alloc, paper.text, told, fault)?;
     let text = readable(alloc, paper.text)?;
     let shown = Paper {
         name: paper.name,

@@ -19,4 +19,4 @@ pub use blocks::{
     push_facts_block, push_fault_block, push_points_block, push_syntax_block, push_type_block,
 };
 pub use bw_excerpt::Paper;
-pub use known::{Known, read_known};
+pub use known::{Known, Tokened, read_known, with_tokens};

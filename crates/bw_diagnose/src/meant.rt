@@ -143,7 +143,7 @@ fn nearest_at(
     ensures { IfOk result (λ o. o ≡ nearest_behind word.now None
         (spec.names_at (lexemes_in known.now.told.text.now) known.now.drafts.items number token at)) }
 {
-    let lexemes = known.told.lexemes.as_slice();
+    let lexemes = known.told.lexemes;
     if is_plugged(lexemes, token) {
         return nearest_declared(alloc, word, None, Sort::Gap, &known.drafts);
     }
@@ -217,7 +217,7 @@ pub fn role_of(known: &Known<'_>, blamed: Option<Blamed>) -> Role
 {
     match blamed {
         Some(blamed) => match declaration(&known.drafts, blamed.declaration) {
-            Some(own) => role_at(&known.told.lexemes, own.from, blamed.site),
+            Some(own) => role_at(known.told.lexemes, own.from, blamed.site),
             None => Role::Value,
         },
         None => Role::Value,

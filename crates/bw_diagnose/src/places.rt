@@ -1,22 +1,22 @@
 //! Which bytes of a text a refusal points at.
-ghost use Rattle.std.specs.Prelude.{◌≡◌, ◌<◌, ◌+◌, ◌-◌, ◌^◌, slice_get, Some, IfOk, IfSome};
+ghost use Rattle.std.specs.Prelude.{◌≡◌, ◌<◌, ◌+◌, ◌-◌, ◌^◌, slice_get, Some, IfSome};
 ghost use Rattle.bw_places.specs.Counts.{drafts_tokens};
 ghost use Rattle.bw_diagnose.specs.Places as spec;
-ghost use Rattle.bw_diagnose.specs.Known.{tokens_in};
+ghost use Rattle.bw_diagnose.specs.Known.{IsLent, tokens_in, lexemes_in};
+ghost use Rattle.bw_diagnose.specs.Walks.{limit_token as limit_token_spec};
 
 use crate::finding::{Wanted, field_in, first_in, gap_in};
-use crate::known::{Known, Told, tell};
+use crate::known::{Known, Tokened, with_tokens};
 use crate::tags::{hole_there, rest, tag_there, token_start, word_length};
 use crate::walk::limit_token;
 use bw_blame::{Blamed, Site};
 use bw_excerpt::Place;
 use bw_faults::Fault;
 use bw_lang::limits::MAX_FILE_BYTES;
-use bw_lang::{Draft, Lexeme, Memory, TemplateId, Token};
+use bw_lang::{Draft, Lexeme, Limit, TemplateId, Token};
 use bw_lex::LexFault;
 use bw_places::{Sought, Span, declaration, statement};
-use bw_syntax::SyntaxFault;
-use std::alloc::Global;
+use bw_syntax::{SyntaxFault, Told};
 
 /// So many bytes.
 fn bytes_at(text: &[u8], at: usize, count: usize) -> Place
@@ -123,45 +123,54 @@ fn template_token(lexemes: &[Lexeme], name: &[u8]) -> usize
 }
 
 /// What a text that is read as no service is refused for.
-pub fn syntax_place(alloc: Global, text: &[u8], fault: &SyntaxFault) -> Result<Place, Memory>
-    ensures { IfOk result (λ place. place ≡ spec.syntax_place text.now fault.now) }
+pub fn syntax_place(text: &[u8], told: &Told, fault: &SyntaxFault) -> Place
+    requires { IsLent text.now told.now fault.now }
+    ensures { result ≡ spec.syntax_place text.now fault.now }
 {
     match fault {
-        SyntaxFault::TooLong => Ok(bytes_at(text, MAX_FILE_BYTES, 1)),
-        SyntaxFault::Lex(fault) => Ok(lex_place(text, fault)),
-        SyntaxFault::TooMany(limit, _) => {
-            let told = tell(alloc, text)?;
-            Ok(told_place(&told, limit_token(*limit, &told.lexemes)))
-        }
-        SyntaxFault::Syntax(at) => Ok(word_there(text, filled(text, *at))),
-        SyntaxFault::Template(name, _) => {
-            let told = tell(alloc, text)?;
-            Ok(told_place(&told, template_token(&told.lexemes, name.as_bytes())))
-        }
-        SyntaxFault::Memory => Ok(Place { from: 0, to: 0 }),
+        SyntaxFault::TooLong => bytes_at(text, MAX_FILE_BYTES, 1),
+        SyntaxFault::Lex(fault) => lex_place(text, fault),
+        SyntaxFault::TooMany(limit, _) => limit_place(&with_tokens(text, told), *limit),
+        SyntaxFault::Syntax(at) => word_there(text, filled(text, *at)),
+        SyntaxFault::Template(name, _) => template_place(&with_tokens(text, told), name.as_bytes()),
+        SyntaxFault::Memory => Place { from: 0, to: 0 },
     }
 }
 
+/// Where a limit is passed.
+fn limit_place(told: &Tokened<'_>, limit: Limit) -> Place
+    ensures { result ≡ spec.token_place (tokens_in told.now.text.now) (limit_token_spec limit (lexemes_in told.now.text.now)) }
+{
+    told_place(told, limit_token(limit, told.lexemes))
+}
+
+/// The name of a template.
+fn template_place(told: &Tokened<'_>, name: &[u8]) -> Place
+    ensures { result ≡ spec.token_place (tokens_in told.now.text.now) (spec.template_token (lexemes_in told.now.text.now) name.now) }
+{
+    told_place(told, template_token(told.lexemes, name))
+}
+
 /// The bytes of a token of a text.
-fn told_place(told: &Told<'_>, at: usize) -> Place
+fn told_place(told: &Tokened<'_>, at: usize) -> Place
     ensures { result ≡ spec.token_place (tokens_in told.now.text.now) at }
 {
-    token_place(told.tokens.as_slice(), at)
+    token_place(told.tokens, at)
 }
 
 /// The service's name.
-pub fn name_place(told: &Told<'_>) -> Place
+pub fn name_place(told: &Tokened<'_>) -> Place
     ensures { result ≡ spec.name_place told.now.text.now }
 {
     told_place(told, 1)
 }
 
 /// What a test is about, in the declaration of these tokens.
-fn site_place(told: &Told<'_>, own: Span, site: Site) -> Place
+fn site_place(told: &Tokened<'_>, own: Span, site: Site) -> Place
     requires { own.from < 2 ^ 63 }
     ensures { result ≡ spec.site_place told.now.text.now own site }
 {
-    let tokens = told.tokens.as_slice();
+    let tokens = told.tokens;
     match site {
         Site::Tokens(from, to) => span_place(
             tokens,
@@ -170,8 +179,8 @@ fn site_place(told: &Told<'_>, own: Span, site: Site) -> Place
         ),
         Site::Target(at) => token_place(tokens, own.from.saturating_add(at)),
         Site::Literal => span_place(tokens, own.from + 4, own.to.saturating_sub(1)),
-        Site::StartTag(number) => tag_there(tokens, &told.lexemes, own.from + 3, number),
-        Site::Hole(number) => hole_there(tokens, &told.lexemes, own.from + 3, number),
+        Site::StartTag(number) => tag_there(tokens, told.lexemes, own.from + 3, number),
+        Site::Hole(number) => hole_there(tokens, told.lexemes, own.from + 3, number),
     }
 }
 
@@ -243,12 +252,12 @@ pub fn fault_element(known: &Known<'_>, fault: &Fault) -> Option<Place>
 }
 
 /// The start tag of an element of a template, which is counted from 1.
-fn element_place(told: &Told<'_>, own: Span, element: u32) -> Place
+fn element_place(told: &Tokened<'_>, own: Span, element: u32) -> Place
     requires { own.from < 2 ^ 63 }
     ensures { Some result ≡ spec.element_place told.now.text.now element (Some own) }
 {
     let number = element.saturating_sub(1) as usize;
-    tag_there(told.tokens.as_slice(), &told.lexemes, own.from + 3, number)
+    tag_there(told.tokens, told.lexemes, own.from + 3, number)
 }
 
 /// The field that is received, or the gap that is plugged, which a fault is about; or else the whole statement.
@@ -258,20 +267,20 @@ pub fn fault_place(known: &Known<'_>, fault: &Fault) -> Place
     let own = statement_span(&known.drafts, fault.point);
     match named_token(&known.told, own, fault) {
         Some(at) => told_place(&known.told, at),
-        None => span_place(known.told.tokens.as_slice(), own.from, own.to),
+        None => span_place(known.told.tokens, own.from, own.to),
     }
 }
 
 /// The token of the field or the gap that a fault is about.
-fn named_token(told: &Told<'_>, own: Span, fault: &Fault) -> Option<usize>
+fn named_token(told: &Tokened<'_>, own: Span, fault: &Fault) -> Option<usize>
     ensures { result ≡ spec.named_token told.now.text.now own fault.now fault.now.template }
 {
     let name = fault.detail.as_bytes();
     if fault.template.is_some() {
         None
     } else if fault.number == 11 {
-        gap_in(&told.lexemes, name, own)
+        gap_in(told.lexemes, name, own)
     } else {
-        field_in(&told.lexemes, name, own)
+        field_in(told.lexemes, name, own)
     }
 }

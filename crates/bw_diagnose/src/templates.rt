@@ -1,12 +1,12 @@
 //! Which bytes of a template that is refused are shown.
 ghost use Rattle.std.specs.Prelude.{◌≡◌, ◌≤◌, ◌+◌, length, IfOk, option_map};
 ghost use Rattle.bw_lang.specs.declared.limits.TheConstants.{MAX_FILE_BYTES};
-ghost use Rattle.bw_diagnose.specs.Known.{tokens_in, lexemes_in};
+ghost use Rattle.bw_diagnose.specs.Known.{IsLent, tokens_in, lexemes_in};
 ghost use Rattle.bw_diagnose.specs.Templates as spec;
 
 use crate::attributes::repeated_in;
 use crate::finding::word_at;
-use crate::known::{Told, tell};
+use crate::known::{Tokened, with_tokens};
 use crate::markup::{Stuck, expected_behind, stuck_in};
 use crate::pairing::{Pair, refused_in};
 use crate::places::syntax_place;
@@ -15,7 +15,7 @@ use bw_excerpt::Place;
 use bw_hints::Expected;
 use bw_lang::limits::MAX_FILE_BYTES;
 use bw_lang::{Lexeme, Memory};
-use bw_syntax::SyntaxFault;
+use bw_syntax::{SyntaxFault, Told};
 use bw_tmpl::TmplFault;
 use std::alloc::Global;
 
@@ -173,7 +173,7 @@ fn shown_in(
 fn shown_at(
     alloc: Global,
     fault: TmplFault,
-    told: &Told<'_>,
+    told: &Tokened<'_>,
     name: &[u8],
     at: usize,
     lexeme: &Lexeme,
@@ -182,8 +182,8 @@ fn shown_at(
         spec.shown_at fault (tokens_in told.now.text.now) (lexemes_in told.now.text.now) name.now at lexeme.now) }
 {
     match lexeme {
-        Lexeme::Template(inside) if word_at(&told.lexemes, at.saturating_sub(2), name) => {
-            let start = token_start(told.tokens.as_slice(), at) + 6;
+        Lexeme::Template(inside) if word_at(told.lexemes, at.saturating_sub(2), name) => {
+            let start = token_start(told.tokens, at) + 6;
             shown_in(alloc, fault, start, inside.as_slice())
         }
         _ => Ok(None),
@@ -194,14 +194,13 @@ fn shown_at(
 fn shown_of(
     alloc: Global,
     fault: TmplFault,
-    told: &Told<'_>,
+    told: &Tokened<'_>,
     name: &[u8],
 ) -> Result<Option<Shown>, Memory>
     ensures { IfOk result (λ shown. shown ≡ spec.shown_among fault (tokens_in told.now.text.now) (lexemes_in told.now.text.now) name.now 0
         (lexemes_in told.now.text.now)) }
 {
-    let lexemes = told.lexemes.as_slice();
-    for (at, lexeme) in lexemes.iter().enumerate() {
+    for (at, lexeme) in told.lexemes.iter().enumerate() {
         let shown = shown_at(alloc, fault, told, name, at, lexeme)?;
         if shown.is_some() {
             return Ok(shown);
@@ -211,26 +210,37 @@ fn shown_of(
 }
 
 /// What is shown of a template that is refused.
-fn template_shown(alloc: Global, text: &[u8], fault: &SyntaxFault) -> Result<Option<Shown>, Memory>
+fn template_shown(
+    alloc: Global,
+    text: &[u8],
+    told: &Told,
+    fault: &SyntaxFault,
+) -> Result<Option<Shown>, Memory>
+    requires { IsLent text.now told.now fault.now }
     ensures { IfOk result (λ shown. shown ≡ spec.template_shown text.now fault.now) }
 {
     match fault {
         SyntaxFault::Template(name, fault) => {
-            let told = tell(alloc, text)?;
-            shown_of(alloc, *fault, &told, name.as_bytes())
+            shown_of(alloc, *fault, &with_tokens(text, told), name.as_bytes())
         }
         _ => Ok(None),
     }
 }
 
-/// What is shown of a text that is read as no service.
-pub fn syntax_shown(alloc: Global, text: &[u8], fault: &SyntaxFault) -> Result<Shown, Memory>
+/// What is shown of a text that is read as no service. Where the fault is about tokens, those of the text are lent.
+pub fn syntax_shown(
+    alloc: Global,
+    text: &[u8],
+    told: &Told,
+    fault: &SyntaxFault,
+) -> Result<Shown, Memory>
+    requires { IsLent text.now told.now fault.now }
     ensures { IfOk result (λ shown. shown ≡ spec.syntax_shown text.now fault.now) }
 {
-    match template_shown(alloc, text, fault)? {
+    match template_shown(alloc, text, told, fault)? {
         Some(shown) => Ok(shown),
         None => Ok(Shown {
-            first: syntax_place(alloc, text, fault)?,
+            first: syntax_place(text, told, fault),
             second: None,
             expected: None,
         }),

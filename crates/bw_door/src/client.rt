@@ -3,6 +3,7 @@ ghost use Rattle.std.specs.Prelude.{◌≡◌, ◌≢◌, ◌≤◌, ◌<◌, �
 ghost use Rattle.std.specs.Io.KnownBytes.{IsAtEnd, Keeps};
 ghost use Rattle.bw_door.specs.Flows.{sent_by};
 ghost use Rattle.bw_door.specs.Times.{is_message_late};
+ghost use Rattle.bw_door.specs.declared.desk.TheConstants.{AT_ONCE};
 
 use crate::limits::{Limits, is_over};
 use crate::settles::{Lack, Settles};
@@ -160,7 +161,7 @@ impl<S: Read> Client<S> {
     /// Reads what is there, until the message is whole. Nothing that the client sends is lost, unless it is to be let go.
     pub(crate) fn read<W: Settles>(&mut self, room: &mut [u8], settles: &mut W, now: u64) -> Heard
         requires some { 0 < length room.old }
-        requires few { length room.old ≤ 16384 }
+        requires few { length room.old ≤ AT_ONCE }
         ensures kept { result ≢ Heard.Broken → Keeps
             (sent_by self.old.inbox.items (S.remaining self.old.socket.stream))
             (sent_by self.new.inbox.items (S.remaining self.new.socket.stream)) }

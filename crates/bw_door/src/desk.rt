@@ -1,5 +1,6 @@
 //! Where clients are seen to.
 ghost use Rattle.std.specs.Prelude.{◌≡◌, ◌≤◌, ◌<◌, ◌+◌, [], vec_len};
+ghost use Rattle.bw_door.specs.declared.desk.TheConstants.{AT_ONCE};
 
 use crate::client::{Client, Heard};
 use crate::crowd::{Crowd, Due};
@@ -12,7 +13,7 @@ use std::alloc::{AllocError, Global};
 use std::mem;
 
 /// How many bytes are read at once.
-const AT_ONCE: usize = 16_384;
+pub const AT_ONCE: usize = 16_384;
 
 /// How much memory is kept at most for a later reply, in bytes.
 const SPARE: usize = 4_194_304;
@@ -33,7 +34,7 @@ pub(crate) struct Desk<W> {
     /// How many milliseconds it is since the port was opened, as last looked at.
     pub(crate) now: u64,
     ghost some: { 0 < vec_len room },
-    ghost few: { vec_len room ≤ 16384 },
+    ghost few: { vec_len room ≤ AT_ONCE },
     ghost empty: { spare.items ≡ [] },
 }
 

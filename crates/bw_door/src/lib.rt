@@ -28,6 +28,8 @@ pub use link::PortLink;
 pub use settles::{Lack, Settles};
 
 #[cfg(test)]
+mod acts;
+#[cfg(test)]
 mod pieces;
 #[cfg(test)]
 mod tests;

@@ -1,16 +1,16 @@
 //! A single client over a stream that is made up, whose bytes come and go in pieces.
+use crate::acts::Lines;
 use crate::client::{Client, Heard};
 use crate::leaving::{Leaving, Went};
 use crate::limits::Limits;
 use crate::link::PortLink;
 use crate::peer::Peer;
-use crate::tests::Lines;
 use crate::timed::Timed;
 use bw_out::{Source, write_all};
 use std::alloc::Global;
 use std::io;
 use std::io::{ErrorKind, Read, Write};
-use std::test::Fail;
+use std::process::Abort;
 
 /// A stream whose client sends these pieces, each of which comes at a read of its own, and then nothing now. An empty
 /// piece is its end. It takes so many bytes at a write, and none at every other one.
@@ -79,23 +79,30 @@ impl Peer for Scripted {
     }
 }
 
-#[test]
-fn reads_and_sends_in_pieces(rt: HostRuntime) -> Result<(), Fail> {
-    let alloc = rt.alloc();
+/// A client is read whose message comes in pieces, with more behind it.
+fn read_pieces<R: Abort>(rt: &R, alloc: Global) -> Client<Scripted> {
     let mut room = [0u8; 16];
-    let limits = Limits::usual();
     let pieces: &'static [&'static [u8]] = &[b"wh", b"o?\nmore", b"late", b""];
     let mut client = Client::new(alloc, Scripted::new(alloc, pieces, 3), 0);
     assert_eq!(rt; client.read(&mut room, &mut Lines, 7), Heard::Whole);
+    let limits = Limits::usual();
     assert!(rt; !client.is_late(limits, 5_006) && client.is_late(limits, 5_007));
+    client
+}
 
+/// The link of that client gives all that was read, and gets a reply.
+fn write_reply<R: Abort>(rt: &R, alloc: Global, client: Client<Scripted>) -> Leaving<Scripted> {
     let mut link = PortLink::new(client, false, Vec::new(alloc));
     let mut asked = [0u8; 16];
-    assert_eq!(rt; link.read(&mut asked)?, 9);
+    assert_eq!(rt; link.read(&mut asked).expect(rt, "read"), 9);
     assert!(rt; asked.starts_with(b"who?\nmore"));
     assert!(rt; write_all(&mut link, b"a reply").is_ok());
+    Leaving::new(link, 10)
+}
 
-    let mut leaving = Leaving::new(link, 10);
+/// The client gets its reply until all is over, after so many looks.
+fn send_reply<R: Abort>(rt: &R, leaving: &mut Leaving<Scripted>) -> u32 {
+    let mut room = [0u8; 16];
     let mut looks = 0u32;
     let mut went = Went::Waits;
     'looks: for now in 11..40 {
@@ -105,11 +112,17 @@ fn reads_and_sends_in_pieces(rt: HostRuntime) -> Result<(), Fail> {
         }
     }
     assert_eq!(rt; went, Went::Over, "the client has ended");
-    assert_eq!(rt; looks, 4);
+    looks
+}
+
+#[test]
+fn reads_and_sends_in_pieces(rt: HostRuntime) {
+    let client = read_pieces(&rt, rt.alloc());
+    let mut leaving = write_reply(&rt, rt.alloc(), client);
+    assert_eq!(rt; send_reply(&rt, &mut leaving), 4);
     assert!(rt;
         leaving.stream().taken.as_slice() == b"a reply".as_slice(),
         "in order"
     );
     assert!(rt; leaving.stream().told, "nothing more comes");
-    Ok(())
 }

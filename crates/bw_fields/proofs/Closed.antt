@@ -3,7 +3,7 @@ use Rattle.std.proofs.Common.{◌≡◌, inl, inr, ℕ, ◌<◌, ◌≤◌, ◌=
 use Rattle.std.proofs.Common.{sym, ◌∙◌, subst, arith, cond, count_by, append_assoc}
 use Rattle.std.specs.Prelude.{codes, if◌then◌else◌}
 use Rattle.std.specs.List.{list_all, list_any}
-use Rattle.std.proofs.lemmas.Bool.{false≢true, cases_Bool, or_left, or_right}
+use Rattle.std.proofs.lemmas.Bool.{false≢true, cases_Bool, or_left, or_right, and_parts, and_from}
 use Rattle.std.proofs.lemmas.List.Folds.{list_any-append, list_all-append}
 use Rattle.std.proofs.lemmas.List.Sums.{sum_by-append, sum_by-cons}
 use Rattle.std.proofs.lemmas.Slice.Eq.{bytes_eq-Decides}
@@ -27,7 +27,6 @@ use Rattle.bw_fields.specs.Found.{is_misfit, fault_of}
 use Rattle.bw_fields.specs.Received as received
 use Rattle.bw_fields.specs.Received.{names_of, is_of_kind}
 use Rattle.bw_fields.specs.Laws.{FieldIsThere}
-use Rattle.bw_shape.proofs.Nodes.Bools.{and_parts, and_both}
 use Rattle.bw_fields.proofs.Sound.{implied, by_values, same_field, no_lack_there}
 use Rattle.bw_fields.proofs.Twice.{not_twice}
 
@@ -70,7 +69,7 @@ closed_fields (element tag a i r) p =
 given_stays : {G : Graph} {n : ℕ} {a b : List Attr} (x : List ℕ) → FillsAttrs G n a b → is_given x a ≡ true → is_given x b ≡ true
 given_stays x no_more h = refl
 given_stays x (more {x = y} {u = u} {v = v} {a = a} {b = b} q r) h = let k = and_parts _ _ h in
-    and_both (not (same y x) || is_fixed v) (is_given x b) (fixed_stays (same y x) q k.0) (given_stays x r k.1)
+    and_from (not (same y x) || is_fixed v) (is_given x b) (fixed_stays (same y x) q k.0) (given_stays x r k.1)
   where
     fixed_stays : {G : Graph} {n : ℕ} {u v : AttrValue} (b : Bool) → FillsValue G n u v → (not b || is_fixed u) ≡ true → (not b || is_fixed v) ≡ true
     fixed_stays b kept h = h
@@ -84,8 +83,8 @@ plain_stays {a = a} {b = b} tag q h = elim (cases_Bool (is_control tag)) [
       let k = and_parts _ _ (implied (is_control tag) _ h it) in
       let l = and_parts _ _ k.1 in
       or_right (not (is_control tag)) _
-      (and_both (is_given (codes "name") b) _ (given_stays (codes "name") q k.0)
-      (and_both (is_given (codes "type") b) _ (given_stays (codes "type") q l.0) (given_stays (codes "multiple") q l.1)))
+      (and_from (is_given (codes "name") b) _ (given_stays (codes "name") q k.0)
+      (and_from (is_given (codes "type") b) _ (given_stays (codes "type") q l.0) (given_stays (codes "multiple") q l.1)))
   | inr isnt ↦ or_left (not (is_control tag)) _ (ap not isnt)
 ]
 
@@ -122,8 +121,8 @@ all_by p all h k e (inside {tag = tag} {a = a} {b = b} {i = i} {j = j} {t = t} {
     let u = and_parts _ _ (sym (list_all-append p (field_of tag a) (fields i ++ fields t)) ∙ e) in
     let v = and_parts _ _ (sym (list_all-append p (fields i) (fields t)) ∙ u.1) in
     list_all-append p (field_of tag b) (fields j ++ fields d)
-    ∙ and_both _ _ (ap (list_all p) (same_field tag q k.0) ∙ u.0)
-    (list_all-append p (fields j) (fields d) ∙ and_both _ _ (all_by p all h k.1.0 v.0 f) (all_by p all h k.1.1 v.1 r))
+    ∙ and_from _ _ (ap (list_all p) (same_field tag q k.0) ∙ u.0)
+    (list_all-append p (fields j) (fields d) ∙ and_from _ _ (all_by p all h k.1.0 v.0 f) (all_by p all h k.1.1 v.1 r))
 all_by p all h k e (left l r) = all_by p all h k e r
 all_by p all h k e (said l r) = all_by p all h k e r
 all_by p all h k e (led {m = m} {d = d} {e = x} l i r) =

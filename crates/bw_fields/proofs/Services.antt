@@ -4,7 +4,7 @@ use Rattle.std.proofs.Common.{sym, ◌∙◌, subst, arith}
 use Rattle.std.specs.Prelude.{codes, flat_map, find}
 use Rattle.std.specs.List.{All, AllPairs, Contains, list_all, list_any}
 use Rattle.std.specs.Option.{option_map}
-use Rattle.std.proofs.lemmas.Bool.{false≢true, cases_Bool, or_left, or_right}
+use Rattle.std.proofs.lemmas.Bool.{false≢true, cases_Bool, or_left, or_right, and_parts, and_from, or_parts}
 use Rattle.std.proofs.lemmas.List.{get_or_past}
 use Rattle.std.proofs.lemmas.List.Folds.{list_all-append}
 use Rattle.std.proofs.lemmas.Option.{unwrap_or-slice_get}
@@ -21,7 +21,6 @@ use Rattle.bw_lang.specs.Document.Documents.{is_open}
 use Rattle.bw_lang.specs.Document.Forest.{Forest, none, text, gap, element}
 use Rattle.bw_lang.specs.Table.Names.{same, beside}
 use Rattle.bw_lang.specs.Document.Wrappers.{show_wrapper, exit_wrapper}
-use Rattle.bw_shape.proofs.Nodes.Bools.{and_parts, and_both, or_parts}
 use Rattle.bw_sum.specs.Templates.{all_items, template_items}
 use Rattle.bw_types.specs.Fields.{template_fields, kind_of_field}
 use Rattle.bw_types.specs.Scopes.{is_among}
@@ -44,7 +43,7 @@ given x m [] h = refl
 given x m (a ∷ attrs) h =
     let p = or_parts (is_bad_attr a) (list_any is_bad_attr attrs) h in
     let q = or_parts (is_open a.value && is_among a.name three) (same a.name (codes "disabled")) p.0 in
-    and_both (not (same a.name x) || is_fixed a.value) (is_given x attrs) (elim (cases_Bool (same a.name x)) [
+    and_from (not (same a.name x) || is_fixed a.value) (is_given x attrs) (elim (cases_Bool (same a.name x)) [
       | inl it ↦
           let e = (bytes_eq-Decides a.name x).0 it in
           or_right (not (same a.name x)) (is_fixed a.value)
@@ -58,8 +57,8 @@ plain_element tag attrs h = elim (cases_Bool (is_control tag)) [
       let b = (or_parts (list_any is_bad_attr attrs) (has_other_type tag attrs)
       (sym (ap (λ c. c && (list_any is_bad_attr attrs || has_other_type tag attrs)) it) ∙ h)).0 in
       or_right (not (is_control tag)) _
-      (and_both (is_given (codes "name") attrs) _ (given (codes "name") refl attrs b)
-      (and_both (is_given (codes "type") attrs) (is_given (codes "multiple") attrs) (given (codes "type") refl attrs b)
+      (and_from (is_given (codes "name") attrs) _ (given (codes "name") refl attrs b)
+      (and_from (is_given (codes "type") attrs) (is_given (codes "multiple") attrs) (given (codes "type") refl attrs b)
       (given (codes "multiple") refl attrs b)))
   | inr isnt ↦ or_left (not (is_control tag)) _ (ap not isnt)
 ]
@@ -100,7 +99,7 @@ kind_itself Many = refl
 all_each : {X : Type 0} (p : X → Bool) (xs : List X) → ((x : X) → Contains xs x → p x ≡ true) → list_all p xs ≡ true
 all_each p [] h = refl
 all_each p (x ∷ xs) h =
-    and_both (p x) (list_all p xs) (h x (0, omega arith, refl)) (all_each p xs (λ y c. h y (suc c.0, (let l = c.1 in omega (arith, l)), c.2)))
+    and_from (p x) (list_all p xs) (h x (0, omega arith, refl)) (all_each p xs (λ y c. h y (suc c.0, (let l = c.1 in omega (arith, l)), c.2)))
 
 abbrev Agree : List ℕ × FieldKind → List ℕ × FieldKind → Type 0
 Agree x y = x.0 ≡ y.0 → x.1 ≡ y.1
@@ -113,7 +112,7 @@ one_kind w (x ∷ xs) h = by_test (same w x.0) refl (one_kind w xs (λ i j d l m
         → list_all (is_of_kind w (option_map (λ (y : List ℕ × FieldKind). y.1) (cond b (Some x) (find (λ y. same w y.0) xs)))) (x ∷ xs) ≡ true
     by_test true e ih =
         let wx : w ≡ x.0 = (bytes_eq-Decides w x.0).0 e in
-        and_both (is_of_kind w (Some x.1) x) _ (or_right (not (same x.0 w)) _ (kind_itself x.1))
+        and_from (is_of_kind w (Some x.1) x) _ (or_right (not (same x.0 w)) _ (kind_itself x.1))
         (all_each (is_of_kind w (Some x.1)) xs (λ z c. elim (cases_Bool (same z.0 w)) [
           | inl it ↦
               let zw : z.0 ≡ w = (bytes_eq-Decides z.0 w).0 it in
@@ -127,7 +126,7 @@ one_kind w (x ∷ xs) h = by_test (same w x.0) refl (one_kind w xs (λ i j d l m
           | inl it ↦ absurd (false≢true (sym e ∙ (bytes_eq-Decides w x.0).1 (sym ((bytes_eq-Decides x.0 w).0 it))))
           | inr isnt ↦ isnt
         ] in
-        and_both (is_of_kind w (beside w xs) x) _ (or_left (not (same x.0 w)) _ (ap not differs)) ih
+        and_from (is_of_kind w (beside w xs) x) _ (or_left (not (same x.0 w)) _ (ap not differs)) ih
 
 kinds_at : (p : List ℕ × FieldKind → Bool) (ts : List Template) (g : ℕ) → list_all p (flat_map (λ t. fields t.items) ts) ≡ true → (n : ℕ)
     → list_all p (fields (get_or (map (λ t. t.items) ts ++ show_wrapper g ∷ exit_wrapper g ∷ []) n none)) ≡ true

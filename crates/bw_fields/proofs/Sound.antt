@@ -1,7 +1,7 @@
 -- Where a page may not lack a field, each unfolding has it.
 use Rattle.std.proofs.Common.{◌≡◌, inl, inr, ℕ, Bool, true, false, ◌||◌, not, List, Option, Some, None, refl, ap, sym, ◌∙◌}
 use Rattle.std.specs.Prelude.{codes, if◌then◌else◌}
-use Rattle.std.proofs.lemmas.Bool.{false≢true, cases_Bool}
+use Rattle.std.proofs.lemmas.Bool.{false≢true, cases_Bool, and_parts, or_parts}
 use Rattle.bw_lang.specs.declared.items.Attr.{Attr}
 use Rattle.bw_lang.specs.declared.items.AttrValue.{AttrValue}
 use Rattle.bw_lang.specs.declared.controls.FieldKind.{FieldKind}
@@ -16,7 +16,6 @@ use Rattle.bw_shape.specs.Tests.{stands}
 use Rattle.bw_shape.specs.Shape as shape
 use Rattle.bw_shape.specs.Shape.{Lacks}
 use Rattle.bw_sum.specs.Unfolding.{FillsValue, kept, left_open, said_in, FillsAttrs, no_more, more, Fills, end, words, inside, left, said, led}
-use Rattle.bw_shape.proofs.Nodes.Bools.{and_parts, or_parts}
 use Rattle.bw_shape.proofs.Outcomes.{sure}
 use Rattle.bw_shape.proofs.Walks.{stands-append}
 use Rattle.bw_fields.specs.Plain.{is_fixed, is_given, is_plain, ArePlain}

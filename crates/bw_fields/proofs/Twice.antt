@@ -1,7 +1,7 @@
 -- Where a page may not have a field twice, no unfolding has.
 use Rattle.std.proofs.Common.{◌≡◌, ◌⊎◌, inl, inr, ℕ, zero, suc, ◌+◌, ◌≤◌, ◌==◌, true, false, ◌||◌, List, refl, ap, sym, ◌∙◌, arith}
 use Rattle.std.specs.List.{list_any}
-use Rattle.std.proofs.lemmas.Bool.{false≢true, cases_Bool, or_cases, or_left, or_right}
+use Rattle.std.proofs.lemmas.Bool.{false≢true, cases_Bool, or_cases, or_left, or_right, or_parts}
 use Rattle.bw_lang.specs.declared.items.Attr.{Attr}
 use Rattle.bw_lang.specs.Document.Forest.{Forest, none, text, gap, element}
 use Rattle.bw_lang.specs.Document.Documents.{append, one_if}
@@ -13,7 +13,6 @@ use Rattle.bw_shape.specs.Shape.{Has, Places, Doubles}
 use Rattle.bw_sum.specs.Unfolding.{FillsAttrs, Fills, end, words, inside, left, said, led}
 use Rattle.bw_fields.specs.Plain.{is_plain, ArePlain, controls}
 use Rattle.bw_fields.specs.Laws.{NotTwice}
-use Rattle.bw_shape.proofs.Nodes.Bools.{or_parts}
 use Rattle.bw_shape.proofs.Walks.{stands-append}
 use Rattle.bw_fields.proofs.Sound.{same_field}
 

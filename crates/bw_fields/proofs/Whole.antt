@@ -1,7 +1,7 @@
 -- The faults of a show's received fields.
 use Rattle.std.proofs.Common.{◌≡◌, ◌↔◌, inl, inr, ℕ, true, List, [], length, get_or, Option, Some, None, refl, ap, sym, subst}
 use Rattle.std.specs.List.{All}
-use Rattle.std.proofs.lemmas.Bool.{false≢true}
+use Rattle.std.proofs.lemmas.Bool.{false≢true, and_parts, and_from}
 use Rattle.std.proofs.lemmas.List.Elements.{All-contains, Contains-get_or}
 use Rattle.bw_faults.specs.declared.fault.Fault.{Fault}
 use Rattle.bw_faults.specs.Lists.{Lists, OfSome}
@@ -12,7 +12,6 @@ use Rattle.bw_lang.specs.declared.controls.FieldKind.TheVariants.{Single, Choice
 use Rattle.bw_lang.specs.declared.service.Service.{Service}
 use Rattle.bw_lang.specs.Document.Documents.{close}
 use Rattle.bw_lang.specs.Document.Forest.{Forest}
-use Rattle.bw_shape.proofs.Nodes.Bools.{and_parts, and_both}
 use Rattle.bw_schema.specs.declared.schema.Schema.{Schema}
 use Rattle.bw_strings.specs.Literals.{literals_of}
 use Rattle.bw_sum.specs.Graph.{Graph, graph}
@@ -68,7 +67,7 @@ module _ (service : Service) (page : Summary) (schema : Schema) (o : Outline) (s
   field_from : (r : Received) → IsReceived service r → {f : Fault} → IsFaultOf T G root service point r f → OfField service o root point r f
   field_from r k (received.missing h) = inl ((lack_is r k).1 h, refl)
   field_from r k (received.repeated e h) =
-      inr (inl (and_both (may_have_twice o root r.id) (is_single (kind_of_field service r.field)) ((twice_is r k).1 h) (ap is_single e), refl))
+      inr (inl (and_from (may_have_twice o root r.id) (is_single (kind_of_field service r.field)) ((twice_is r k).1 h) (ap is_single e), refl))
   field_from r k (received.unfit h) = inr (inr (h, refl))
 
   pub exact_fields : (rs : List Received) → All (IsReceived service) rs → (l : List Fault) → Lists (OfSome (OfField service o root point) rs) l

@@ -46,7 +46,7 @@ use Rattle.bw_format.specs.Frames.{full_row, behind, whole, fresh, with_atom, op
 use Rattle.bw_format.specs.Signs.{sign, is_plain_sign, is_inner}
 use Rattle.bw_format.specs.Reading.{at, outside, piece, bracket, inside, dash, run_on, maybe_outside, finish, read}
 use Rattle.bw_format.specs.Spelling.{spell, spell_members, AreMembers, IsClass, level, Levelled, nest, Spells}
-use Rattle.std.proofs.lemmas.Bool.{eqb-true, leb-true, le-ltb}
+use Rattle.std.proofs.lemmas.Bool.{eqb-true, leb-true, le-ltb, false_from_ne_true}
 use Rattle.std.proofs.lemmas.List.{append-nil}
 use Rattle.bw_format.specs.declared.limits.TheConstants.{MAX_GROUPS}
 
@@ -64,14 +64,10 @@ plain_sign signs.Star h = cc
 plain_sign signs.Plus h = cc
 plain_sign signs.Optional h = cc
 
-not_true : (b : Bool) → (b ≡ true → ⊥) → b ≡ false
-not_true true h = absurd (h refl)
-not_true false h = refl
-
 -- a character between brackets isn't one that can't stand there
 pub inner_is_not : (c d : ℕ) → IsTrue (is_inner c) → is_inner d ≡ false → (c == d) ≡ false
 inner_is_not c d h e =
-    not_true (c == d) (λ t. let same : c ≡ d = eqb-true c d t in let k : false ≡ true = sym e ∙ ap is_inner (sym same) ∙ h in cc)
+    false_from_ne_true (c == d) (λ t. let same : c ≡ d = eqb-true c d t in let k : false ≡ true = sym e ∙ ap is_inner (sym same) ∙ h in cc)
 
 second : {A : Type 0} (a b : Bool) (x y z : A) → a ≡ false → b ≡ true → cond a x (cond b y z) ≡ y
 second true b x y z e h = cc
@@ -154,7 +150,7 @@ atom_piece p h f = (with_atom f p, refl, refl, h f)
 
 group_atom : (p : Pattern) → Choice p → Atom (group p)
 group_atom p h f outer rest room =
-    let few : nat_le MAX_GROUPS (length outer) ≡ false = not_true (nat_le MAX_GROUPS (length outer)) (λ t. omega (arith, leb-true MAX_GROUPS (length outer) t, room)) in
+    let few : nat_le MAX_GROUPS (length outer) ≡ false = false_from_ne_true (nat_le MAX_GROUPS (length outer)) (λ t. omega (arith, leb-true MAX_GROUPS (length outer) t, room)) in
     ap (λ b. run_on (spell p (41 ∷ rest)) (maybe_outside (cond b None (Some (record { outer = f ∷ outer; frame = fresh None }))))) few
     ∙ h.2 (f ∷ outer) (41 ∷ rest) (omega (arith, room))
     ∙ ap (λ q. run_on rest (of outer (with_atom f (group q)))) h.1

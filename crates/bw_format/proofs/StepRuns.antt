@@ -2,7 +2,7 @@
 use Rattle.std.proofs.Common.{◌≡◌, ◌<◌, ◌≤◌, ℕ, ◌+◌, List, ◌∷◌, map, length, drop, get_or, ap, sym, ◌∙◌}
 use Rattle.std.proofs.lemmas.List.{at_drop_more, at_drop_all}
 use Rattle.bw_format.specs.declared.steps.Step.{Step}
-use Rattle.bw_format.specs.declared.steps.Walk.{Walk}
+use Rattle.bw_format.specs.declared.walking.Walk.{Walk}
 use Rattle.bw_format.specs.Steps.{op, stepped, run}
 
 -- one of them

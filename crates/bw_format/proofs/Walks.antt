@@ -5,8 +5,8 @@ use Rattle.std.proofs.lemmas.List.{get_or-set_same, get_or-set_other, length-set
 use Rattle.bw_format.specs.declared.light.Light.{Light}
 use Rattle.bw_format.specs.declared.light.Light.TheVariants.{Green, Yellow, Red}
 use Rattle.bw_format.specs.declared.steps.At.{At}
-use Rattle.bw_format.specs.declared.steps.Ends.{Ends}
-use Rattle.bw_format.specs.declared.steps.Walk.{Walk}
+use Rattle.bw_format.specs.declared.walking.Ends.{Ends}
+use Rattle.bw_format.specs.declared.walking.Walk.{Walk}
 use Rattle.bw_format.specs.Classes.{holds}
 use Rattle.bw_format.specs.Pattern.{Pattern, nothing, one, sequence, either, star, plus, optional, group, places, repeats}
 use Rattle.bw_format.specs.Marks.{marked, ends, skips, ended, shifted, light_from}

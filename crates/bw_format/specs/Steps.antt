@@ -2,8 +2,8 @@
 use Rattle.std.specs.Prelude.{◌<◌, ℕ, ◌+◌, Bool, false, ◌&&◌, ◌||◌, List, [], ◌∷◌, ◌++◌, get_or, set}
 use Rattle.bw_format.specs.declared.pattern.Class.{Class}
 use Rattle.bw_format.specs.declared.steps.At.{At}
-use Rattle.bw_format.specs.declared.steps.Ends.{Ends}
-use Rattle.bw_format.specs.declared.steps.Walk.{Walk}
+use Rattle.bw_format.specs.declared.walking.Ends.{Ends}
+use Rattle.bw_format.specs.declared.walking.Walk.{Walk}
 use Rattle.bw_format.specs.declared.steps.Step.{Step}
 use Rattle.bw_format.specs.declared.steps.Step.TheVariants as step
 use Rattle.bw_format.specs.Classes.{holds}

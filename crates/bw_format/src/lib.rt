@@ -11,6 +11,7 @@ mod line;
 pub mod pattern;
 mod reader;
 mod steps;
+mod walking;
 
 pub use file::{FormatFault, read_formats};
 pub use format::{Format, Formats};

@@ -8,7 +8,8 @@ ghost use Rattle.bw_format.specs.declared.limits.TheConstants.{MAX_PATTERN_CHARS
 
 use crate::limits::MAX_PATTERN_CHARS;
 use crate::pattern::{Node, Pattern};
-use crate::steps::{At, Step, Walk};
+use crate::steps::{At, Step};
+use crate::walking::Walk;
 use arrayvec::ArrayVec;
 
 /// How a text stands to a pattern.
@@ -112,6 +113,9 @@ impl Moved {
         }
     }
 }
+
+/// The bytes from which on a text is worth laying the steps out for.
+const WORTH_STEPS: usize = 4;
 
 impl Pattern {
     /// Whether it may end here.
@@ -245,13 +249,13 @@ impl Pattern {
     }
 
     /// The light of a text. It takes no memory. The steps take a fraction of the time that the tree takes. By the tree go
-    /// the empty text, for which it would take longer to lay them out, and a pattern that has no room for them.
+    /// texts that are read sooner than the steps are laid out, and a pattern that has no room for them.
     pub fn light(&self, text: &str) -> Light
         requires places { places self.now ≤ MAX_PATTERN_CHARS }
         requires repeats { repeats self.now ≤ MAX_PATTERN_CHARS }
         ensures { result ≡ spec.light self.now (chars text.now) }
     {
-        if text.is_empty() {
+        if text.len() < WORTH_STEPS {
             return self.light_by_tree(text);
         }
         let mut steps = ArrayVec::new();

@@ -166,21 +166,31 @@ meant_words w = codes "perhaps you mean " ++ w
 abbrev pub five : List ℕ → List ℕ → List ℕ → List ℕ → List ℕ → List ℕ
 five a b c d e = a ++ (b ++ (c ++ (d ++ e)))
 
--- what a fault of the check says, by its number, its detail and the tag of its element
+-- what the check's faults of fields and plugs say, by their number and their detail
+abbrev pub field_what : ℕ → List ℕ → List ℕ
+field_what number detail =
+    if number == 8 then (five (codes "a page of this show may have no field ") detail (codes "") [] (codes "")) else (
+    if number == 9 then (five (codes "a page of this show may have the field ") detail (codes " more than once") [] (codes "")) else (
+    if number == 10 then (five (codes "the field ") detail (codes " may send what doesn't fit the variable") [] (codes "")) else (
+    five (codes "a plug here may find no open gap ") detail (codes "") [] (codes ""))))
+
+-- the same of faults of an element's content, by the tag of the element too, and of those of fields and plugs
+abbrev pub content_what : ℕ → List ℕ → List ℕ → List ℕ
+content_what number detail tag =
+    if number == 4 then (five (codes "this page may have <") detail (codes "> in <") tag (codes ">, which the schema doesn't allow there")) else (
+    if number == 5 then (five (codes "this page may have text in <") tag (codes ">, where the schema allows none") [] (codes "")) else (
+    if number == 6 then (five (codes "the root of this page is <") detail (codes ">, and the schema has another one") [] (codes "")) else (
+    if number == 7 then (five (codes "on this page <") tag (codes "> may not have what its rule needs") [] (codes "")) else (
+    field_what number detail))))
+
+-- what each fault of the check says
 abbrev pub fault_what : ℕ → List ℕ → List ℕ → List ℕ
 fault_what number detail tag =
     if number == 1 then (five (codes "on this page <") tag (codes "> may have the attribute ") detail (codes ", which the schema doesn't allow")) else (
     if number == 2 then (five (codes "on this page <") tag (codes "> may lack the attribute ") detail (codes ", which the schema requires")) else (
     if number == 3 then (five (codes "on this page the attribute ") detail (codes " of <") tag
     (codes "> may have a value that the schema doesn't allow")) else (
-    if number == 4 then (five (codes "this page may have <") detail (codes "> in <") tag (codes ">, which the schema doesn't allow there")) else (
-    if number == 5 then (five (codes "this page may have text in <") tag (codes ">, where the schema allows none") [] (codes "")) else (
-    if number == 6 then (five (codes "the root of this page is <") detail (codes ">, and the schema has another one") [] (codes "")) else (
-    if number == 7 then (five (codes "on this page <") tag (codes "> may not have what its rule needs") [] (codes "")) else (
-    if number == 8 then (five (codes "a page of this show may have no field ") detail (codes "") [] (codes "")) else (
-    if number == 9 then (five (codes "a page of this show may have the field ") detail (codes " more than once") [] (codes "")) else (
-    if number == 10 then (five (codes "the field ") detail (codes " may send what doesn't fit the variable") [] (codes "")) else (
-    five (codes "a plug here may find no open gap ") detail (codes "") [] (codes "")))))))))))
+    content_what number detail tag)))
 
 abbrev pub fault_mend : ℕ → List ℕ
 fault_mend number =

@@ -381,7 +381,16 @@ pub fn push_fault_what(
             tag,
             b"> may have a value that the schema doesn't allow",
         )
-    } else if number == 4 {
+    } else {
+        push_content_what(out, number, detail, tag)
+    }
+}
+
+/// The same of faults of an element's content, and of those of fields and plugs.
+fn push_content_what(out: &mut Vec<u8>, number: u8, detail: &[u8], tag: &[u8]) -> Result<(), Memory>
+    ensures { OnOk result (out.new.items ≡ out.old.items ++ spec.content_what number detail.now tag.now) }
+{
+    if number == 4 {
         push_five(
             out,
             b"this page may have <",
@@ -417,7 +426,16 @@ pub fn push_fault_what(
             b"",
             b"",
         )
-    } else if number == 8 {
+    } else {
+        push_field_what(out, number, detail)
+    }
+}
+
+/// The same of faults of fields and plugs.
+fn push_field_what(out: &mut Vec<u8>, number: u8, detail: &[u8]) -> Result<(), Memory>
+    ensures { OnOk result (out.new.items ≡ out.old.items ++ spec.field_what number detail.now) }
+{
+    if number == 8 {
         push_five(
             out,
             b"a page of this show may have no field ",

@@ -1,6 +1,6 @@
 -- The faults 4 and 5 of an element, exactly.
 use Rattle.std.proofs.Common.{◌≡◌, inl, inr, ℕ, ◌+◌, ◌<◌, ◌==◌, Bool, true, ◌||◌, ◌&&◌, not, List, [], length, get_or, refl, ap, sym, ◌∙◌, subst, arith}
-use Rattle.std.proofs.lemmas.Bool.{false≢true, or_cases}
+use Rattle.std.proofs.lemmas.Bool.{false≢true, or_cases, and_parts, and_from, not-true}
 use borrow.Author.Tests.{eqb-true}
 use Rattle.bw_lang.specs.Document.Forest.{Forest, none, text, gap, element}
 use Rattle.bw_lang.specs.Table.Names.{name_number}
@@ -14,7 +14,6 @@ use Rattle.bw_shape.specs.Columns.{AreKnown, top_column}
 use Rattle.bw_shape.specs.Nodes.Templates.{template_at}
 use Rattle.bw_lang.specs.Text.Bytes.{is_blank_text}
 use Rattle.bw_shape.specs.Tests.{gives, tag_column}
-use Rattle.bw_shape.proofs.Nodes.Bools.{and_parts, and_both, not_true}
 use Rattle.bw_shape.proofs.Links.{led_sound, named}
 use Rattle.bw_shape.proofs.ExactFields.{derived_all}
 use Rattle.bw_shape.proofs.ExactTops.{gives_by, tops_sound, tops_test}
@@ -73,7 +72,7 @@ module _ (templates : List Forest) (nodes : List Node) (G : Graph) (root : ℕ) 
       → ContentFault (template_at templates) G s has txt n inner f
   is_fault f (inl h) =
       let p = and_parts (gives tags (node_at nodes n) (λ m. at tops m 0) 0 inner) (not txt) h.0 in
-      subst (ContentFault (template_at templates) G s has txt n inner) (sym h.1) (words (given_top wordy (omega arith) p.0) (not_true _ p.1))
+      subst (ContentFault (template_at templates) G s has txt n inner) (sym h.1) (words (given_top wordy (omega arith) p.0) (not-true _ p.1))
   is_fault f (inr h) =
       let c = h.0 in
       let p = and_parts (gives tags (node_at nodes n) (λ m. at tops m (c + 1)) (c + 1) inner) (is_bad_tag has tags c) h.2.0 in
@@ -83,13 +82,13 @@ module _ (templates : List Forest) (nodes : List Node) (G : Graph) (root : ℕ) 
       let is : get_or tags c [] ≡ y.0 = sym (named tags y.0 low ∙ ap (λ k. get_or tags k []) y.1) in
       subst (ContentFault (template_at templates) G s has txt n inner) (sym (h.2.1 ∙ ap (fault_at s 4) is))
       (child (given_top (tagged y.0) (omega (arith, low)) (subst (λ k. gives tags (node_at nodes n) (λ m. at tops m k) k inner ≡ true) e p.0))
-      (sym (ap (is_among has) is) ∙ not_true _ p.1))
+      (sym (ap (is_among has) is) ∙ not-true _ p.1))
 
   from_fault : Reached G root n → AreKnown tags inner → (f : Fault) → ContentFault (template_at templates) G s has txt n inner f
       → OfContent s has txt tags (λ c. gives tags (node_at nodes n) (λ m. at tops m c) c inner) (length tags) f
   from_fault w a f (words g e) =
       let q = tops_test templates t.fits root tags t.known tops t.closed w a g in
-      inl (and_both _ _ q.1 (ap not e), refl)
+      inl (and_from _ _ q.1 (ap not e), refl)
   from_fault w a f (child {x = x} g e) =
       let q = tops_test templates t.fits root tags t.known tops t.closed w a g in
       let c = name_number tags x in
@@ -100,7 +99,7 @@ module _ (templates : List Forest) (nodes : List Node) (G : Graph) (root : ℕ) 
         c,
         low,
         (
-          and_both _ _ (subst (λ k. gives tags (node_at nodes n) (λ m. at tops m k) k inner ≡ true) one q.1) (ap not (ap (is_among has) (sym is) ∙ e)),
+          and_from _ _ (subst (λ k. gives tags (node_at nodes n) (λ m. at tops m k) k inner ≡ true) one q.1) (ap not (ap (is_among has) (sym is) ∙ e)),
           ap (fault_at s 4) is,
         ),
       )

@@ -2,7 +2,7 @@
 use Rattle.std.proofs.Common.{◌≡◌, inl, inr, ℕ, suc, ◌+◌, not, List, [], ◌∷◌, Option, Some, None, is_some, unwrap_or, if◌then◌else◌, refl, ap, sym, ◌∙◌, subst}
 use Rattle.std.proofs.Common.{arith}
 use Rattle.std.specs.List.{Contains}
-use Rattle.std.proofs.lemmas.Bool.{false≢true, cases_Bool}
+use Rattle.std.proofs.lemmas.Bool.{false≢true, cases_Bool, not-true}
 use Rattle.bw_lang.specs.declared.items.Attr.{Attr}
 use Rattle.bw_lang.specs.Document.Forest.{Forest, none, text, gap, element}
 use Rattle.bw_lang.specs.Document.Documents.{elements}
@@ -19,7 +19,6 @@ use Rattle.bw_shape.specs.Shape.{Reached}
 use Rattle.bw_shape.specs.Columns.{AreKnown}
 use Rattle.bw_shape.specs.Nodes.Templates.{template_at}
 use Rattle.bw_shape.specs.declared.tables.Tables.{Tables}
-use Rattle.bw_shape.proofs.Nodes.Bools.{not_true}
 use Rattle.bw_judge.specs.declared.content.Spot.{Spot}
 use Rattle.bw_faults.specs.Lists.{When}
 use Rattle.bw_judge.specs.Scene.{Scene}
@@ -107,7 +106,7 @@ module _ (templates : List Forest) (nodes : List Node) (said : List (List (ℕ �
       → OfRoot point schema.root root t f → IsFault (template_at templates) G root schema point f
   root_to f t tag a i e d h =
       let k : When (not (same tag schema.root)) (fault_in point 6 root 1 tag) f = subst (λ u. OfRoot point schema.root root u f) e h in
-      subst (IsFault (template_at templates) G root schema point) (sym k.1) (fault.wrong_root (d ∙ e) (not_true _ k.0))
+      subst (IsFault (template_at templates) G root schema point) (sym k.1) (fault.wrong_root (d ∙ e) (not-true _ k.0))
 
   pub page_to : (f : Fault) → OfPage templates nodes said literals o pairs schema root point o.order.items f
       → IsFault (template_at templates) G root schema point f

@@ -1,7 +1,7 @@
 -- The tests at an element of a reached template say exactly what its unfoldings may break.
 use Rattle.std.proofs.Common.{◌≡◌, ◌↔◌, inl, inr, ℕ, ◌<◌, Bool, true, false, not, List, length, refl, ap, sym, ◌∙◌, arith}
 use Rattle.std.specs.List.{Contains}
-use Rattle.std.proofs.lemmas.Bool.{false≢true, or_cases}
+use Rattle.std.proofs.lemmas.Bool.{false≢true, or_cases, and_parts, and_from, not-true}
 use Rattle.bw_lang.specs.declared.items.Attr.{Attr}
 use Rattle.bw_lang.specs.Document.Forest.{Forest}
 use Rattle.bw_lang.specs.Table.Names.{name_number}
@@ -20,7 +20,6 @@ use Rattle.bw_shape.specs.Columns.{AreKnown}
 use Rattle.bw_shape.specs.Nodes.Templates.{template_at}
 use Rattle.bw_shape.specs.Tests.{gives, tag_column}
 use Rattle.bw_shape.specs.declared.tables.Tables.{Tables}
-use Rattle.bw_shape.proofs.Nodes.Bools.{and_parts, and_both, not_true}
 use Rattle.bw_shape.proofs.ExactTops.{miss_by, miss_sound, miss_test, cross_by, cross_sound, cross_test}
 use Rattle.bw_judge.specs.declared.content.Spot.{Spot}
 use Rattle.bw_judge.specs.Content.{fault_at, OfContent}
@@ -104,10 +103,10 @@ module _ (templates : List Forest) (nodes : List Node) (said : List (List (ℕ �
   sure_to b (one_value x vs rest) k a i u h = joined_to b _ (sure scene b rest a i) (there_with_to G n scene sees a x vs) (sure_to b rest k a i u) h
   sure_to b (content x rest) k a i u h =
       joined_to b (not (may_miss scene x i)) (sure scene b rest a i)
-      (λ e m. false≢true (sym (not_true (may_miss scene x i) e) ∙ miss_from x i k.0 m)) (sure_to b rest k.1 a i u) h
+      (λ e m. false≢true (sym (not-true (may_miss scene x i) e) ∙ miss_from x i k.0 m)) (sure_to b rest k.1 a i u) h
   sure_to b (order x y rest) k a i u h =
       joined_to b (not (may_cross scene x y i)) (sure scene b rest a i)
-      (λ e m. false≢true (sym (not_true (may_cross scene x y i) e) ∙ cross_from x y i u k.0.1.1 m)) (sure_to b rest k.1 a i u) h
+      (λ e m. false≢true (sym (not-true (may_cross scene x y i) e) ∙ cross_from x y i u k.0.1.1 m)) (sure_to b rest k.1 a i u) h
 
   never : (b : Bool) → (b ≡ true → ⊥) → not b ≡ true
   never true h = absurd (h refl)
@@ -140,9 +139,9 @@ module _ (templates : List Forest) (nodes : List Node) (said : List (List (ℕ �
   attr_broken r spot tag attrs i f x c (inl h) =
       let p = and_parts (is_told scene x.value) (not (allows r x.name)) h.0 in
       let m = told_to G n scene sees x.value p.0 in
-      (1, x.name, fault.attribute c m.1 (not_true _ p.1), h.1)
+      (1, x.name, fault.attribute c m.1 (not-true _ p.1), h.1)
   attr_broken r spot tag attrs i f x c (inr h) =
-      let m = permitted_from G n scene sees r.values x (not_true _ h.0) in
+      let m = permitted_from G n scene sees r.values x (not-true _ h.0) in
       (3, x.name, fault.value c m.1 m.2, h.1)
 
   must_broken : (r : Rule) (spot : Spot) (tag : List ℕ) (attrs : List Attr) (i : Forest) (f : Fault) (x : List ℕ) → Contains r.must x
@@ -166,7 +165,7 @@ module _ (templates : List Forest) (nodes : List Node) (said : List (List (ℕ �
   parts_to r k spot tag a i u f (inr (inl h)) = let q = some_to (OfMust scene spot a) r.must f h in must_broken r spot tag a i f q.0 q.1 q.2
   parts_to r k spot tag a i u f (inr (inr (inl h))) = content_broken ((exact_content r spot i u f).0 h)
   parts_to r k spot tag a i u f (inr (inr (inr h))) =
-      (7, tag, fault.need (λ q. false≢true (sym (not_true (sure scene true r.needs a i) h.0) ∙ sure_from true r.needs k a i q)), h.1)
+      (7, tag, fault.need (λ q. false≢true (sym (not-true (sure scene true r.needs a i) h.0) ∙ sure_from true r.needs k a i q)), h.1)
 
   permits_not : (r : Rule) (x : Attr) {v : List ℕ} → MayBe G n x.value v → permits r.values x.name v ≡ false → not (is_permitted scene r.values x) ≡ true
   permits_not r x m e = never (is_permitted scene r.values x) (λ h. false≢true (sym e ∙ permitted_to G n scene sees r.values x m h))
@@ -176,7 +175,7 @@ module _ (templates : List Forest) (nodes : List Node) (said : List (List (ℕ �
       → OfParts scene r spot tag a i (fault_at spot k detail)
   parts_from r k spot {a = a} u (fault.attribute {a = x} c m e) =
       inl (some_from (OfAttr scene r spot) a _ x c
-      (inl (and_both (is_told scene x.value) (not (allows r x.name)) (told_from G n scene sees m) (ap not e), refl)))
+      (inl (and_from (is_told scene x.value) (not (allows r x.name)) (told_from G n scene sees m) (ap not e), refl)))
   parts_from r k spot {a = a} u (fault.absent {x = x} c e) = inr (inl (some_from (OfMust scene spot a) r.must _ x c (absent_from G n scene sees a x e, refl)))
   parts_from r k spot {a = a} u (fault.unsure {x = x} {a = y} {g = g} c d e is l) =
       inr (inl (some_from (OfMust scene spot a) r.must _ x c (unsure_from G n scene sees a x y g d e is l, refl)))

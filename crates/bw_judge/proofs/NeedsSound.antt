@@ -2,7 +2,7 @@
 use Rattle.std.proofs.Common.{◌≡◌, inl, inr, ℕ, zero, suc, ◌<◌, Bool, true, false, ◌||◌, ◌&&◌, not, List, length, get_or, refl, ap, sym, ◌∙◌, subst, arith}
 use Rattle.std.proofs.Math.Bool.{and-false}
 use Rattle.std.specs.List.{list_any}
-use Rattle.std.proofs.lemmas.Bool.{false≢true, cases_Bool, or_left, or_right}
+use Rattle.std.proofs.lemmas.Bool.{false≢true, cases_Bool, or_left, or_right, and_parts, and_from, not-true}
 use Rattle.std.proofs.lemmas.Slice.Eq.{bytes_eq-Decides}
 use Rattle.bw_lang.specs.declared.items.Attr.{Attr}
 use Rattle.bw_lang.specs.declared.items.AttrValue.{AttrValue}
@@ -16,7 +16,6 @@ use Rattle.bw_sum.specs.Graph.{Graph}
 use Rattle.bw_sum.specs.Unfolding.{FillsValue, kept, left_open, said_in, FillsAttrs, no_more, more, Fills, end, words, inside, left, said, led}
 use Rattle.bw_shape.specs.Shape as shape
 use Rattle.bw_shape.specs.Shape.{Gives, tagged, Misses, Crossing}
-use Rattle.bw_shape.proofs.Nodes.Bools.{and_parts, and_both, not_true}
 use Rattle.bw_shape.proofs.Outcomes.{sure}
 use Rattle.bw_judge.specs.Faults as fault
 use Rattle.bw_judge.specs.Faults.{MayBe, IsSureValue, SureAttr, SureOne, Both, Ends}
@@ -26,7 +25,7 @@ pub child_append : (p : List ℕ → Bool) (d e : Forest) → each_child p d ≡
 child_append p none e h k = k
 child_append p (text s r) e h k = child_append p r e h k
 child_append p (gap g r) e h k = child_append p r e h k
-child_append p (element tag a i r) e h k = let q = and_parts _ _ h in and_both _ _ q.0 (child_append p r e q.1 k)
+child_append p (element tag a i r) e h k = let q = and_parts _ _ h in and_from _ _ q.0 (child_append p r e q.1 k)
 
 -- the test of an attribute that is sure
 any_filled : {G : Graph} {n : ℕ} {a b : List Attr} (x : List ℕ) (p : AttrValue → Bool) → FillsAttrs G n a b → (k : ℕ) (c : Attr)
@@ -34,7 +33,7 @@ any_filled : {G : Graph} {n : ℕ} {a b : List Attr} (x : List ℕ) (p : AttrVal
     → ((v : AttrValue) → FillsValue G n c.value v → p v ≡ true) → list_any (λ d. same d.name x && p d.value) b ≡ true
 any_filled x p no_more k c l e h f = absurd (omega arith)
 any_filled {G = G} {n = n} x p (more {x = y} {u = u} {v = v} {a = a} {b = b} q r) zero c l e h f =
-    or_left _ _ (and_both _ _ (ap (λ d. same d.name x) e ∙ h) (f v (subst (λ d. FillsValue G n d.value v) e q)))
+    or_left _ _ (and_from _ _ (ap (λ d. same d.name x) e ∙ h) (f v (subst (λ d. FillsValue G n d.value v) e q)))
 any_filled x p (more {x = y} {u = u} {v = v} {a = a} {b = b} q r) (suc k) c l e h f =
     or_right (same y x && p v) _ (any_filled x p r k c (omega (arith, l)) e h f)
 
@@ -53,14 +52,14 @@ each_parts : (x : List ℕ) (d e : Forest) → each_child (is_other x) (append d
 each_parts x none e h = (refl, h)
 each_parts x (text s r) e h = each_parts x r e h
 each_parts x (gap g r) e h = each_parts x r e h
-each_parts x (element tag a i r) e h = let k = and_parts _ _ h in let l = each_parts x r e k.1 in (and_both _ _ k.0 l.0, l.1)
+each_parts x (element tag a i r) e h = let k = and_parts _ _ h in let l = each_parts x r e k.1 in (and_from _ _ k.0 l.0, l.1)
 
 -- where an unfolding has no x at its top, its template may miss it
 misses_by : {templates : ℕ → Forest} {G : Graph} (x : List ℕ) {n : ℕ} {t d : Forest} → Fills templates G n t d
     → each_child (is_other x) d ≡ true → Misses templates G x n t
 misses_by x end h = shape.end
 misses_by x (words r) h = shape.words (misses_by x r h)
-misses_by x (inside q i r) h = let k = and_parts _ _ h in shape.other (not_true _ k.0) (misses_by x r k.1)
+misses_by x (inside q i r) h = let k = and_parts _ _ h in shape.other (not-true _ k.0) (misses_by x r k.1)
 misses_by x (left l r) h = shape.left l (misses_by x r h)
 misses_by x (said l r) h = shape.said l (misses_by x r h)
 misses_by x (led {d = d} {e = e} l i r) h = let k = each_parts x e d h in shape.led l (misses_by x i k.0) (misses_by x r k.1)
@@ -81,7 +80,7 @@ others_by : {templates : ℕ → Forest} {G : Graph} (x : List ℕ) {n : ℕ} {t
 others_by x end h = refl
 others_by x (words r) h = others_by x r (λ k. h (shape.after_text k))
 others_by {templates = templates} {G = G} x (inside {n = n} {tag = tag} {a = a} {i = i} {t = t} q f r) h =
-    and_both _ _ (sure (is_other x tag) (λ e. h (subst (λ y. Gives templates G n (element tag a i t) (tagged y)) (not_other x tag e) shape.element_here)))
+    and_from _ _ (sure (is_other x tag) (λ e. h (subst (λ y. Gives templates G n (element tag a i t) (tagged y)) (not_other x tag e) shape.element_here)))
     (others_by x r (λ k. h (shape.after_element k)))
 others_by x (left l r) h = others_by x r (λ k. h (shape.after_gap k))
 others_by x (said l r) h = others_by x r (λ k. h (shape.after_gap k))
@@ -94,7 +93,7 @@ ordered_append x y (text s r) e h k f = ordered_append x y r e h k f
 ordered_append x y (gap g r) e h k f = ordered_append x y r e h k f
 ordered_append x y (element tag a i r) e h k f =
     let q = and_parts _ _ h in
-    and_both _ _
+    and_from _ _
     (elim (cases_Bool (is_other y tag)) [
       | inl it ↦ or_left (is_other y tag) (each_child (is_other x) (append r e)) it
       | inr isnt ↦ or_right (is_other y tag) _
@@ -110,7 +109,7 @@ ordered_by : {templates : ℕ → Forest} {G : Graph} (x y : List ℕ) {n : ℕ}
 ordered_by x y end h = refl
 ordered_by x y (words r) h = ordered_by x y r (λ k. h (shape.after_text k))
 ordered_by {templates = templates} {G = G} x y (inside {n = n} {tag = tag} {a = a} {i = k} {t = t} {d = d} q i r) h =
-    and_both _ _
+    and_from _ _
     (elim (cases_Bool (is_other y tag)) [
       | inl it ↦ or_left (is_other y tag) (each_child (is_other x) d) it
       | inr isnt ↦ or_right (is_other y tag) _
@@ -124,7 +123,7 @@ ordered_by x y (led {d = d} {e = e} l i r) h =
     (λ f. sure (each_child (is_other x) d) (λ g. fails _ f (others_by y i (λ k. fails _ g (others_by x r (λ j. h (shape.gap_first l k j)))))))
 
 pub joined_by : (b : Bool) {P Q : Type 0} (p q : Bool) → (P → p ≡ true) → (Q → q ≡ true) → Both b P Q → joined b p q ≡ true
-joined_by true p q f g h = and_both _ _ (f h.0) (g h.1)
+joined_by true p q f g h = and_from _ _ (f h.0) (g h.1)
 joined_by false p q f g (inl h) = or_left _ _ (f h)
 joined_by false p q f g (inr h) = or_right p _ (g h)
 

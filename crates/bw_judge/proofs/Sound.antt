@@ -1,7 +1,7 @@
 -- Without faults each unfolding is valid.
 use Rattle.std.proofs.Common.{◌≡◌, inl, inr, ℕ, suc, Bool, true, false, ◌||◌, ◌&&◌, List, [], ◌∷◌, Option, Some, None, IfSome, refl, ap, sym, ◌∙◌, subst, arith}
 use Rattle.std.specs.List.{list_all, Contains}
-use Rattle.std.proofs.lemmas.Bool.{false≢true, cases_Bool, or_left, or_right}
+use Rattle.std.proofs.lemmas.Bool.{false≢true, cases_Bool, or_left, or_right, and_parts, and_from}
 use Rattle.bw_lang.specs.declared.items.Attr.{Attr}
 use Rattle.bw_lang.specs.declared.items.AttrValue.{AttrValue}
 use Rattle.bw_lang.specs.declared.items.AttrValue.TheVariants.{Hole}
@@ -18,7 +18,6 @@ use Rattle.bw_sum.specs.Graph.{Graph}
 use Rattle.bw_sum.specs.Unfolding.{FillsValue, kept, left_open, said_in, FillsAttrs, no_more, more, Fills, end, words, inside, left, said, led}
 use Rattle.bw_shape.specs.Shape as shape
 use Rattle.bw_shape.specs.Shape.{Reached, root_is, along, Gives, tagged, wordy}
-use Rattle.bw_shape.proofs.Nodes.Bools.{and_parts, and_both}
 use Rattle.bw_shape.proofs.Outcomes.{sure}
 use Rattle.bw_judge.specs.Scene.{has_attr}
 use Rattle.bw_judge.specs.Faults as fault
@@ -54,7 +53,7 @@ every_append P (element tag a i r) e h k = (h.0, (h.1.0, every_append P r e h.1.
 
 pub text_append : (p : List ℕ → Bool) (d e : Forest) → each_text p d ≡ true → each_text p e ≡ true → each_text p (append d e) ≡ true
 text_append p none e h k = k
-text_append p (text s r) e h k = let q = and_parts _ _ h in and_both _ _ q.0 (text_append p r e q.1 k)
+text_append p (text s r) e h k = let q = and_parts _ _ h in and_from _ _ q.0 (text_append p r e q.1 k)
 text_append p (gap g r) e h k = text_append p r e h k
 text_append p (element tag a i r) e h k = text_append p r e h k
 
@@ -68,7 +67,7 @@ pub fixed_by : {G : Graph} (p : List ℕ → List ℕ → Bool) {n : ℕ} {a b :
     → ((c : Attr) → Contains a c → (s : List ℕ) → MayBe G n c.value s → p c.name s ≡ true) → each_fixed p b ≡ true
 fixed_by p no_more h = refl
 fixed_by p (more {x = x} {u = u} {v = v} {a = a} q r) h =
-    and_both _ _ (value_by p x q (h (record { name = x; value = u }) (first_in _ a))) (fixed_by p r (λ c k. h c (later_in _ c a k)))
+    and_from _ _ (value_by p x q (h (record { name = x; value = u }) (first_in _ a))) (fixed_by p r (λ c k. h c (later_in _ c a k)))
 
 value_has : {G : Graph} {n : ℕ} {u v : AttrValue} → FillsValue G n u v → ((g : ℕ) → u ≡ Hole g → G.track g n ≡ true → ⊥) → is_fixed v ≡ true
 value_has kept h = refl
@@ -79,7 +78,7 @@ pub has_by : {G : Graph} (x : List ℕ) {n : ℕ} {a b : List Attr} → FillsAtt
     → ((c : Attr) → Contains a c → same c.name x ≡ true → (g : ℕ) → c.value ≡ Hole g → G.track g n ≡ true → ⊥) → has_fixed b x ≡ true
 has_by x no_more o h = absurd (false≢true o)
 has_by x (more {x = y} {u = u} {v = v} {a = a} {b = b} q r) o h = elim (cases_Bool (same y x)) [
-  | inl it ↦ or_left (same y x && is_fixed v) (has_fixed b x) (and_both _ _ it (value_has q (h (record { name = y; value = u }) (first_in _ a) it)))
+  | inl it ↦ or_left (same y x && is_fixed v) (has_fixed b x) (and_from _ _ it (value_has q (h (record { name = y; value = u }) (first_in _ a) it)))
   | inr other ↦ or_right (same y x && is_fixed v) (has_fixed b x) (has_by x r (sym (ap (λ t. t || has_attr a x) other) ∙ o) (λ c k. h c (later_in _ c a k)))
 ]
 
@@ -87,7 +86,7 @@ pub child_by : {templates : ℕ → Forest} {G : Graph} (p : List ℕ → Bool) 
     → ((x : List ℕ) → Gives templates G n t (tagged x) → p x ≡ true) → each_child p d ≡ true
 child_by p end h = refl
 child_by p (words r) h = child_by p r (λ x k. h x (shape.after_text k))
-child_by p (inside {tag = tag} q i r) h = and_both _ _ (h tag shape.element_here) (child_by p r (λ x k. h x (shape.after_element k)))
+child_by p (inside {tag = tag} q i r) h = and_from _ _ (h tag shape.element_here) (child_by p r (λ x k. h x (shape.after_element k)))
 child_by p (left l r) h = child_by p r (λ x k. h x (shape.after_gap k))
 child_by p (said l r) h = child_by p r (λ x k. h x (shape.after_gap k))
 child_by p (led {d = d} {e = e} l i r) h = child_append p e d (child_by p i (λ x k. h x (shape.led l k))) (child_by p r (λ x k. h x (shape.after_gap k)))
@@ -95,10 +94,10 @@ child_by p (led {d = d} {e = e} l i r) h = child_append p e d (child_by p i (λ 
 pub text_by : {templates : ℕ → Forest} {G : Graph} {n : ℕ} {t d : Forest} → Fills templates G n t d
     → (Gives templates G n t wordy → ⊥) → each_text is_blank_text d ≡ true
 text_by end h = refl
-text_by (words {s = s} r) h = and_both _ _ (sure (is_blank_text s) (λ e. h (shape.text_here e))) (text_by r (λ k. h (shape.after_text k)))
+text_by (words {s = s} r) h = and_from _ _ (sure (is_blank_text s) (λ e. h (shape.text_here e))) (text_by r (λ k. h (shape.after_text k)))
 text_by (inside q i r) h = text_by r (λ k. h (shape.after_element k))
 text_by (left l r) h = text_by r (λ k. h (shape.after_gap k))
-text_by (said {s = s} l r) h = and_both _ _ (sure (is_blank_text s) (λ e. h (shape.said l e))) (text_by r (λ k. h (shape.after_gap k)))
+text_by (said {s = s} l r) h = and_from _ _ (sure (is_blank_text s) (λ e. h (shape.said l e))) (text_by r (λ k. h (shape.after_gap k)))
 text_by (led {d = d} {e = e} l i r) h = text_append is_blank_text e d (text_by i (λ k. h (shape.led l k))) (text_by r (λ k. h (shape.after_gap k)))
 
 -- nothing that an element of template n may break
@@ -164,14 +163,14 @@ rooted_by : {templates : ℕ → Forest} {G : Graph} (root : List ℕ) {n : ℕ}
 unfolding is_one
 rooted_by root end h = absurd (false≢true h)
 rooted_by root (words r) h = absurd (false≢true h)
-rooted_by root (inside q i r) h = let k = and_parts _ _ h in and_both _ _ k.0 (bare_by r k.1)
+rooted_by root (inside q i r) h = let k = and_parts _ _ h in and_from _ _ k.0 (bare_by r k.1)
 rooted_by root (left l r) h = absurd (false≢true h)
 rooted_by root (said l r) h = absurd (false≢true h)
 rooted_by root (led l i r) h = absurd (false≢true h)
 
 is_one_of : (root tag : List ℕ) (a : List Attr) (i : Forest) → same tag root ≡ true → is_one root (element tag a i none) ≡ true
 unfolding is_one is_none
-is_one_of root tag a i h = and_both _ _ h refl
+is_one_of root tag a i h = and_from _ _ h refl
 
 pub no_fault_valid : NoFaultIsValid
 no_fault_valid templates G root s point wrapper h d u =

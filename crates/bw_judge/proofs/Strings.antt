@@ -2,7 +2,7 @@
 use Rattle.std.proofs.Common.{◌≡◌, ◌⊎◌, inl, inr, ℕ, zero, suc, ◌<◌, ◌==◌, max, Bool, true, false, ◌||◌, ◌&&◌, not, List, [], ◌∷◌, length, refl, ap, sym, ◌∙◌}
 use Rattle.std.proofs.Common.{arith}
 use Rattle.std.specs.List.{list_any, Contains}
-use Rattle.std.proofs.lemmas.Bool.{false≢true, cases_Bool, or_cases, or_left, or_right}
+use Rattle.std.proofs.lemmas.Bool.{false≢true, cases_Bool, or_cases, or_left, or_right, and_parts, and_from, or_parts, not-true, not-false}
 use Rattle.std.proofs.lemmas.Slice.Eq.{bytes_eq-Decides}
 use Rattle.bw_lang.specs.declared.items.Attr.{Attr}
 use Rattle.bw_lang.specs.declared.items.AttrValue.{AttrValue}
@@ -14,7 +14,7 @@ use Rattle.bw_schema.specs.declared.rules.ValueList.{ValueList}
 use Rattle.bw_schema.specs.Words.{is_among}
 use Rattle.bw_schema.specs.Rules.{permits}
 use Rattle.bw_sum.specs.Graph.{Graph}
-use Rattle.bw_shape.proofs.Nodes.Bools.{and_parts, and_both, or_parts, not_true, not_false, fails_at, passes_at, all_at, any_at, same_itself}
+use Rattle.bw_shape.proofs.Nodes.Bools.{fails_at, passes_at, all_at, any_at, same_itself}
 use Rattle.bw_strings.specs.Asking.{text_of, has_string}
 use Rattle.bw_judge.specs.Scene.{Scene, is_within, is_told, is_loose, is_kept, is_permitted, has_attr, may_be_absent}
 use Rattle.bw_judge.specs.Pages.{IsScene}
@@ -85,7 +85,7 @@ module _ (G : Graph) (n : ℕ) (s : Scene) (sees : IsScene G n s) where
       let o = outside s.literals words r.0.1 p.1 in (
         o.0,
         fault.said (sees.strings g o.0
-            ∙ any_at (λ l. (l.0 == g) && has_string s.literals l.1 o.0) s.said r.0 r.1 (and_both _ _ (not_false _ p.0) o.1)),
+            ∙ any_at (λ l. (l.0 == g) && has_string s.literals l.1 o.0) s.said r.0 r.1 (and_from _ _ (not-false _ p.0) o.1)),
         o.2,
       )
 
@@ -93,7 +93,7 @@ module _ (G : Graph) (n : ℕ) (s : Scene) (sees : IsScene G n s) where
   permitted_to [] a m h = refl
   permitted_to (l ∷ lists) a {w = w} m h =
       let p = and_parts (not (same l.name a.name) || is_kept s l.words a.value) (is_permitted s lists a) h in
-      and_both _ _ (elim (or_cases (not (same l.name a.name)) (is_kept s l.words a.value) p.0) [
+      and_from _ _ (elim (or_cases (not (same l.name a.name)) (is_kept s l.words a.value) p.0) [
         | inl it ↦ or_left (not (same l.name a.name)) (is_among l.words w) it
         | inr it ↦ or_right (not (same l.name a.name)) (is_among l.words w) (kept_to l.words m it)
       ]) (permitted_to lists a m p.1)
@@ -141,7 +141,7 @@ module _ (G : Graph) (n : ℕ) (s : Scene) (sees : IsScene G n s) where
   pub absent_to : (attrs : List Attr) (x : List ℕ) → may_be_absent s attrs x ≡ true
       → (has_attr attrs x ≡ false) ⊎ ((a : Attr) × (g : ℕ) × Contains attrs a × (same a.name x ≡ true) × (a.value ≡ Hole g) × (G.track g n ≡ true))
   absent_to attrs x h = elim (or_cases (not (has_attr attrs x)) _ h) [
-    | inl it ↦ inl (not_true _ it)
+    | inl it ↦ inl (not-true _ it)
     | inr it ↦
         let r = passes_at (λ a. same a.name x && is_loose s a.value) attrs it in
         let p = and_parts (same r.0.name x) (is_loose s r.0.value) r.2 in
@@ -156,23 +156,23 @@ module _ (G : Graph) (n : ℕ) (s : Scene) (sees : IsScene G n s) where
       → G.track g n ≡ true → may_be_absent s attrs x ≡ true
   unsure_from attrs x a g c e is l =
       or_right (not (has_attr attrs x)) (list_any (λ a. same a.name x && is_loose s a.value) attrs)
-      (any_at (λ a. same a.name x && is_loose s a.value) attrs a c (and_both _ _ e (hole_loose a.value g is l)))
+      (any_at (λ a. same a.name x && is_loose s a.value) attrs a c (and_from _ _ e (hole_loose a.value g is l)))
 
   pub there_to : (attrs : List Attr) (x : List ℕ) → is_there s attrs x ≡ true → SureAttr G n attrs x
   there_to attrs x h =
       let r = passes_at (λ a. same a.name x && not (is_loose s a.value)) attrs h in
       let p = and_parts (same r.0.name x) (not (is_loose s r.0.value)) r.2 in
-      (r.0, r.1, p.0, sure_value r.0.value (not_true _ p.1))
+      (r.0, r.1, p.0, sure_value r.0.value (not-true _ p.1))
 
   pub there_from : (attrs : List Attr) (x : List ℕ) → SureAttr G n attrs x → is_there s attrs x ≡ true
-  there_from attrs x h = any_at (λ a. same a.name x && not (is_loose s a.value)) attrs h.0 h.1 (and_both _ _ h.2 (ap not (value_sure h.0.value h.3)))
+  there_from attrs x h = any_at (λ a. same a.name x && not (is_loose s a.value)) attrs h.0 h.1 (and_from _ _ h.2 (ap not (value_sure h.0.value h.3)))
 
   pub there_with_to : (attrs : List Attr) (x : List ℕ) (vs : List (List ℕ)) → is_there_with s attrs x vs ≡ true → SureOne G n attrs x vs
   there_with_to attrs x vs h =
       let r = passes_at (λ a. same a.name x && (not (is_loose s a.value) && is_kept s vs a.value)) attrs h in
       let p = and_parts (same r.0.name x) (not (is_loose s r.0.value) && is_kept s vs r.0.value) r.2 in
       let q = and_parts (not (is_loose s r.0.value)) (is_kept s vs r.0.value) p.1 in
-      (r.0, r.1, p.0, sure_value r.0.value (not_true _ q.0), λ v m. kept_to vs m q.1)
+      (r.0, r.1, p.0, sure_value r.0.value (not-true _ q.0), λ v m. kept_to vs m q.1)
 
   all_kept : (vs : List (List ℕ)) (v : AttrValue) → ((w : List ℕ) → MayBe G n v w → is_among vs w ≡ true) → is_kept s vs v ≡ true
   all_kept vs v h = elim (cases_Bool (is_kept s vs v)) [
@@ -183,4 +183,4 @@ module _ (G : Graph) (n : ℕ) (s : Scene) (sees : IsScene G n s) where
   pub there_with_from : (attrs : List Attr) (x : List ℕ) (vs : List (List ℕ)) → SureOne G n attrs x vs → is_there_with s attrs x vs ≡ true
   there_with_from attrs x vs h =
       any_at (λ a. same a.name x && (not (is_loose s a.value) && is_kept s vs a.value)) attrs h.0 h.1
-      (and_both _ _ h.2 (and_both _ _ (ap not (value_sure h.0.value h.3)) (all_kept vs h.0.value h.4)))
+      (and_from _ _ h.2 (and_from _ _ (ap not (value_sure h.0.value h.3)) (all_kept vs h.0.value h.4)))

@@ -11,6 +11,7 @@ use Rattle.bw_analyse.specs.Lawful.KindLaws.{all_itself}
 use Rattle.bw_analyse.specs.Lawful.StepLaws.{HasFew, expression_up}
 use Rattle.bw_analyse.specs.Lawful.TypedSystem.{few_of}
 use Rattle.bw_analyse.specs.Least.{flow_of}
+use Rattle.bw_cover.proofs.ContentGaps.{content_has_no_hole}
 use Rattle.bw_flow.specs.Flows.{is_show}
 use Rattle.bw_flow.specs.Steps.{Act, sets, tests, goes_over, shows, exits, joins, Step}
 use Rattle.bw_flow.specs.TypedFlow.{HasKindAt, IsTypedAct}
@@ -19,7 +20,6 @@ use Rattle.bw_lang.specs.declared.service.Service.{Service}
 use Rattle.bw_lang.specs.declared.stmt.Kind.TheVariants as kinds
 use Rattle.bw_lang.specs.Service.Term.{Term}
 use Rattle.bw_load.specs.SumLaws.{IsLawful, TypedIsLawful}
-use Rattle.bw_load.proofs.ContentGaps.{content_has_no_hole}
 use Rattle.bw_saved.proofs.Codecs.{some_is}
 use Rattle.bw_saved.specs.Documents.Demands.{IsSmall}
 use Rattle.bw_sound.proofs.Found.Cells.{typed_flow, typed_service, known_gaps, row_fits, last_fits}

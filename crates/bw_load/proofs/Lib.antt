@@ -1,6 +1,5 @@
 pub mod Again
 pub mod Built
-pub mod ContentGaps
 pub mod Found
 pub mod Kept
 pub mod Lawful

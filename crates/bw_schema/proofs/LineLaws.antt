@@ -16,6 +16,7 @@ use Rattle.bw_schema.specs.Forms.{are_formed, are_names, depth, is_headed, is_li
 use Rattle.bw_schema.specs.Steps.Reading.{formula_at, formula_of, line_of, line_with, lines_of, names_line, names_of, rare_line, root_of, tag_of, text_of}
 use Rattle.bw_schema.specs.Steps.Reading.{value_line}
 use Rattle.bw_schema.specs.Words.{has_some}
+use Rattle.bw_schema.specs.declared.formulas.TheConstants.{FORMULA_NESTING}
 use Rattle.bw_schema.specs.declared.lines.Line.{Line}
 use Rattle.bw_schema.specs.declared.lines.Line.TheVariants.{Element, May, Must, Value, Has, Text, Need}
 use Rattle.bw_schema.specs.declared.needs.Formula.{Formula}
@@ -53,13 +54,13 @@ value_is v (w ∷ ws) line h =
 formula_is : (v : ℕ) (ws : List (List ℕ)) (f : Formula) → (v == 2) ≡ true → formula_of ws ≡ Some f → IsWritten v (codes "need" ∷ ws) (Need f)
 unfolding formula_of
 formula_is v ws f two h =
-    let b = bind_some (formula_at 16 ws) (λ x. if length x.1 == 0 then Some x.0 else None) f h in
+    let b = bind_some (formula_at FORMULA_NESTING ws) (λ x. if length x.1 == 0 then Some x.0 else None) f h in
     let k = cond_some (length b.0.1 == 0) b.0.0 f b.2 in
-    let s = (formula_sound 16).one_is ws b.0 b.1 in
+    let s = (formula_sound FORMULA_NESTING).one_is ws b.0 b.1 in
     let made : IsWritten v (codes "need" ∷ ws) (Need b.0.0) = record {
       spelled = ap (λ (t : List (List ℕ)). codes "need" ∷ t) (s.spelled ∙ ap (spell_needs (one b.0.0)) (no_words b.0.1 k.0));
-      formed = and_from (v == 2 && are_formed (one b.0.0)) (nat_le (depth (one b.0.0)) 16) (and_from (v == 2) (are_formed (one b.0.0)) two s.formed)
-          (le-leb (depth (one b.0.0)) 16 s.deep);
+      formed = and_from (v == 2 && are_formed (one b.0.0)) (nat_le (depth (one b.0.0)) FORMULA_NESTING) (and_from (v == 2) (are_formed (one b.0.0)) two s.formed)
+          (le-leb (depth (one b.0.0)) FORMULA_NESTING s.deep);
     } in
     written_as v _ (Need b.0.0) (Need f) (ap Need k.1) made
 
@@ -169,9 +170,9 @@ names_there c names h = ap (λ b. if b then Some names else None) h
 tag_there : (tag : List ℕ) → is_name class.Tag tag ≡ true → tag_of (tag ∷ []) ≡ Some tag
 tag_there tag h = ap (λ b. if b then Some tag else None) h
 
-formula_there : (f : Formula) → are_formed (one f) ≡ true → depth (one f) ≤ 16 → formula_of (spell_needs (one f) []) ≡ Some f
+formula_there : (f : Formula) → are_formed (one f) ≡ true → depth (one f) ≤ FORMULA_NESTING → formula_of (spell_needs (one f) []) ≡ Some f
 unfolding formula_of
-formula_there f h e = ap (λ o. o >>= λ x. if length x.1 == 0 then Some x.0 else None) ((formula_complete 16).one_read f [] h e)
+formula_there f h e = ap (λ o. o >>= λ x. if length x.1 == 0 then Some x.0 else None) ((formula_complete FORMULA_NESTING).one_read f [] h e)
 
 pub line_there : (v : ℕ) (line : Line) → is_line v line ≡ true → line_of v (spell_line line) ≡ Some line
 unfolding line_with names_line rare_line
@@ -182,10 +183,10 @@ line_there v (Value name values) h = ap (λ b. if b then Some (Value name values
 line_there v (Has tags) h = ap (λ o. o >>= λ ns. Some (Has ns)) (names_there class.Tag tags h)
 line_there v Text h = refl
 line_there v (Need f) h =
-    let k = and_parts (v == 2 && are_formed (one f)) (nat_le (depth (one f)) 16) h in
+    let k = and_parts (v == 2 && are_formed (one f)) (nat_le (depth (one f)) FORMULA_NESTING) h in
     let l = and_parts (v == 2) (are_formed (one f)) k.0 in
     ap (λ b. if b then (formula_of (spell_needs (one f) []) >>= λ g. Some (Need g)) else None) l.0
-    ∙ ap (λ o. o >>= λ g. Some (Need g)) (formula_there f l.1 (leb-true (depth (one f)) 16 k.1))
+    ∙ ap (λ o. o >>= λ g. Some (Need g)) (formula_there f l.1 (leb-true (depth (one f)) FORMULA_NESTING k.1))
 
 pub lines_there : (v : ℕ) (lines : List Line) → list_all (is_line v) lines ≡ true → lines_of v (map spell_line lines) ≡ Some lines
 lines_there v [] h = refl

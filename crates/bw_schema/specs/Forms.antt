@@ -9,6 +9,7 @@ use Rattle.bw_lang.specs.declared.pieces.NameClass.TheVariants as class
 use Rattle.bw_schema.specs.Needs.{Needs, nothing, all_of, some_of, attr, one_value, content, order}
 use Rattle.bw_schema.specs.NeedsView.{before_need}
 use Rattle.bw_schema.specs.Words.{has_some}
+use Rattle.bw_schema.specs.declared.formulas.TheConstants.{FORMULA_NESTING}
 use Rattle.bw_schema.specs.declared.lines.Line.{Line}
 use Rattle.bw_schema.specs.declared.lines.Line.TheVariants.{Element, May, Must, Value, Has, Text, Need}
 use Rattle.bw_schema.specs.declared.needs.Formula.{Formula}
@@ -87,7 +88,7 @@ spell_line (Has tags) = codes "has" ∷ tags
 spell_line Text = codes "text" ∷ []
 spell_line (Need formula) = codes "need" ∷ spell_needs (one formula) []
 
--- a line that may stand in a schema of this version; version 2 has formulas, at most 16 inside one another
+-- a line that may stand in a schema of this version; version 2 has formulas, at most FORMULA_NESTING inside one another
 abbrev pub is_line : ℕ → Line → Bool
 is_line version (Element tag) = is_name class.Tag tag
 is_line version (May names) = are_names class.Attr names
@@ -95,7 +96,7 @@ is_line version (Must names) = are_names class.Attr names
 is_line version (Value name values) = is_name class.Attr name && has_some values
 is_line version (Has tags) = are_names class.Tag tags
 is_line version Text = true
-is_line version (Need formula) = version == 2 && are_formed (one formula) && nat_le (depth (one formula)) 16
+is_line version (Need formula) = version == 2 && are_formed (one formula) && nat_le (depth (one formula)) FORMULA_NESTING
 
 -- no line of a rule stands before the first element
 abbrev pub is_headed : List Line → Bool

@@ -1,6 +1,6 @@
 -- The least tables have exactly the facts of the shape.
 use Rattle.std.proofs.Common.{◌≡◌, inl, inr, ℕ, ◌+◌, ◌<◌, ◌≤◌, Bool, true, ◌||◌, not, List, length, get_or, nat_lt, refl, ap, sym, ◌∙◌, subst, arith}
-use Rattle.std.proofs.lemmas.Bool.{or_cases, cases_Bool, or_left, or_right}
+use Rattle.std.proofs.lemmas.Bool.{or_cases, cases_Bool, or_left, or_right, and_parts, and_from, not-true}
 use Rattle.std.proofs.lemmas.Bool.Decides.{nat_tests}
 use Rattle.bw_lang.specs.Document.Forest.{Forest, none, text, gap, element}
 use Rattle.bw_lang.specs.Document.Documents.{one_if}
@@ -16,7 +16,6 @@ use Rattle.bw_shape.specs.Nodes.Templates.{template_at}
 use Rattle.bw_shape.specs.Follows.{have_follows, lack_follows, twice_follows}
 use Rattle.bw_shape.specs.Shape as shape
 use Rattle.bw_shape.specs.Shape.{Reached, along, Top, tagged, wordy, Gives, Has, Lacks, Places, Doubles, Misses, Crossing}
-use Rattle.bw_shape.proofs.Nodes.Bools.{and_parts, and_both, not_true}
 use Rattle.bw_shape.proofs.Links.{led_sound, led_whole, linked_sound, linked_whole}
 
 -- what holds of each fact that follows from facts of which it holds, holds of all
@@ -68,7 +67,7 @@ module _ (templates : List Forest) {nodes : List Node} {G : Graph} (fits : Fits 
   lacks_by n f known k (element tag a i r) h =
       let p = and_parts (not (is_field names f tag a)) _ h in
       let q = and_parts (test.lacks names (node_at nodes n) known f i) _ p.1 in
-      shape.inside (not_true _ p.0) (lacks_by n f known k i q.0) (lacks_by n f known k r q.1)
+      shape.inside (not-true _ p.0) (lacks_by n f known k i q.0) (lacks_by n f known k r q.1)
 
   pub lack_sound : (table : List (List Bool)) → IsDerived (length names) (lack_follows templates nodes names) table → (n f : ℕ) → at table n f ≡ true
       → Lacks (template_at templates) G names f n (template_at templates n)
@@ -81,15 +80,15 @@ module _ (templates : List Forest) {nodes : List Node} {G : Graph} (fits : Fits 
       → test.lacks names (node_at nodes n) (λ m. at table m f) f t ≡ true
   lack_test table closed l w shape.end = refl
   lack_test table closed l w (shape.words r) = lack_test table closed l w r
-  lack_test table closed l w (shape.inside e i r) = and_both _ _ (ap not e) (and_both _ _ (lack_test table closed l w i) (lack_test table closed l w r))
+  lack_test table closed l w (shape.inside e i r) = and_from _ _ (ap not e) (and_from _ _ (lack_test table closed l w i) (lack_test table closed l w r))
   lack_test table closed {f = f} {n = n} l w (shape.left {g = g} e r) =
-      and_both _ _ (or_left _ (led (node_at nodes n) (λ m. at table m f) g) (or_left _ (among (node_at nodes n).said g) (fits.tracks n g ∙ e)))
+      and_from _ _ (or_left _ (led (node_at nodes n) (λ m. at table m f) g) (or_left _ (among (node_at nodes n).said g) (fits.tracks n g ∙ e)))
       (lack_test table closed l w r)
   lack_test table closed {f = f} {n = n} l w (shape.said {g = g} {s = s} e r) =
-      and_both _ _ (or_left _ (led (node_at nodes n) (λ m. at table m f) g) (or_right (among (node_at nodes n).open_gaps g) _ (fits.saying n g s e)))
+      and_from _ _ (or_left _ (led (node_at nodes n) (λ m. at table m f) g) (or_right (among (node_at nodes n).open_gaps g) _ (fits.saying n g s e)))
       (lack_test table closed l w r)
   lack_test table closed {f = f} {n = n} l w (shape.led {g = g} {m = m} e i r) =
-      and_both _ _ (or_right (is_free (node_at nodes n) g) _
+      and_from _ _ (or_right (is_free (node_at nodes n) g) _
       (led_whole fits n g m (λ m. at table m f) e (closed m (along w e) f l (lack_test table closed l (along w e) i)))) (lack_test table closed l w r)
 
   pub lack_whole : (table : List (List Bool)) → ((n : ℕ) → Reached G root n → IsClosedAt (length names) (lack_follows templates nodes names) table n)

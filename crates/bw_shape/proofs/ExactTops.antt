@@ -1,7 +1,7 @@
 -- The least tables have exactly the facts on what stands at the top.
 use Rattle.std.proofs.Common.{◌≡◌, inl, inr, ℕ, suc, ◌+◌, ◌<◌, ◌≤◌, ◌==◌, Bool, true, false, ◌||◌, ◌&&◌, not, List, length, get_or, refl, ap, sym, ◌∙◌, subst}
 use Rattle.std.proofs.Common.{arith}
-use Rattle.std.proofs.lemmas.Bool.{false≢true, or_cases, cases_Bool, or_left, or_right}
+use Rattle.std.proofs.lemmas.Bool.{false≢true, or_cases, cases_Bool, or_left, or_right, and_parts, and_from, not-true}
 use Rattle.std.proofs.lemmas.Slice.Eq.{bytes_eq-Decides}
 use borrow.Author.Tests.{eqb-true, eq-eqb}
 use Rattle.bw_lang.specs.Document.Forest.{Forest, none, text, gap, element}
@@ -20,7 +20,6 @@ use Rattle.bw_shape.specs.Follows.{top_follows, miss_follows, cross_follows}
 use Rattle.bw_shape.specs.Shape as shape
 use Rattle.bw_shape.specs.Shape.{Reached, along, Top, tagged, wordy, Gives, Misses, Crossing}
 use Rattle.bw_shape.specs.Columns.{top_column, AreKnown}
-use Rattle.bw_shape.proofs.Nodes.Bools.{and_parts, and_both, not_true}
 use Rattle.bw_shape.proofs.Links.{led_sound, led_whole, same_number}
 use Rattle.bw_shape.proofs.ExactFields.{derived_all}
 
@@ -41,7 +40,7 @@ module _ (templates : List Forest) {nodes : List Node} {G : Graph} (fits : Fits 
   gives_by n x known l k (text s r) h = elim (or_cases ((0 == top_column tags x) && not (is_blank_text s)) _ h) [
     | inl it ↦ let p = and_parts (0 == top_column tags x) (not (is_blank_text s)) it in
         subst (λ y. Gives (template_at templates) G n (text s r) y)
-        (sym (text_is tags x (eqb-true 0 (top_column tags x) p.0))) (shape.text_here (not_true _ p.1))
+        (sym (text_is tags x (eqb-true 0 (top_column tags x) p.0))) (shape.text_here (not-true _ p.1))
     | inr it ↦ shape.after_text (gives_by n x known l k r it)
   ]
   gives_by n x known l k (gap g r) h = elim (or_cases (((0 == top_column tags x) && among (node_at nodes n).wordy g) || led (node_at nodes n) known g) _ h) [
@@ -142,7 +141,7 @@ module _ (templates : List Forest) {nodes : List Node} {G : Graph} (fits : Fits 
       ]
   miss_by n x known k (element tag a i r) h =
       let p = and_parts (not (name_number tags tag == name_number tags x)) _ h in
-      shape.other (number_is x tag (not_true _ p.0)) (miss_by n x known k r p.1)
+      shape.other (number_is x tag (not-true _ p.0)) (miss_by n x known k r p.1)
 
   abbrev MissAt : ℕ → ℕ → Type 0
   MissAt n c = (x : List ℕ) → name_number tags x ≡ c → Misses (template_at templates) G x n (template_at templates n)
@@ -162,15 +161,15 @@ module _ (templates : List Forest) {nodes : List Node} {G : Graph} (fits : Fits 
         → test.misses tags (node_at nodes n) (λ m. at table m (name_number tags x)) (name_number tags x) t ≡ true
     miss_test l w shape.end = refl
     miss_test l w (shape.words r) = miss_test l w r
-    miss_test {x = x} l w (shape.other {tag = tag} e r) = and_both _ _ (ap not (same_is x tag e (omega (arith, l, few)))) (miss_test l w r)
+    miss_test {x = x} l w (shape.other {tag = tag} e r) = and_from _ _ (ap not (same_is x tag e (omega (arith, l, few)))) (miss_test l w r)
     miss_test {x = x} {n = n} l w (shape.left {g = g} e r) =
-        and_both _ _ (or_left _ (led (node_at nodes n) (λ m. at table m (name_number tags x)) g)
+        and_from _ _ (or_left _ (led (node_at nodes n) (λ m. at table m (name_number tags x)) g)
         (or_left _ (among (node_at nodes n).said g) (fits.tracks n g ∙ e))) (miss_test l w r)
     miss_test {x = x} {n = n} l w (shape.said {g = g} {s = s} e r) =
-        and_both _ _ (or_left _ (led (node_at nodes n) (λ m. at table m (name_number tags x)) g)
+        and_from _ _ (or_left _ (led (node_at nodes n) (λ m. at table m (name_number tags x)) g)
         (or_right (among (node_at nodes n).open_gaps g) _ (fits.saying n g s e))) (miss_test l w r)
     miss_test {x = x} {n = n} l w (shape.led {g = g} {m = m} e i r) =
-        and_both _ _
+        and_from _ _
         (or_right (is_free (node_at nodes n) g) _
         (led_whole fits n g m (λ m. at table m (name_number tags x)) e (closed m (along w e) (name_number tags x) l (miss_test l (along w e) i))))
         (miss_test l w r)
@@ -253,12 +252,12 @@ module _ (templates : List Forest) {nodes : List Node} {G : Graph} (fits : Fits 
           → test.crosses tags (node_at nodes n) (at tops) (λ m. at table m k) (ofPair y x) t ≡ true
       cross_test k {x = x} {y = y} {n = n} l e w a (shape.element_first {i = i} {r = r} h) =
           or_left _ (test.crosses tags (node_at nodes n) (at tops) (λ m. at table m k) (ofPair y x) r)
-          (and_both _ _ (or_left (tag_column tags y == tag_column tags y) false (eq-eqb (tag_column tags y) (tag_column tags y) refl))
+          (and_from _ _ (or_left (tag_column tags y == tag_column tags y) false (eq-eqb (tag_column tags y) (tag_column tags y) refl))
           (tops_test known tops tops_closed w a.1.1 h).1)
       cross_test k {x = x} {y = y} {n = n} l e w a (shape.gap_first {g = g} {m = m} {r = r} d i h) =
           or_left _ (test.crosses tags (node_at nodes n) (at tops) (λ m. at table m k) (ofPair y x) r)
           (or_right (led (node_at nodes n) (λ m. at table m k) g) _
-          (and_both _ _
+          (and_from _ _
           (or_left ((((0 == tag_column tags y) && among (node_at nodes n).wordy g) || led (node_at nodes n) (λ m. at tops m (tag_column tags y)) g)) false
           (or_right ((0 == tag_column tags y) && among (node_at nodes n).wordy g) _
           (led_whole fits n g m (λ m. at tops m (tag_column tags y)) d (tops_whole known tops tops_closed m (tagged y) (along w d) i))))

@@ -1,13 +1,12 @@
 -- What the nodes of a graph say.
 use Rattle.std.proofs.Common.{◌≡◌, inl, inr, ℕ, ◌<◌, ◌==◌, Bool, true, ◌&&◌, List, [], ◌∷◌, length, get_or, refl, ap, sym, ◌∙◌, subst, arith}
 use Rattle.std.specs.List.{list_any}
-use Rattle.std.proofs.lemmas.Bool.{false≢true, or_cases, or_left, or_right}
+use Rattle.std.proofs.lemmas.Bool.{false≢true, or_cases, or_left, or_right, and_parts, and_from}
 use Rattle.std.proofs.lemmas.List.Sums.{passes_at_first}
 use Rattle.std.proofs.lemmas.Slice.Eq.{bytes_eq-Decides}
 use borrow.Author.Tests.{eqb-true, eq-eqb}
 use Rattle.bw_lang.specs.Table.Names.{same, name_number}
 use Rattle.bw_shape.specs.Nodes.Nodes.{Node, node_at, led, linked}
-use Rattle.bw_shape.proofs.Nodes.Bools.{and_parts, and_both}
 use Rattle.bw_shape.specs.Nodes.Fits.{Fits}
 use Rattle.bw_sum.specs.Graph.{Graph}
 
@@ -16,7 +15,7 @@ any_led : (p : ℕ × ℕ → Bool) (links : List (ℕ × ℕ)) → list_any p l
     → (l : ℕ × ℕ) × (p l ≡ true) × (list_any (λ k. (k.0 == l.0) && (k.1 == l.1)) links ≡ true)
 any_led p [] h = absurd (false≢true h)
 any_led p (l ∷ links) h = elim (or_cases (p l) (list_any p links) h) [
-  | inl it ↦ (l, it, or_left ((l.0 == l.0) && (l.1 == l.1)) _ (and_both (l.0 == l.0) (l.1 == l.1) (eq-eqb l.0 l.0 refl) (eq-eqb l.1 l.1 refl)))
+  | inl it ↦ (l, it, or_left ((l.0 == l.0) && (l.1 == l.1)) _ (and_from (l.0 == l.0) (l.1 == l.1) (eq-eqb l.0 l.0 refl) (eq-eqb l.1 l.1 refl)))
   | inr it ↦ let r = any_led p links it in (r.0, r.1, or_right ((l.0 == r.0.0) && (l.1 == r.0.1)) _ r.2)
 ]
 
@@ -42,7 +41,7 @@ module _ {nodes : List Node} {G : Graph} (fits : Fits nodes G) where
 
   pub led_whole : (n g m : ℕ) (known : ℕ → Bool) → G.edge n g m ≡ true → known m ≡ true → led (node_at nodes n) known g ≡ true
   led_whole n g m known e k =
-      led_any (λ l. (l.0 == g) && known l.1) (node_at nodes n).links g m (fits.edges n g m ∙ e) (and_both (g == g) (known m) (eq-eqb g g refl) k)
+      led_any (λ l. (l.0 == g) && known l.1) (node_at nodes n).links g m (fits.edges n g m ∙ e) (and_from (g == g) (known m) (eq-eqb g g refl) k)
 
   pub linked_sound : (n : ℕ) (known : ℕ → Bool) → linked (node_at nodes n) known ≡ true → (g : ℕ) × (m : ℕ) × (G.edge n g m ≡ true) × (known m ≡ true)
   linked_sound n known h =

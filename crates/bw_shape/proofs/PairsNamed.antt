@@ -2,7 +2,7 @@
 use Rattle.std.proofs.Common.{◌≡◌, ℕ, ◌+◌, ◌<◌, ◌≤◌, Bool, true, false, ◌||◌, not, cond, List, [], ◌∷◌, ◌++◌, length, take, get_or, append_assoc, refl, sym, ap}
 use Rattle.std.proofs.Common.{◌∙◌, subst, arith}
 use Rattle.std.specs.List.{list_any}
-use Rattle.std.proofs.lemmas.Bool.{false≢true, or_left, or_right}
+use Rattle.std.proofs.lemmas.Bool.{false≢true, or_left, or_right, and_from}
 use Rattle.std.proofs.lemmas.List.{append-nil, take_more}
 use Rattle.std.proofs.lemmas.List.Elements.{All-append, All-cons}
 use Rattle.std.proofs.lemmas.List.Folds.{list_any-append}
@@ -15,7 +15,6 @@ use Rattle.bw_schema.specs.NeedsView.{needs, before_need}
 use Rattle.bw_schema.proofs.NeedsLaws.{needs_more}
 use Rattle.bw_shape.specs.Tests.{tag_column}
 use Rattle.bw_sum.proofs.ReadGaps.{longer}
-use Rattle.bw_shape.proofs.Nodes.Bools.{and_both}
 use Rattle.bw_shape.specs.Formulas.{same_pair, pair_number, AreNamed, AreColumns, Names}
 use Rattle.bw_shape.proofs.Stays.{named_stay, named_append}
 
@@ -66,7 +65,7 @@ names_order a b c p r x y m n e f l k im in_ is =
     let eq : r ≡ p ++ pair ∷ [] = is ∙ ap (λ z. p ++ (z, n) ∷ []) one ∙ ap (λ z. p ++ (tag_column c y, z) ∷ []) two_ in
     let found_it : list_any (same_pair pair) (p ++ pair ∷ []) ≡ true =
     list_any-append (same_pair pair) p (pair ∷ [])
-    ∙ or_right (list_any (same_pair pair) p) _ (or_left (same_pair pair pair) false (and_both _ _ (eq-eqb pair.0 pair.0 refl) (eq-eqb pair.1 pair.1 refl))) in
+    ∙ or_right (list_any (same_pair pair) p) _ (or_left (same_pair pair pair) false (and_from _ _ (eq-eqb pair.0 pair.0 refl) (eq-eqb pair.1 pair.1 refl))) in
     let low = pair_known pair (p ++ pair ∷ []) found_it in
     record {
       front = extends_trans a b c e f;

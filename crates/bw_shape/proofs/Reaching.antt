@@ -2,7 +2,7 @@
 use Rattle.std.proofs.Common.{◌≡◌, ◌≢◌, ◌⊎◌, inl, inr, ℕ, zero, suc, ◌+◌, ◌<◌, ◌≤◌, ◌==◌, ◌&&◌, ◌++◌, Bool, true, false, List, [], ◌∷◌, length, set, get_or}
 use Rattle.std.proofs.Common.{replicate, refl, ap, sym, ◌∙◌, subst, arith}
 use Rattle.std.specs.List.{list_any, Contains}
-use Rattle.std.proofs.lemmas.Bool.{false≢true, or_cases, or_left, or_right}
+use Rattle.std.proofs.lemmas.Bool.{false≢true, or_cases, or_left, or_right, and_parts, and_from}
 use Rattle.std.proofs.lemmas.List.{get_or-set_same, get_or-set_other, length-set, length-append, get_or_append_left, get_or_default, get_or-replicate}
 use Rattle.std.proofs.lemmas.List.{length-replicate}
 use Rattle.std.proofs.lemmas.List.Elements.{All-push, Contains-append_left, Contains-push}
@@ -10,7 +10,6 @@ use borrow.Author.Tests.{eqb-true, eq-eqb}
 use Rattle.bw_shape.specs.Rows.Rows.{flag, ones}
 use Rattle.bw_shape.specs.Nodes.Nodes.{Node, node_at, no_node}
 use Rattle.bw_shape.specs.Reach.{links_to, Walked, root_is, along, Takes, Visit, Reaching, Reaches}
-use Rattle.bw_shape.proofs.Nodes.Bools.{and_parts, and_both}
 use Rattle.bw_shape.proofs.Rows.Steps.{equal_or, in_row}
 use Rattle.bw_shape.proofs.Rows.Waking.{last}
 
@@ -94,7 +93,7 @@ place_of (l ∷ links) g m h = elim (or_cases ((l.0 == g) && (l.1 == m)) (list_a
 at_place : (links : List (ℕ × ℕ)) (j : ℕ) → j < length links
     → list_any (λ l. (l.0 == (get_or links j (0, 0)).0) && (l.1 == (get_or links j (0, 0)).1)) links ≡ true
 at_place [] j h = absurd (omega (arith, h))
-at_place (l ∷ links) zero h = or_left ((l.0 == l.0) && (l.1 == l.1)) _ (and_both (l.0 == l.0) (l.1 == l.1) (eq-eqb l.0 l.0 refl) (eq-eqb l.1 l.1 refl))
+at_place (l ∷ links) zero h = or_left ((l.0 == l.0) && (l.1 == l.1)) _ (and_from (l.0 == l.0) (l.1 == l.1) (eq-eqb l.0 l.0 refl) (eq-eqb l.1 l.1 refl))
 at_place (l ∷ links) (suc j) h = or_right ((l.0 == (get_or links j (0, 0)).0) && (l.1 == (get_or links j (0, 0)).1)) _ (at_place links j (omega (arith, h)))
 
 none_set : (n : ℕ) → ones (replicate n false) ≡ 0

@@ -7,6 +7,7 @@ use Rattle.std.proofs.lemmas.List.{append-nil}
 use Rattle.std.proofs.lemmas.List.Elements.{Contains-append_cases}
 use Rattle.std.proofs.lemmas.List.Sums.{passes_at_first}
 use Rattle.std.proofs.lemmas.Option.{unwrap_or-slice_get}
+use Rattle.std.proofs.lemmas.Bool.{and_parts, and_from}
 use borrow.Author.Tests.{eqb-true, eq-eqb}
 use Rattle.bw_lang.specs.declared.service.Service.{Service}
 use Rattle.bw_lang.specs.Document.Forest.{Forest, none}
@@ -24,7 +25,7 @@ use Rattle.bw_shape.specs.declared.building.Graphed.{Graphed}
 use Rattle.bw_shape.specs.Nodes.Fits.{Fits, AreStrings}
 use Rattle.bw_shape.specs.Nodes.Templates.{template_at}
 use Rattle.bw_shape.proofs.Nodes.Wrapped.{rows_are}
-use Rattle.bw_shape.proofs.Nodes.Bools.{and_parts, and_both, passes_at, any_at}
+use Rattle.bw_shape.proofs.Nodes.Bools.{passes_at, any_at}
 use Rattle.bw_shape.specs.declared.naming.Named.{Named}
 use Rattle.bw_shape.specs.declared.outline.Outline.{Outline}
 use Rattle.bw_shape.specs.Exact.{HoldFacts, AreTables}
@@ -135,7 +136,7 @@ module _ (templates : List Forest) (names : List (List ℕ)) (root : ℕ) (graph
   at_reached : (n : ℕ) (b : Bool) (P : Type 0) → (Reached G root n → (b ≡ true) ↔ P) → ((is_reached o n && b) ≡ true) ↔ (Reached G root n × P)
   at_reached n b P h = (
     λ e. let p = and_parts (is_reached o n) b e in let w = reached_to n p.0 in (w, (h w).0 p.1),
-    λ q. and_both (is_reached o n) b (reached_from n q.0) ((h q.0).1 q.1),
+    λ q. and_from (is_reached o n) b (reached_from n q.0) ((h q.0).1 q.1),
   )
 
   pub are_facts : AreFacts (template_at templates) G root names rules o

@@ -9,7 +9,9 @@ use Rattle.bw_lang.specs.Service.Reads.{Reads, IsText, IsDraft}
 use Rattle.bw_syntax.specs.declared.fault.SyntaxFault.{SyntaxFault}
 use Rattle.bw_syntax.specs.declared.fault.SyntaxFault.TheVariants as faults
 use Rattle.bw_syntax.specs.Refusals.{IsUnread, IsFirstUnread, IsServiceRefused, IsSameFault, IsSameAnswer}
-use Rattle.bw_syntax.specs.Steps.Stages.{IsUntold, IsUnparsed, IsParsed, IsRefusedDraft, IsServiceOf}
+use Rattle.bw_syntax.specs.Told.{IsTold, IsUntold}
+use Rattle.bw_syntax.specs.declared.told.Told.{Told}
+use Rattle.bw_syntax.specs.Steps.Stages.{IsUnparsed, IsParsed, IsRefusedDraft, IsServiceOf}
 use Rattle.bw_syntax.proofs.OneAnswer.{reads_once, read_or_refused, one_reason_each}
 
 -- ---- the answers of the steps
@@ -35,6 +37,10 @@ pub first_unread_refuses : (name : List ℕ) (ds : List Draft) (fault : SyntaxFa
 first_unread_refuses name ds (faults.Template n f) u = u
 first_unread_refuses name ds faults.Memory u = tt
 first_unread_refuses name ds fault u = absurd (of_templates [] ds fault u)
+
+-- what is told of a text is what it says
+pub told_text : (bytes : List ℕ) (told : Told) → IsTold bytes told → IsText bytes told.lexemes.items
+told_text bytes told t = record { short = t.short; tokens = told.tokens; cut = t.cut; says = t.says }
 
 pub untold_refuses : (bytes : List ℕ) (fault : SyntaxFault) → IsUntold bytes fault → IsServiceRefused bytes fault
 untold_refuses bytes faults.TooLong u = u

@@ -3,45 +3,19 @@ ghost use Rattle.std.specs.Prelude.{◌≡◌, ◌≤◌, ◌⊎◌, Ok, Err, No
 ghost use Rattle.bw_lang.specs.Text.Brackets.{too_deep};
 ghost use Rattle.bw_lang.specs.declared.service.Service.{Service as Service_};
 ghost use Rattle.bw_lang.specs.Service.Drafts.{AreFormed};
-ghost use Rattle.bw_lang.specs.Service.Reads.{Reads, IsText};
+ghost use Rattle.bw_lang.specs.Service.Reads.{Reads};
 ghost use Rattle.bw_syntax.specs.declared.fault.SyntaxFault.{SyntaxFault as Fault_};
 ghost use Rattle.bw_syntax.specs.Refusals.{IsServiceRefused, IsSameAnswer};
-ghost use Rattle.bw_syntax.specs.Steps.Stages.{IsUntold, IsUnparsed, IsParsed, IsRefusedDraft, IsServiceOf, AreBounded};
+ghost use Rattle.bw_syntax.specs.Told.{IsTold};
+ghost use Rattle.bw_syntax.specs.Steps.Stages.{IsUnparsed, IsParsed, IsRefusedDraft, IsServiceOf, AreBounded};
 
 use crate::fault::SyntaxFault;
-use crate::lexemes::lexemes_of;
 use crate::templates::read_all;
-use bw_lang::limits::MAX_FILE_BYTES;
-use bw_lang::{Lexeme, Service, Token, Tokens};
-use bw_lex::{LexFault, lex};
+use crate::told::{Told, tell};
+use bw_lang::{Service, Token};
 use bw_limits::{too_deep, too_many};
 use bw_parse::{ParseFault, ServiceDraft, parse_service};
 use std::alloc::Global;
-
-/// The tokens of a text, and what they say.
-#[derive(Drop)]
-struct Told {
-    tokens: Tokens,
-    lexemes: Vec<Lexeme>,
-}
-
-/// The tokens of a text that isn't too long.
-fn tell(alloc: Global, bytes: &[u8]) -> Result<Told, SyntaxFault>
-    ensures told { IfOk result (λ t. IsText bytes.now t.lexemes.items) }
-    ensures untold { IfErr result (IsUntold bytes.now) }
-{
-    if bytes.len() > MAX_FILE_BYTES {
-        return Err(SyntaxFault::TooLong);
-    }
-    match lex(alloc, bytes) {
-        Ok(tokens) => match lexemes_of(alloc, bytes, tokens.as_slice()) {
-            Ok(lexemes) => Ok(Told { tokens, lexemes }),
-            Err(_) => Err(SyntaxFault::Memory),
-        },
-        Err(LexFault::Memory) => Err(SyntaxFault::Memory),
-        Err(fault) => Err(SyntaxFault::Lex(fault)),
-    }
-}
 
 /// The place of the first of the last `left` tokens, within a text of `len` bytes; its end, where none is left. It is a
 /// hint for people: that it is within the text is all that is promised.
@@ -97,19 +71,27 @@ fn finish(alloc: Global, draft: ServiceDraft) -> Result<Service, SyntaxFault>
     }
 }
 
-fn read(alloc: Global, bytes: &[u8]) -> Result<Service, SyntaxFault>
+/// The service of a text of these tokens.
+fn read(alloc: Global, bytes: &[u8], told: &Told) -> Result<Service, SyntaxFault>
+    requires { IsTold bytes.now told.now }
     ensures read { IfOk result (Reads bytes.now) }
     ensures refused { IfErr result (IsServiceRefused bytes.now) }
 {
-    let told = match tell(alloc, bytes) {
-        Ok(told) => told,
-        Err(fault) => return Err(fault),
-    };
-    let draft = match parse(alloc, &told, bytes.len()) {
-        Ok(draft) => draft,
-        Err(fault) => return Err(fault),
-    };
-    finish(alloc, draft)
+    match parse(alloc, told, bytes.len()) {
+        Ok(draft) => finish(alloc, draft),
+        Err(fault) => Err(fault),
+    }
+}
+
+/// The service that the bytes of a file read as, whose tokens are told already: [`read_service`] behind [`tell`].
+pub fn read_told(alloc: Global, bytes: &[u8], told: &Told) -> Result<Service, SyntaxFault>
+    requires { IsTold bytes.now told.now }
+    ensures read { IfOk result (Reads bytes.now) }
+    ensures only { (service : Service_) → Reads bytes.now service → (result ≡ Err Fault_.Memory) ⊎ (result ≡ Ok service) }
+    ensures refused { IfErr result (IsServiceRefused bytes.now) }
+    ensures only_refused { (fault : Fault_) → IsServiceRefused bytes.now fault → IsSameAnswer result fault }
+{
+    read(alloc, bytes, told)
 }
 
 /// The service that the bytes of a file read as.
@@ -123,5 +105,8 @@ pub fn read_service(alloc: Global, bytes: &[u8]) -> Result<Service, SyntaxFault>
     ensures refused { IfErr result (IsServiceRefused bytes.now) }
     ensures only_refused { (fault : Fault_) → IsServiceRefused bytes.now fault → IsSameAnswer result fault }
 {
-    read(alloc, bytes)
+    match tell(alloc, bytes) {
+        Ok(told) => read_told(alloc, bytes, &told),
+        Err(fault) => Err(fault),
+    }
 }

@@ -16,6 +16,7 @@ use Rattle.bw_schema.specs.RulesOf.{rules_of}
 use Rattle.bw_schema.specs.Words.{has_some, said}
 use Rattle.bw_schema.specs.declared.fault.SchemaFault.{SchemaFault}
 use Rattle.bw_schema.specs.declared.fault.SchemaFault.TheVariants as fault
+use Rattle.bw_schema.specs.declared.formulas.TheConstants.{FORMULA_NESTING}
 use Rattle.bw_schema.specs.declared.lines.Line.{Line}
 use Rattle.bw_schema.specs.declared.lines.Line.TheVariants.{Element, May, Must, Value, Has, Text, Need}
 use Rattle.bw_schema.specs.declared.needs.Formula.{Formula}
@@ -120,7 +121,7 @@ formula_at (suc d) ws = opened (inside_at (formula_at d)) ws
 
 -- the formula that all of the words write
 unfoldable pub formula_of : List (List ℕ) → Option Formula
-formula_of ws = formula_at 16 ws >>= λ x. if length x.1 == 0 then Some x.0 else None
+formula_of ws = formula_at FORMULA_NESTING ws >>= λ x. if length x.1 == 0 then Some x.0 else None
 
 -- ---- lines
 

@@ -1,7 +1,7 @@
 -- What the nodes say is what the members of the summary say.
 use Rattle.std.proofs.Common.{◌≡◌, inl, inr, ℕ, ◌==◌, Bool, true, false, ◌||◌, ◌&&◌, not, if◌then◌else◌, List, [], ◌∷◌, refl, ap, sym, ◌∙◌}
 use Rattle.std.specs.List.{list_any}
-use Rattle.std.proofs.lemmas.Bool.{false≢true, cases_Bool, or_cases, or_left, or_right}
+use Rattle.std.proofs.lemmas.Bool.{false≢true, cases_Bool, or_cases, or_left, or_right, and_parts, and_from, not-true}
 use Rattle.std.specs.List.{AllByRecursion}
 use Rattle.bw_solve.specs.Tables.{found}
 use Rattle.std.specs.Prelude.{cond}
@@ -20,7 +20,7 @@ use Rattle.bw_sum.specs.Labels.{pair_cmp, IsHeld, AreLabels}
 use Rattle.bw_sum.proofs.PartLaws.{is_eq_nat}
 use Rattle.bw_shape.specs.Nodes.Nodes.{among}
 use Rattle.bw_shape.specs.Nodes.Parts.{links_of, opens_of, sayings_of, gaps_of, wordy_of}
-use Rattle.bw_shape.proofs.Nodes.Bools.{and_parts, and_both, not_true, fails_at, any_at, all_at, passes_at, same_itself}
+use Rattle.bw_shape.proofs.Nodes.Bools.{fails_at, any_at, all_at, passes_at, same_itself}
 use Rattle.std.proofs.lemmas.Slice.Eq.{bytes_eq-Decides}
 use Rattle.std.proofs.Math.Bool.{and_assoc, or-false}
 
@@ -111,7 +111,7 @@ said_to literals n g (l ∷ ls) t h = elim (or_cases ((l.0.0 == n) && (l.0.1 == 
       | inl it ↦ let s = some_string literals l.1 t.1.0 in (
         s.0,
         or_left (at_gap literals n g s.0 l) (list_any (at_gap literals n g s.0) ls)
-            (and_both _ _ it s.1),
+            (and_from _ _ it s.1),
       )
       | inr it ↦ let r = said_to literals n g ls t.1.1 it in (r.0, or_right (at_gap literals n g r.0 l) _ r.1)
     ]
@@ -143,8 +143,8 @@ wordy_to literals n g (l ∷ ls) h =
       | inl it ↦
           let p = and_parts (l.0.0 == n) (not (blank literals l.1) && (l.0.1 == g)) it in
           let q = and_parts (not (blank literals l.1)) (l.0.1 == g) p.1 in
-          let s = wordy_string literals l.1 (not_true _ q.0) in
-          (s.0, or_left (at_gap literals n g s.0 l) (list_any (at_gap literals n g s.0) ls) (and_both _ _ (and_both _ _ p.0 q.1) s.1), s.2)
+          let s = wordy_string literals l.1 (not-true _ q.0) in
+          (s.0, or_left (at_gap literals n g s.0 l) (list_any (at_gap literals n g s.0) ls) (and_from _ _ (and_from _ _ p.0 q.1) s.1), s.2)
       | inr it ↦ let r = wordy_to literals n g ls it in (r.0, or_right (at_gap literals n g r.0 l) _ r.1, r.2)
     ]
 
@@ -158,7 +158,7 @@ wording_from literals n g w (l ∷ ls) h k = wordy_if literals (l.0.0 == n) (l.0
           let p = and_parts ((l.0.0 == n) && (l.0.1 == g)) (has_string literals l.1 w) it in
           let q = and_parts (l.0.0 == n) (l.0.1 == g) p.0 in
           or_left ((l.0.0 == n) && (not (blank literals l.1) && (l.0.1 == g))) (among (wordy_of literals (sayings_of n ls)) g)
-          (and_both _ _ q.0 (and_both _ _ (ap not (blank_string literals l.1 w p.1 k)) q.1))
+          (and_from _ _ q.0 (and_from _ _ (ap not (blank_string literals l.1 w p.1 k)) q.1))
       | inr it ↦ or_right ((l.0.0 == n) && (not (blank literals l.1) && (l.0.1 == g))) _ (wording_from literals n g w ls it k)
     ]
 
@@ -177,7 +177,7 @@ label_is literals n g w (l ∷ ls) t = by_key (is_eq (pair_cmp l.0 (n, g))) refl
           let q = and_parts (l.0.0 == n) (l.0.1 == g) (sym (two_eq l.0 (n, g)) ∙ e) in
           let m : (l.0.0 == f.0.0) ≡ true = ap (λ k. l.0.0 == k) (eqb-true f.0.0 n p.0) ∙ q.0 in
           let o : (l.0.1 == f.0.1) ≡ true = ap (λ k. l.0.1 == k) (eqb-true f.0.1 g p.1) ∙ q.1 in
-          absurd (false≢true (sym (ap is_eq a.0) ∙ two_eq l.0 f.0 ∙ and_both _ _ m o))
+          absurd (false≢true (sym (ap is_eq a.0) ∙ two_eq l.0 f.0 ∙ and_from _ _ m o))
       | inr isnt ↦ ap (λ b. (b && has_string literals f.1 w) || list_any (at_gap literals n g w) rest) isnt ∙ none_behind rest a.1 e
     ]
 

@@ -12,18 +12,10 @@ use Rattle.bw_lang.specs.Service.Drafts.{AreFormed, spell_service}
 use Rattle.bw_lang.specs.Service.Limits.{too_many}
 use Rattle.bw_lang.specs.Service.Reads.{AreRead, service_of}
 use Rattle.bw_lang.specs.Text.Words.{IsName}
-use Rattle.bw_lex.specs.Refusals.{IsTextRefused as IsUntokened}
 use Rattle.bw_syntax.specs.declared.fault.SyntaxFault.{SyntaxFault}
 use Rattle.bw_syntax.specs.declared.fault.SyntaxFault.TheVariants as faults
 use Rattle.bw_syntax.specs.Refusals.{SpellNothing, IsFirstUnread}
 use Rattle.bw_lang.specs.declared.limits.TheConstants.{MAX_FILE_BYTES}
-
--- the bytes have no tokens
-abbrev pub IsUntold : List ℕ → SyntaxFault → Type 0
-IsUntold bytes faults.TooLong = MAX_FILE_BYTES < length bytes
-IsUntold bytes (faults.Lex fault) = (length bytes ≤ MAX_FILE_BYTES) × IsUntokened bytes fault
-IsUntold bytes faults.Memory = ⊤
-IsUntold bytes fault = ⊥
 
 -- the lexemes pass no limit, and are those of this service
 pub record IsParsed (ls : List Lexeme) (name : List ℕ) (ds : List Draft) : Type 0 where

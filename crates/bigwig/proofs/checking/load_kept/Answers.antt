@@ -1,4 +1,5 @@
-use Rattle.std.proofs.Common.{Ok, Err, Result, ap, ◌∙◌}
+use Rattle.std.proofs.Common.{Ok, Err, Result, IfSome, ap, sym, subst, ◌∙◌}
+use Rattle.bw_syntax.specs.Told.{IsTold}
 use Rattle.bigwig.specs.Asked.{accepted_file, service_file, checked_by, checked_with, schema}
 use Rattle.bigwig.specs.Behind.{shown_if, shown_file}
 use Rattle.bigwig.specs.Checks.{ruled_by}
@@ -38,6 +39,10 @@ returns-in-Err-clause-answers g c =
     (λ disk. checked_by (shown_file source disk name) disk judging.schema form) tree (Err c.in-Err.stop) c.in_ok-loaded.ensures.told c.in_ok-loaded.ensures.answers
     (told_first _ (λ disk. schema disk judging.schema) (λ disk. checked_with (shown_file source disk name) disk form tree) _ c.in-Err.ensures.answers))
 
+pub seen_as-how-requires : goal.seen_as-how-requires
+seen_as-how-requires g c =
+    subst (λ t. IfSome c.in_ok-loaded.loaded.told (IsTold t)) (sym c.deref.ensures.value) c.in_ok-loaded.ensures.kept.told_of
+
 pub returns-in-Ok-checked_with-clause-answers : goal.returns-in-Ok-checked_with-clause-answers
 returns-in-Ok-checked_with-clause-answers g c =
     let judging = c.args.named.judging.now in
@@ -54,7 +59,8 @@ returns-in-Ok-checked_with-clause-answers g c =
     c.in-Ok.ensures.told c.in-Ok.ensures.answers
     (shown_told kept_by source _ _ name text.items _ (λ how disk. checked_with how disk form tree c.in-Ok.schema) r
     (c.in-Ok.ensures.told ∙ c.in_ok-loaded.ensures.told) c.in_ok-loaded.ensures.text
-    (c.shown_as-how.ensures ∙ ap (shown_if source name) c.deref.ensures.value) c.in-Ok-checked_with.ensures.answers)))
+    (c.seen_as-how.ensures ∙ ap (λ s. shown_if s name c.deref.result.now) c.in_ok-loaded.ensures.kept.asked
+    ∙ ap (shown_if source name) c.deref.ensures.value) c.in-Ok-checked_with.ensures.answers)))
 
 pub returns-in-Err-checked_with-clause-answers : goal.returns-in-Err-checked_with-clause-answers
 returns-in-Err-checked_with-clause-answers g c =
@@ -72,7 +78,8 @@ returns-in-Err-checked_with-clause-answers g c =
     c.in-Ok.ensures.told c.in-Ok.ensures.answers
     (shown_told kept_by source _ _ name text.items _ (λ how disk. checked_with how disk form tree c.in-Ok.schema) r
     (c.in-Ok.ensures.told ∙ c.in_ok-loaded.ensures.told) c.in_ok-loaded.ensures.text
-    (c.shown_as-how.ensures ∙ ap (shown_if source name) c.deref.ensures.value) c.in-Err-checked_with.ensures.answers)))
+    (c.seen_as-how.ensures ∙ ap (λ s. shown_if s name c.deref.result.now) c.in_ok-loaded.ensures.kept.asked
+    ∙ ap (shown_if source name) c.deref.ensures.value) c.in-Err-checked_with.ensures.answers)))
 
 pub returns-in-Ok-checked_with-clause-read_fault : goal.returns-in-Ok-checked_with-clause-read_fault
 returns-in-Ok-checked_with-clause-read_fault g c =

@@ -1,15 +1,14 @@
-use Rattle.bigwig.specs.Asked.{read, typed}
-use Rattle.bigwig.specs.Behind.{shown_of}
-use Rattle.bigwig.proofs.Answering.{asks_next}
+use Rattle.bw_diagnose.proofs.Read.{untold_lent}
+use Rattle.bw_syntax.proofs.Stages.{untold_refuses}
+use Rattle.bigwig.specs.Behind.{shown_if}
 use Rattle.bigwig.proofs.Loads.{unread}
 use Rattle.bigwig.proofs.loading.typed_of.Goals as goal
 
-pub returns-in-Ok-clause-answers : goal.returns-in-Ok-clause-answers
-returns-in-Ok-clause-answers c =
-    asks_next _ (read (shown_of c.args.how) c.args.bytes.now) (typed (shown_of c.args.how)) c.in-Ok.service c.resolved.result c.in-Ok.ensures.read
-    c.resolved.ensures.answers
+pub syntax_text-text-requires : goal.syntax_text-text-requires
+syntax_text-text-requires c = untold_lent c.args.bytes.now c.none.result c.in-Err.fault c.in-Err.ensures.untold
 
 pub returns-in-Err-clause-answers : goal.returns-in-Err-clause-answers
 returns-in-Err-clause-answers c =
-    unread (shown_of c.args.how) c.args.bytes.now c.in-Err.fault c.syntax_text.result c.refused_text.result c.refused_text.ensures.text
-    c.refused_text.ensures.memory c.syntax_text.ensures.text c.syntax_text.ensures.reason c.in-Err.ensures.refused
+    unread (shown_if c.args.source c.args.name.now c.args.bytes.now) c.args.bytes.now c.in-Err.fault c.syntax_text-text.result c.refused_text.result
+    c.refused_text.ensures.text c.refused_text.ensures.memory c.syntax_text-text.ensures.text c.syntax_text-text.ensures.reason
+    (untold_refuses c.args.bytes.now c.in-Err.fault c.in-Err.ensures.untold)

@@ -1,9 +1,9 @@
-use Rattle.std.proofs.Common.{◌≡◌, ◌≤◌, drop}
-use Rattle.bw_excerpt.specs.Columns as spec
+use Rattle.std.proofs.Common.{◌≡◌, ◌≤◌, length, drop}
+use Rattle.bw_excerpt.specs.Columns.{feeds}
 use Rattle.bw_excerpt.proofs.columns.last_line.Given as goal
 
-abbrev pub invariant-loop-index : goal.invariant-loop-index
-invariant-loop-index l = record {
-  within : l.start ≤ l.index;
-  rest : spec.last_line (drop l.start l.bytes) (drop l.index l.bytes) ≡ spec.last_line l.bytes l.bytes;
-}
+abbrev pub invariant-loop-start : goal.invariant-loop-start
+invariant-loop-start l = record { within : l.start ≤ length l.bytes; plain : feeds (drop l.start l.bytes) ≡ 0 }
+
+abbrev pub decreases-loop-start : goal.decreases-loop-start
+decreases-loop-start l = l.start

@@ -1,7 +1,7 @@
 use Rattle.std.proofs.Common.{◌∙◌, ap, sym, map, drop, ◌+◌}
 use Rattle.bw_format.specs.Steps.{op, run}
 use Rattle.bw_format.proofs.StepRuns.{step_taken, all_taken}
-use Rattle.bw_format.proofs.steps.Walk.read.Goals as goal
+use Rattle.bw_format.proofs.walking.Walk.read.Goals as goal
 
 pub loop-step-preserved : goal.loop-step-preserved
 loop-step-preserved c =

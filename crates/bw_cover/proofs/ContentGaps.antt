@@ -2,7 +2,7 @@
 use Rattle.std.proofs.Common.{◌≡◌, ◌<◌, ◌+◌, ℕ, zero, suc, Bool, true, false, cond, List, [], ◌∷◌, ◌++◌, length, map, Some, refl, sym, ap, ◌∙◌, arith}
 use Rattle.std.specs.Prelude.{◌||◌, ◌==◌, find, option_map, slice_get, unwrap_or}
 use Rattle.std.specs.List.{list_any, AllPairs}
-use Rattle.std.proofs.lemmas.Bool.{false≢true, eqb-true, eq-eqb, or_parts}
+use Rattle.std.proofs.lemmas.Bool.{false≢true, eqb-true, eq-eqb, false_from_ne_true, or_parts}
 use Rattle.std.proofs.lemmas.List.Folds.{list_any-append, list_any_none}
 use Rattle.bw_lang.specs.declared.items.Attr.{Attr}
 use Rattle.bw_lang.specs.declared.items.AttrValue.{AttrValue}
@@ -45,15 +45,11 @@ tree_holes g (element tag attrs i d) =
     ∙ ap (λ b. holes g attrs || b) (list_any-append (is_attribute g) (gap_uses i) (gap_uses d) ∙ ap (λ b. b || attribute_in g (gap_uses d)) (tree_holes g i)
     ∙ ap (λ b. has_hole g i || b) (tree_holes g d))
 
-not_true : (b : Bool) → (b ≡ true → ⊥) → b ≡ false
-not_true true h = absurd (h refl)
-not_true false h = refl
-
 -- a gap that no template has for an attribute, and none of the wrappers
 no_hole : (gaps g : ℕ) (ts : List Template) (n : ℕ) → g < gaps → attribute_in g (template_uses ts) ≡ false
     → has_hole g (unwrap_or (slice_get (map (λ (t : Template). t.items) ts ++ show_wrapper gaps ∷ exit_wrapper gaps ∷ []) n) none) ≡ false
 no_hole gaps g [] zero lt h =
-    let apart : (gaps + 1 == g) ≡ false = not_true (gaps + 1 == g) (λ e. let i = eqb-true (gaps + 1) g e in absurd (omega arith)) in
+    let apart : (gaps + 1 == g) ≡ false = false_from_ne_true (gaps + 1 == g) (λ e. let i = eqb-true (gaps + 1) g e in absurd (omega arith)) in
     ap (λ b. (((b || false) || false) || false) || false) apart
 no_hole gaps g [] (suc zero) lt h = refl
 no_hole gaps g [] (suc (suc n)) lt h = refl
@@ -86,11 +82,11 @@ all_content (x ∷ xs) g h e = by_test (x.0 == g) refl e (all_content xs g (λ i
         → (is_attribute g x || attribute_in g xs) ≡ false
     by_test true t k ih =
         let c : x.1 ≡ Content = cc in
-        ap (λ b. b || attribute_in g xs) (not_true (is_attribute g x) (λ q. content_is_none (sym c ∙ (attribute_is g x q).1)))
-        ∙ list_any_none (is_attribute g) xs (λ i d lt. not_true (is_attribute g _) (λ q.
+        ap (λ b. b || attribute_in g xs) (false_from_ne_true (is_attribute g x) (λ q. content_is_none (sym c ∙ (attribute_is g x q).1)))
+        ∙ list_any_none (is_attribute g) xs (λ i d lt. false_from_ne_true (is_attribute g _) (λ q.
         let r = attribute_is g _ q in
         content_is_none (sym c ∙ h 0 (suc i) d (omega arith) (omega arith) (eqb-true x.0 g t ∙ sym r.0) ∙ r.1)))
-    by_test false t k ih = ap (λ b. b || attribute_in g xs) (not_true (is_attribute g x) (λ q. false≢true (sym t ∙ eq_test x.0 g (attribute_is g x q).0)))
+    by_test false t k ih = ap (λ b. b || attribute_in g xs) (false_from_ne_true (is_attribute g x) (λ q. false≢true (sym t ∙ eq_test x.0 g (attribute_is g x q).0)))
         ∙ ih k
       where
         eq_test : (m n : ℕ) → m ≡ n → (m == n) ≡ true

@@ -1,6 +1,6 @@
 use Rattle.bigwig.specs.Lent.{seen_of}
 use Rattle.bigwig.proofs.Beside.{links_kept}
-use Rattle.bigwig.proofs.keeping.keep_port.Goals as goal
+use Rattle.bigwig.proofs.beginning.keep_port.Goals as goal
 
 pub returns-in-Ok-print_serving-clause-serves : goal.returns-in-Ok-print_serving-clause-serves
 returns-in-Ok-print_serving-clause-serves g c ruled m is stands fit =

@@ -2,7 +2,7 @@ use Rattle.std.proofs.Common.{refl}
 use Rattle.bigwig.specs.Keeping.IsKept.{failed}
 use Rattle.bigwig.specs.Lent.{seen_of}
 use Rattle.bigwig.proofs.Beside.{begun_kept}
-use Rattle.bigwig.proofs.keeping.keep_begun.Goals as goal
+use Rattle.bigwig.proofs.beginning.keep_begun.Goals as goal
 
 pub returns-in-Ok-clause-keeps : goal.returns-in-Ok-clause-keeps
 returns-in-Ok-clause-keeps g c ruled text content is found head sum =

@@ -3,7 +3,7 @@ use Rattle.std.proofs.lemmas.Result.{IfOk-weaker}
 use Rattle.bigwig.specs.Commands.{command_of, command_by}
 use Rattle.bigwig.specs.Words.{IsTaken, line_of, written_by}
 use Rattle.bigwig.proofs.CommandLine.{command_taken, command_refused, any_value}
-use Rattle.bigwig.proofs.command.read_words.Goals as goal
+use Rattle.bigwig.proofs.reading.read_words.Goals as goal
 
 pub returns-in-Ok-read_line-clause-ok : goal.returns-in-Ok-read_line-clause-ok
 returns-in-Ok-read_line-clause-ok c =
