@@ -114,9 +114,6 @@ impl Moved {
     }
 }
 
-/// The bytes from which on a text is worth laying the steps out for.
-const WORTH_STEPS: usize = 4;
-
 impl Pattern {
     /// Whether it may end here.
     fn ends(&self, enter: bool, marks: &[bool]) -> bool
@@ -248,14 +245,14 @@ impl Pattern {
         light_at(ends, enter, walk.marks(self.places()))
     }
 
-    /// The light of a text. It takes no memory. The steps take a fraction of the time that the tree takes. By the tree go
-    /// texts that are read sooner than the steps are laid out, and a pattern that has no room for them.
+    /// The light of a text. It takes no memory. The steps take a fraction of the time that the tree takes, for texts of some
+    /// characters too. By the tree go the empty text, and a pattern that has no room for its steps.
     pub fn light(&self, text: &str) -> Light
         requires places { places self.now ≤ MAX_PATTERN_CHARS }
         requires repeats { repeats self.now ≤ MAX_PATTERN_CHARS }
         ensures { result ≡ spec.light self.now (chars text.now) }
     {
-        if text.len() < WORTH_STEPS {
+        if text.is_empty() {
             return self.light_by_tree(text);
         }
         let mut steps = ArrayVec::new();

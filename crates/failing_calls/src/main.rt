@@ -4,9 +4,9 @@
 //! behind it are answered as if nothing had been. Beside a journal, its opening fails, each cut, and each piece that is to be
 //! kept: the program ends, no link that waited holds a byte, and who begins again with the journal answers what was left.
 //!
-//! With the word `memory` it answers a guest book's requests and checks a service by four workers, for tools/without_memory, and
-//! ends with code 20 where a request for memory was refused and a run ended for it, with 21 where a request was answered by
-//! 503, and with 22 where there was no memory for the trial itself.
+//! With the word `memory` it answers a guest book's requests, checks a service by four workers, shows why one is refused, tells
+//! lights, and serves links beside a journal, for tools/without_memory. It ends with code 20 where a request for memory was refused
+//! and a run ended for it, with 21 where a request was answered by 503, and with 22 where there was no memory for the trial itself.
 #![tactic(auto)]
 
 mod door;
@@ -15,6 +15,7 @@ mod memory;
 mod replays;
 mod runs;
 mod serves;
+mod wanting;
 
 use crate::memory::Came;
 use crate::runs::Wrong;
@@ -73,11 +74,22 @@ fn code_of(came: Came) -> u8 {
     }
 }
 
-/// The first of the two runs that came to something.
+/// What the first of the runs came to that came to something.
 fn try_memory<R: Threads + Sync>(rt: &R, alloc: Global) -> Result<Came, Wrong> {
-    match memory::try_replay(rt, alloc)? {
-        Came::Nothing => memory::try_check(rt, alloc),
-        came => Ok(came),
+    let came = or(
+        memory::try_replay(rt, alloc)?,
+        memory::try_check(rt, alloc)?,
+    );
+    let came = or(came, wanting::try_shown(rt, alloc)?);
+    let came = or(came, wanting::try_lights(rt, alloc)?);
+    Ok(or(came, wanting::try_kept(rt, alloc)?))
+}
+
+/// The first, unless it came to nothing.
+fn or(first: Came, second: Came) -> Came {
+    match first {
+        Came::Nothing => second,
+        came => came,
     }
 }
 

@@ -23,14 +23,14 @@ const REQUESTS: [&[u8]; 4] = [
 ];
 
 /// A request that changes nothing, and its reply.
-const NOBODY: &[u8] = b"GET /nobody HTTP/1.1\r\nHost: a\r\n\r\n";
+pub const NOBODY: &[u8] = b"GET /nobody HTTP/1.1\r\nHost: a\r\n\r\n";
 
 const NOT_FOUND: &[u8] =
     b"HTTP/1.1 404 Not Found\r\nContent-Type: text/plain; charset=utf-8\r\nContent-Length: 13\r\nCache-Control: \
       no-store\r\nConnection: close\r\n\r\nno such page\n";
 
 /// The reply where there is no memory.
-const OUT_OF_MEMORY: &[u8] =
+pub const OUT_OF_MEMORY: &[u8] =
     b"HTTP/1.1 503 Service Unavailable\r\nContent-Type: text/plain; charset=utf-8\r\nContent-Length: 14\r\nCache-Control: \
       no-store\r\nConnection: close\r\n\r\nout of memory\n";
 
@@ -38,7 +38,7 @@ const OUT_OF_MEMORY: &[u8] =
 const ACCEPTED: &[u8] = b"accepted\n";
 
 /// The exit code of a run without memory.
-const NO_MEMORY: u8 = 8;
+pub const NO_MEMORY: u8 = 8;
 
 /// How many pages the made service has.
 const PAGES: u32 = 20;

@@ -94,14 +94,19 @@ pub struct Replayed {
     pub output: Vec<u8>,
 }
 
-/// The file of a service, which is read as a whole.
-fn service_file(content: &[u8]) -> MemFile<'_> {
+/// A file that is read as a whole.
+pub fn whole_file<'a>(name: &'a str, content: &'a [u8]) -> MemFile<'a> {
     MemFile {
-        name: "s",
+        name,
         content,
         piece: usize::MAX,
         failing: &[],
     }
+}
+
+/// The file of a service.
+fn service_file(content: &[u8]) -> MemFile<'_> {
+    whole_file("s", content)
 }
 
 /// Answers the requests of a file by a service, at most `limit` of them, with calls that go so for the request file and the
@@ -132,14 +137,19 @@ pub fn replay<R: Threads + Sync>(
 
 /// Checks a service by four workers.
 pub fn check<R: Threads + Sync>(rt: &R, alloc: Global, service: &[u8]) -> Result<Replayed, Wrong> {
+    let words = ["check", "s", "--workers", "4"];
+    told(rt, alloc, &words, &[service_file(service)])
+}
+
+/// What a command prints that reads these files.
+pub fn told<R: Threads + Sync>(
+    rt: &R,
+    alloc: Global,
+    words: &[&str],
+    folder: &[MemFile<'_>],
+) -> Result<Replayed, Wrong> {
     let out = MemSink::new(alloc, ROOM, usize::MAX, &[])?;
-    printed(
-        rt,
-        alloc,
-        &["check", "s", "--workers", "4"],
-        &[service_file(service)],
-        out,
-    )
+    printed(rt, alloc, words, folder, out)
 }
 
 /// What a run that serves nothing prints to this output.
@@ -272,7 +282,7 @@ fn keep_by<R: Threads + Sync>(
     journal: &[u8],
     lent: &mut Lent<'_, GroupDoor<'_>>,
 ) -> Result<Kept, Wrong> {
-    let folder = [service_file(TWICE), journal_file(journal)];
+    let folder = [service_file(TWICE), whole_file("j", journal)];
     let words = ["serve", "s", "--journal", "j"];
     let status = status_of(rt, alloc, &words, &folder, lent);
     Ok(Kept {
@@ -288,16 +298,6 @@ fn content_of(alloc: Global, journals: &MemJournals<'_>) -> Result<Vec<u8>, Allo
     match journals.file() {
         Some(content) => Vec::from_slice(alloc, content),
         None => Ok(Vec::new(alloc)),
-    }
-}
-
-/// The file of a journal.
-fn journal_file(content: &[u8]) -> MemFile<'_> {
-    MemFile {
-        name: "j",
-        content,
-        piece: usize::MAX,
-        failing: &[],
     }
 }
 

@@ -1,0 +1,135 @@
+//! Want of memory where a refusal is shown, where lights are told, and beside a journal: one request for it is refused.
+use crate::memory::{Came, NO_MEMORY, NOBODY, OUT_OF_MEMORY};
+use crate::runs::{Beside, Kept, Replayed, Wrong, keep, told, whole_file};
+use crate::serves::REQUESTS;
+use std::alloc::Global;
+use std::thread::Threads;
+
+/// A service whose page lacks the field that is received.
+const LACKING: &[u8] =
+    b"service Lacking { html Ask = <html><p>Name</p></html>; session go() { string x = \"\"; show Ask receive [x=x]; exit Ask; } }";
+
+/// Formats, and a text of each light.
+const FORMATS: &[u8] = b"age [0-9][0-9]?\nword (a|b)+c\n";
+
+const TEXTS: &[u8] = b"age 4\nage\nword abab\nword x\n";
+
+/// Checks a service that is refused and shown, and says what a refused request for memory led to.
+pub fn try_shown<R: Threads + Sync>(rt: &R, alloc: Global) -> Result<Came, Wrong> {
+    let folder = [whole_file("s", LACKING)];
+    let words = ["check", "s", "--show-source"];
+    let got = told(rt, alloc, &words, &folder)?;
+    let again = told(rt, alloc, &words, &folder)?;
+    came_of_words(&got, &again)
+}
+
+/// Tells lights, and says what a refused request for memory led to.
+pub fn try_lights<R: Threads + Sync>(rt: &R, alloc: Global) -> Result<Came, Wrong> {
+    let folder = [whole_file("f", FORMATS), whole_file("t", TEXTS)];
+    let words = ["light", "f", "t"];
+    let got = told(rt, alloc, &words, &folder)?;
+    let again = told(rt, alloc, &words, &folder)?;
+    came_of_words(&got, &again)
+}
+
+/// Whether a run ended for want of memory, and had printed nothing.
+fn is_stopped(run: &Replayed) -> bool {
+    run.status == NO_MEMORY && run.output.is_empty()
+}
+
+/// What a refused request for memory led to where this came, beside a later run.
+fn came_of_words(got: &Replayed, again: &Replayed) -> Result<Came, Wrong> {
+    if is_stopped(got) {
+        return Ok(Came::Stopped);
+    }
+    let are_alike = got.status == again.status && got.output == again.output;
+    if are_alike || is_stopped(again) {
+        return Ok(Came::Nothing);
+    }
+    Err(Wrong::Refused)
+}
+
+/// Serves a link for each request beside a new journal, with another request in the place of the one at `without`.
+fn served<R: Threads + Sync>(
+    rt: &R,
+    alloc: Global,
+    without: usize,
+    other: &[u8],
+) -> Result<Kept, Wrong> {
+    let mut requests = Vec::new(alloc);
+    for (place, request) in REQUESTS.iter().enumerate() {
+        requests.push(if place == without { other } else { request })?;
+    }
+    let beside = Beside {
+        journal: &[],
+        is_ready: false,
+        openings: &[],
+        failing: &[],
+    };
+    keep(rt, alloc, &requests, beside)
+}
+
+/// Serves links beside a journal, and says what a refused request for memory led to.
+pub fn try_kept<R: Threads + Sync>(rt: &R, alloc: Global) -> Result<Came, Wrong> {
+    let all = REQUESTS.len();
+    let got = served(rt, alloc, all, b"")?;
+    let first = served(rt, alloc, all, b"")?;
+    let second = served(rt, alloc, all, b"")?;
+    if are_alike(&got, &first) || are_alike(&got, &second) {
+        return Ok(Came::Nothing);
+    }
+    came_of_kept(rt, alloc, &got)
+}
+
+/// Whether all that came is the same.
+fn are_alike(kept: &Kept, other: &Kept) -> bool {
+    kept.status == other.status
+        && kept.output == other.output
+        && kept.held == other.held
+        && kept.journal == other.journal
+}
+
+/// What a refused request for memory led to where this came, which isn't what is due without one.
+fn came_of_kept<R: Threads + Sync>(rt: &R, alloc: Global, got: &Kept) -> Result<Came, Wrong> {
+    if got.status == NO_MEMORY {
+        return if got.output.is_empty() && got.held.is_empty() && got.journal.is_empty() {
+            Ok(Came::Stopped)
+        } else {
+            Err(Wrong::Refused)
+        };
+    }
+    for place in 0..REQUESTS.len() {
+        if got.status == 0 && is_without(rt, alloc, got, place)? {
+            return Ok(Came::Answered);
+        }
+    }
+    Err(Wrong::Refused)
+}
+
+/// Whether all is as it is where the request at this place wasn't sent, but for its reply. Where there was no memory to read it,
+/// it has no key; else it has one, as a request that changes nothing.
+fn is_without<R: Threads + Sync>(
+    rt: &R,
+    alloc: Global,
+    got: &Kept,
+    place: usize,
+) -> Result<bool, Wrong> {
+    let unread = served(rt, alloc, place, b"")?;
+    let unanswered = served(rt, alloc, place, NOBODY)?;
+    Ok(differ_by_one_reply(got, &unread, place) || differ_by_one_reply(got, &unanswered, place))
+}
+
+/// Whether both are the same but for the reply on the link of this place: here it is that there was no memory.
+fn differ_by_one_reply(got: &Kept, other: &Kept, place: usize) -> bool {
+    for (number, held) in got.held.iter().enumerate() {
+        let is_due = if number == place {
+            held.as_slice() == OUT_OF_MEMORY
+        } else {
+            other.held.get(number) == Some(held)
+        };
+        if !is_due {
+            return false;
+        }
+    }
+    got.held.len() == other.held.len() && got.journal == other.journal
+}
