@@ -10,7 +10,7 @@ const FAULT: &[u8] = b"journal fault\n";
 const SERVED: &[u8] = b"serving 8080\njournal fault\n";
 
 /// The exit code then.
-const JOURNAL_FAULT: u8 = 17;
+pub const JOURNAL_FAULT: u8 = 17;
 
 /// More calls than any run makes.
 const CALLS_MOST: u64 = 100_000;

@@ -1,4 +1,5 @@
 //! Want of memory where a refusal is shown, where lights are told, and beside a journal: one request for it is refused.
+use crate::journals::JOURNAL_FAULT;
 use crate::memory::{Came, NO_MEMORY, NOBODY, OUT_OF_MEMORY};
 use crate::runs::{Beside, Kept, Replayed, Wrong, keep, told, whole_file};
 use crate::serves::REQUESTS;
@@ -91,6 +92,10 @@ fn are_alike(kept: &Kept, other: &Kept) -> bool {
 
 /// What a refused request for memory led to where this came, which isn't what is due without one.
 fn came_of_kept<R: Threads + Sync>(rt: &R, alloc: Global, got: &Kept) -> Result<Came, Wrong> {
+    if got.status == JOURNAL_FAULT {
+        // The journal in memory had none for what was to be kept.
+        return Err(Wrong::Memory);
+    }
     if got.status == NO_MEMORY {
         return if got.output.is_empty() && got.held.is_empty() && got.journal.is_empty() {
             Ok(Came::Stopped)
