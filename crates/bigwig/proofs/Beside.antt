@@ -28,36 +28,39 @@ use Rattle.bw_sound.proofs.Runs.{runs_are_good}
 use Rattle.bw_stable.specs.Deeds.{Deed, cut, kept}
 use Rattle.bw_world.specs.Seen.{Seen}
 use Rattle.bw_world.specs.Stands.{StandsFor}
-use Rattle.bigwig.specs.Asked.{Ruled, accepted_file, beside}
-use Rattle.bigwig.specs.Asked.Work.{keeps}
-use Rattle.bigwig.specs.Behind.{content_of}
-use Rattle.bigwig.specs.Checks.{IsFitWorld, IsRuled}
-use Rattle.bigwig.specs.Codes.{status_for}
-use Rattle.bigwig.specs.Finding.{AreDone, IsFoundIn, IsRefusal, IsRefusedBy, IsToldBy, begun_by, head_if, recalled_of}
-use Rattle.bigwig.specs.Keeping.{Brought, EndsWith, IsBegun, IsKept, IsUntouched, Keeps, Refuses, ServesKept, sum_behind}
+use Rattle.bw_questions.specs.Asked.{Ruled, Task, accepted_file}
+use Rattle.bigwig.specs.Asked.{beside}
+use Rattle.bw_questions.specs.Asked.Work.{keeps}
+use Rattle.bw_questions.specs.Behind.{content_of}
+use Rattle.bw_questions.specs.Checks.{IsRuled}
+use Rattle.bigwig.specs.Fits.{IsFitWorld}
+use Rattle.bw_questions.specs.Codes.{status_for}
+use Rattle.bigwig.specs.Finding.{AreDone, IsFoundIn, IsRead, IsRefusal, IsRefusedBy, IsToldBy, begun_by, head_if, recalled_of}
+use Rattle.bigwig.specs.Keeping.{Brought, EndsWith, Follows, IsBegun, IsKept, IsUntouched, Keeps, Refuses, ServesKept, sum_behind}
 use Rattle.bigwig.specs.Keeping.IsBegun.{head, behind}
 use Rattle.bigwig.specs.Keeping.IsKept.{stopped, refused, failed, begun}
 use Rattle.bigwig.specs.Keeping.Keeps.{no_port, no_line, links_served}
 use Rattle.bigwig.specs.Lent.{ShowsJournal}
-use Rattle.bigwig.specs.Lines.{journal_line}
+use Rattle.bigwig.specs.JournalLines.{journal_line}
 use Rattle.bigwig.specs.Outcomes.{Comes}
 use Rattle.bigwig.specs.Outcomes.Comes.{done}
-use Rattle.bigwig.specs.Questions.{Said, ◌>>=◌, line}
-use Rattle.bigwig.specs.Reports.{IsReported, SaysLine}
-use Rattle.bigwig.specs.Works.{AreServed, Between, IsServed, Outside, Prints, serving_line}
-use Rattle.bigwig.specs.declared.command.Judging.{Judging}
+use Rattle.bw_questions.specs.Questions.{Said, ◌>>=◌, line}
+use Rattle.bw_questions.specs.Reports.{IsReported, SaysLine}
+use Rattle.bigwig.specs.Works.{AreServed, Between, IsServed, Outside, serving_line}
+use Rattle.bw_questions.specs.Reports.{Prints}
+use Rattle.bw_command.specs.declared.command.Judging.{Judging}
 use Rattle.bigwig.specs.declared.keeping.Found.{Found}
 use Rattle.bigwig.specs.declared.keeping.Found.TheVariants.{Nothing, Entries}
-use Rattle.bigwig.specs.declared.status.Refusal.{Refusal}
-use Rattle.bigwig.specs.declared.status.Refusal.TheVariants as refusals
-use Rattle.bigwig.specs.declared.status.Status.{Status}
-use Rattle.bigwig.specs.declared.status.Status.TheVariants as status
-use Rattle.bigwig.specs.declared.stop.Stop.{Stop}
-use Rattle.bigwig.specs.declared.stop.Stop.TheVariants as stop
+use Rattle.bw_questions.specs.declared.status.Refusal.{Refusal}
+use Rattle.bw_questions.specs.declared.status.Refusal.TheVariants as refusals
+use Rattle.bw_questions.specs.declared.status.Status.{Status}
+use Rattle.bw_questions.specs.declared.status.Status.TheVariants as status
+use Rattle.bw_questions.specs.declared.stop.Stop.{Stop}
+use Rattle.bw_questions.specs.declared.stop.Stop.TheVariants as stop
 use Rattle.bigwig.proofs.Endings.{comes_then}
 use Rattle.bigwig.proofs.Reaching.{course_is_fit}
 use Rattle.bigwig.proofs.Replies.{found_accepted}
-use Rattle.bigwig.proofs.Stops.{no_stop}
+use Rattle.bw_questions.proofs.Stops.{no_stop}
 
 -- ---- links
 
@@ -271,36 +274,44 @@ begun_so text start Nothing given printed same =
     subst (λ h. IsBegun text given printed recalled.New (cut 0 ∷ (kept h given printed ∷ []))) (sym same) head
 begun_so text start (Entries len sum) given printed same = behind len sum
 
--- the journal was begun, and then links were served beside it
-pub begun_kept : (ruled : Ruled) (text content start : List ℕ) (port most sum : ℕ) (seen : Seen) (found : Found) (o mid after : Outside) (s : Status)
-    → IsFoundIn ruled text content seen found → start ≡ head_if text found → IfSome o.deeds (λ all. all ≡ [])
+-- what is to be done to a journal in which this was found
+pub read_so : (ruled : Ruled) (text content : List ℕ) (seen : Seen) (found given : Found) (start : List ℕ) (sum : ℕ) → given ≡ found
+    → start ≡ head_if text found → sum ≡ sum_behind text (recalled_of found) → IsFoundIn ruled text content seen found
+    → IsRead ruled text content seen given start sum
+read_so ruled text content seen found given start sum same starts sums f =
+    subst (λ x. IsRead ruled text content seen x start sum) (sym same) (record { is_found = f; start_is = starts; sum_is = sums })
+
+-- the journal was begun, and then the task was done beside it
+pub begun_kept : (ruled : Ruled) (text content start : List ℕ) (task : Task) (sum : ℕ) (seen : Seen) (found : Found) (o mid after : Outside) (s : Status)
+    → IsRead ruled text content seen found start sum → IfSome o.deeds (λ all. all ≡ [])
     → AreDone o.deeds mid.deeds (begun_by found start o.returned o.printed)
-    → mid ≡ record o { unread = mid.unread; steps = mid.steps; deeds = mid.deeds } → sum ≡ sum_behind text (recalled_of found)
-    → ((m : World) → StandsFor seen m → IsFitWorld ruled m → Keeps ruled m port most sum mid after s)
-    → IsKept ruled text content port most o after s
-begun_kept ruled text content start port most sum seen found o mid after s f same none are others sums serves =
+    → mid ≡ record o { unread = mid.unread; steps = mid.steps; deeds = mid.deeds }
+    → ((m : World) → StandsFor seen m → IsFitWorld ruled m → Follows ruled task m sum mid after s)
+    → IsKept ruled text content task o after s
+begun_kept ruled text content start task sum seen found o mid after s read none are others follows =
+    let f = read.is_found in
     begun (recalled_of found) f.0 mid f.1 others
     (deeds_are (IsBegun text o.returned o.printed (recalled_of found)) o.deeds mid.deeds _ none are
-    (begun_so text start found o.returned o.printed same))
-    (subst (λ n. Keeps ruled f.0 port most n mid after s) sums (serves f.0 f.2 f.3))
+    (begun_so text start found o.returned o.printed read.start_is))
+    (subst (λ n. Follows ruled task f.0 n mid after s) read.sum_is (follows f.0 f.2 f.3))
 
 abbrev said_so : Status → List ℕ → Said
 said_so status text = record { status = status; text = text }
 
 -- the program stopped at the journal
-pub stopped_kept : (ruled : Ruled) (text content : List ℕ) (port most : ℕ) (o : Outside) (unread printed : Option (List ℕ)) (steps : ℕ) (why : Stop) (s : Status)
+pub stopped_kept : (ruled : Ruled) (text content : List ℕ) (task : Task) (o : Outside) (unread printed : Option (List ℕ)) (steps : ℕ) (why : Stop) (s : Status)
     → IsRefusedBy ruled text content why → IsReported why o.printed printed s
-    → IsKept ruled text content port most o (record o { printed = printed; unread = unread; steps = steps }) s
-stopped_kept ruled text content port most o unread printed steps (stop.Says refusal said) s r p =
+    → IsKept ruled text content task o (record o { printed = printed; unread = unread; steps = steps }) s
+stopped_kept ruled text content task o unread printed steps (stop.Says refusal said) s r p =
     refused r.0 r.1 (record { prints = subst (λ (x : Said). Prints x o.printed printed s) (says_journal refusal said.items r.0 r.2) p; kept = refl }) (inl refl)
   where
     says_journal : (refusal : Refusal) (text : List ℕ) (why : Recalled) → (refusal ≡ refusals.Journal) × (text ≡ line (journal_line why))
         → said_so (status_for refusal) text ≡ said_so status.JournalRefused (line (journal_line why))
     says_journal refusal text why e =
         ap (λ (x : Refusal). said_so (status_for x) text) e.0 ∙ ap (said_so status.JournalRefused) e.1
-stopped_kept ruled text content port most o unread printed steps stop.ReadFault s r p =
+stopped_kept ruled text content task o unread printed steps stop.ReadFault s r p =
     stopped (inl p.0) (ap (λ (h : Option (List ℕ)). let x : Outside = record o { printed = h; unread = unread; steps = steps } in x) p.1) (inl refl)
-stopped_kept ruled text content port most o unread printed steps stop.Memory s r p =
+stopped_kept ruled text content task o unread printed steps stop.Memory s r p =
     stopped (inr p.0) (ap (λ (h : Option (List ℕ)). let x : Outside = record o { printed = h; unread = unread; steps = steps } in x) p.1) (inl refl)
 
 -- ---- the work
@@ -310,21 +321,21 @@ touched : (before d after : Option (List Deed)) → IfSome d (λ all. all ≡ []
 touched before d after none (inl e) = inr (subst (λ x. IfSome x (λ all. all ≡ [])) (sym e) none)
 touched before d after none (inr h) = inr h
 
-pub of_journal : (ruled : Ruled) (text content : List ℕ) (port most : ℕ) (before after : Outside) (d : Option (List Deed)) (s : Status)
-    → IfSome d (λ all. all ≡ []) → IsKept ruled text content port most (record before { deeds = d }) after s
-    → IsKept ruled text content port most before after s
-of_journal ruled text content port most before after d s none (stopped e k u) = stopped e k (touched before.deeds d after.deeds none u)
-of_journal ruled text content port most before after d s none (refused why r i u) =
+pub of_journal : (ruled : Ruled) (text content : List ℕ) (task : Task) (before after : Outside) (d : Option (List Deed)) (s : Status)
+    → IfSome d (λ all. all ≡ []) → IsKept ruled text content task (record before { deeds = d }) after s
+    → IsKept ruled text content task before after s
+of_journal ruled text content task before after d s none (stopped e k u) = stopped e k (touched before.deeds d after.deeds none u)
+of_journal ruled text content task before after d s none (refused why r i u) =
     refused why r (record { prints = i.prints; kept = i.kept }) (touched before.deeds d after.deeds none u)
-of_journal ruled text content port most before after d s none (failed i) = failed (record { prints = i.prints; kept = i.kept })
-of_journal ruled text content port most before after d s none (begun found world mid h k b ks) = begun found world mid h k b ks
+of_journal ruled text content task before after d s none (failed i) = failed (record { prints = i.prints; kept = i.kept })
+of_journal ruled text content task before after d s none (begun found world mid h k b ks) = begun found world mid h k b ks
 
-of_reading : (ruled : Ruled) (text content : List ℕ) (port most : ℕ) (before after : Outside) (u : Option (List ℕ)) (n : ℕ) (s : Status)
-    → IsKept ruled text content port most (record before { unread = u; steps = n }) after s → IsKept ruled text content port most before after s
-of_reading ruled text content port most before after u n s (stopped e k h) = stopped e k h
-of_reading ruled text content port most before after u n s (refused why r i h) = refused why r (record { prints = i.prints; kept = i.kept }) h
-of_reading ruled text content port most before after u n s (failed i) = failed (record { prints = i.prints; kept = i.kept })
-of_reading ruled text content port most before after u n s (begun found world mid h k b ks) = begun found world mid h k b ks
+pub of_reading : (ruled : Ruled) (text content : List ℕ) (task : Task) (before after : Outside) (u : Option (List ℕ)) (n : ℕ) (s : Status)
+    → IsKept ruled text content task (record before { unread = u; steps = n }) after s → IsKept ruled text content task before after s
+of_reading ruled text content task before after u n s (stopped e k h) = stopped e k h
+of_reading ruled text content task before after u n s (refused why r i h) = refused why r (record { prints = i.prints; kept = i.kept }) h
+of_reading ruled text content task before after u n s (failed i) = failed (record { prints = i.prints; kept = i.kept })
+of_reading ruled text content task before after u n s (begun found world mid h k b ks) = begun found world mid h k b ks
 
 -- ---- where the files tell
 
@@ -333,48 +344,48 @@ told_all None P h = tt
 told_all (Some disk) P h = h disk
 
 -- the program stopped at the journal
-pub stopped_told : (told : Option Disk) (service : Service) (formats : List Format) (name text : List ℕ) (port most : ℕ) (o : Outside)
+pub stopped_told : (told : Option Disk) (service : Service) (formats : List Format) (name text : List ℕ) (P : Task → Type 0) (o : Outside)
     (unread printed : Option (List ℕ)) (steps : ℕ) (why : Stop) (s : Status)
     → IfSome told (λ disk. (ruled : Ruled) → IsRuled service formats ruled → IsRefusedBy ruled text (content_of (disk name)) why)
     → IsReported why o.printed printed s
-    → IfSome told (λ disk. (ruled : Ruled) → IsRuled service formats ruled
-    → IsKept ruled text (content_of (disk name)) port most o (record o { printed = printed; unread = unread; steps = steps }) s)
-stopped_told None service formats name text port most o unread printed steps why s r p = tt
-stopped_told (Some disk) service formats name text port most o unread printed steps why s r p = λ ruled is.
-    stopped_kept ruled text (content_of (disk name)) port most o unread printed steps why s (r ruled is) p
+    → IfSome told (λ disk. (ruled : Ruled) (x : Task) → IsRuled service formats ruled → P x
+    → IsKept ruled text (content_of (disk name)) x o (record o { printed = printed; unread = unread; steps = steps }) s)
+stopped_told None service formats name text P o unread printed steps why s r p = tt
+stopped_told (Some disk) service formats name text P o unread printed steps why s r says = λ ruled x is p.
+    stopped_kept ruled text (content_of (disk name)) x o unread printed steps why s (r ruled is) says
 
 -- all of the journal was read, and then it was begun
-pub begun_told : (told : Option Disk) (service now : Service) (formats held : List Format) (name text : List ℕ) (port most : ℕ) (o after : Outside)
+pub begun_told : (told : Option Disk) (service now : Service) (formats held : List Format) (name text : List ℕ) (P : Task → Type 0) (o after : Outside)
     (u : Option (List ℕ)) (n : ℕ) (seen : Seen) (found : Found) (s : Status) → now ≡ service → held ≡ formats
     → IfSome told (λ disk. (ruled : Ruled) → IsRuled service formats ruled → IsFoundIn ruled text (content_of (disk name)) seen found)
-    → ((ruled : Ruled) (content : List ℕ) → IsRuled now held ruled → IsFoundIn ruled text content seen found
-    → IsKept ruled text content port most (record o { unread = u; steps = n }) after s)
-    → IfSome told (λ disk. (ruled : Ruled) → IsRuled service formats ruled → IsKept ruled text (content_of (disk name)) port most o after s)
-begun_told None service now formats held name text port most o after u n seen found s e f finds begins = tt
-begun_told (Some disk) service now formats held name text port most o after u n seen found s e f finds begins = λ ruled is.
-    of_reading ruled text (content_of (disk name)) port most o after u n s
-    (begins ruled (content_of (disk name)) (is.0 ∙ sym e, is.1, is.2 ∙ sym f) (finds ruled is))
+    → ((ruled : Ruled) (content : List ℕ) (x : Task) → IsRuled now held ruled → P x → IsFoundIn ruled text content seen found
+    → IsKept ruled text content x (record o { unread = u; steps = n }) after s)
+    → IfSome told (λ disk. (ruled : Ruled) (x : Task) → IsRuled service formats ruled → P x → IsKept ruled text (content_of (disk name)) x o after s)
+begun_told None service now formats held name text P o after u n seen found s e f finds begins = tt
+begun_told (Some disk) service now formats held name text P o after u n seen found s e f finds begins = λ ruled x is p.
+    of_reading ruled text (content_of (disk name)) x o after u n s
+    (begins ruled (content_of (disk name)) x (is.0 ∙ sym e, is.1, is.2 ∙ sym f) p (finds ruled is))
 
 -- the journal was closed again
-pub closed_told : (told : Option Disk) (service : Service) (formats : List Format) (name text : List ℕ) (port most : ℕ) (before after : Outside)
+pub closed_told : (told : Option Disk) (service : Service) (formats : List Format) (name text : List ℕ) (P : Task → Type 0) (before after : Outside)
     (d e : Option (List Deed)) (s : Status) → IfSome d (λ all. all ≡ []) → after.deeds ≡ e
-    → IfSome told (λ disk. (ruled : Ruled) → IsRuled service formats ruled
-    → IsKept ruled text (content_of (disk name)) port most (record before { deeds = d }) (record after { deeds = e }) s)
-    → IfSome told (λ disk. (ruled : Ruled) → IsRuled service formats ruled → IsKept ruled text (content_of (disk name)) port most before after s)
-closed_told None service formats name text port most before after d e s none closed h = tt
-closed_told (Some disk) service formats name text port most before after d e s none closed h = λ ruled is.
-    of_journal ruled text (content_of (disk name)) port most before after d s none
-    (subst (λ (x : Option (List Deed)). IsKept ruled text (content_of (disk name)) port most (record before { deeds = d }) (record after { deeds = x }) s)
-    (sym closed) (h ruled is))
+    → IfSome told (λ disk. (ruled : Ruled) (x : Task) → IsRuled service formats ruled → P x
+    → IsKept ruled text (content_of (disk name)) x (record before { deeds = d }) (record after { deeds = e }) s)
+    → IfSome told (λ disk. (ruled : Ruled) (x : Task) → IsRuled service formats ruled → P x → IsKept ruled text (content_of (disk name)) x before after s)
+closed_told None service formats name text P before after d e s none closed h = tt
+closed_told (Some disk) service formats name text P before after d e s none closed h = λ ruled x is p.
+    of_journal ruled text (content_of (disk name)) x before after d s none
+    (subst (λ (all : Option (List Deed)). IsKept ruled text (content_of (disk name)) x (record before { deeds = d }) (record after { deeds = all }) s)
+    (sym closed) (h ruled x is p))
 
 -- the service and the formats are those that the server was made with, and the text is the one that it was read from
-pub made_told : (told : Option Disk) (service now : Service) (formats held : List Format) (name text given : List ℕ) (port most : ℕ)
+pub made_told : (told : Option Disk) (service now : Service) (formats held : List Format) (name text given : List ℕ) (P : Task → Type 0)
     (before after : Outside) (s : Status) → now ≡ service → held ≡ formats → given ≡ text
-    → IfSome told (λ disk. (ruled : Ruled) → IsRuled now held ruled → IsKept ruled given (content_of (disk name)) port most before after s)
-    → IfSome told (λ disk. (ruled : Ruled) → IsRuled service formats ruled → IsKept ruled text (content_of (disk name)) port most before after s)
-made_told None service now formats held name text given port most before after s e f t h = tt
-made_told (Some disk) service now formats held name text given port most before after s e f t h = λ ruled is.
-    subst (λ x. IsKept ruled x (content_of (disk name)) port most before after s) t (h ruled (is.0 ∙ sym e, is.1, is.2 ∙ sym f))
+    → IfSome told (λ disk. (ruled : Ruled) (x : Task) → IsRuled now held ruled → P x → IsKept ruled given (content_of (disk name)) x before after s)
+    → IfSome told (λ disk. (ruled : Ruled) (x : Task) → IsRuled service formats ruled → P x → IsKept ruled text (content_of (disk name)) x before after s)
+made_told None service now formats held name text given P before after s e f t h = tt
+made_told (Some disk) service now formats held name text given P before after s e f t h = λ ruled x is p.
+    subst (λ given_text. IsKept ruled given_text (content_of (disk name)) x before after s) t (h ruled x (is.0 ∙ sym e, is.1, is.2 ∙ sym f) p)
 
 -- ---- causes
 
@@ -400,27 +411,19 @@ open_fails s x y told rose = record {
   other = λ f g. absurd (elim told [ inl e ↦ f e | inr e ↦ g e ]);
 }
 
--- three parts had no read fault
-pub none_shows : {A B C D : Type 0} (v : D) (a : A) (b : B) (c : C) (x y z w : ℕ) → Shows (IsErrOf {T = A} (Ok a) stop.ReadFault) x y
-    → Shows (IsErrOf {T = B} (Ok b) stop.ReadFault) y z → Shows (IsErrOf {T = C} (Ok c) stop.ReadFault) z w
-    → Shows (IsErrOf {T = D} (Ok v) stop.ReadFault) x w
-none_shows v a b c x y z w first second third = record {
-  only = λ f. absurd (no_stop v stop.ReadFault f);
-  other = λ f. third.other (no_stop c stop.ReadFault) ∙ second.other (no_stop b stop.ReadFault) ∙ first.other (no_stop a stop.ReadFault);
-}
-
--- the service was found, and then it was served beside the journal
-pub keep_comes : (told later : Option Disk) (name : List ℕ) (judging : Judging) (form : Option (List ℕ)) (journal text : List ℕ) (port most : ℕ)
-    (ruled : Ruled) (before after : Outside) (u : Option (List ℕ)) (s : Status) → later ≡ told → IfSome told (λ d. d name ≡ Some text)
-    → IfSome told (λ d. (accepted_file d name judging form).gives ruled)
-    → IfSome later (λ d. (x : Ruled) → IsRuled ruled.service ruled.formats x
-    → IsKept x text (content_of (d journal)) port most (record before { unread = u }) after s)
-    → IfSome told (λ d. Comes (accepted_file d name judging form >>= beside d name journal port most) before after s)
-keep_comes None later name judging form journal text port most ruled before after u s e there g h = tt
-keep_comes (Some d) later name judging form journal text port most ruled before after u s e there g h =
-    let all = subst (λ o. IfSome o (λ d. (x : Ruled) → IsRuled ruled.service ruled.formats x
-    → IsKept x text (content_of (d journal)) port most (record before { unread = u }) after s)) e h in
-    comes_then (accepted_file d name judging form) (beside d name journal port most) ruled before after s g
-    (done (keeps ruled text (content_of (d journal)) port most) (text, there, refl)
-    (of_reading ruled text (content_of (d journal)) port most before after u before.steps s
-    (all ruled (found_accepted d name judging form ruled g))))
+-- the service was found, and then the task was done beside the journal
+pub keep_comes : (told later : Option Disk) (name : List ℕ) (judging : Judging) (form : Option (List ℕ)) (journal other text : List ℕ) (task : Task)
+    (P : Task → Type 0) (ruled : Ruled) (before after : Outside) (u : Option (List ℕ)) (s : Status) → P task → later ≡ told → other ≡ journal
+    → IfSome told (λ d. d name ≡ Some text) → IfSome told (λ d. (accepted_file d name judging form).gives ruled)
+    → IfSome later (λ d. (by : Ruled) (x : Task) → IsRuled ruled.service ruled.formats by → P x
+    → IsKept by text (content_of (d other)) x (record before { unread = u }) after s)
+    → IfSome told (λ d. Comes (accepted_file d name judging form >>= beside d name journal task) before after s)
+keep_comes None later name judging form journal other text task P ruled before after u s is e n there g h = tt
+keep_comes (Some d) later name judging form journal other text task P ruled before after u s is e n there g h =
+    let all = subst (λ o. IfSome o (λ d. (by : Ruled) (x : Task) → IsRuled ruled.service ruled.formats by → P x
+    → IsKept by text (content_of (d other)) x (record before { unread = u }) after s)) e h in
+    let kept = subst (λ m. IsKept ruled text (content_of (d m)) task (record before { unread = u }) after s) n
+    (all ruled task (found_accepted d name judging form ruled g) is) in
+    comes_then (accepted_file d name judging form) (beside d name journal task) ruled before after s g
+    (done (keeps ruled text (content_of (d journal)) task) (text, there, refl)
+    (of_reading ruled text (content_of (d journal)) task before after u before.steps s kept))

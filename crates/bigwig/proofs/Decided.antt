@@ -19,20 +19,22 @@ use Rattle.bw_types.specs.Faults.{faults_of, first_member}
 use Rattle.bw_types.specs.declared.fault.TypeFault.{TypeFault}
 use Rattle.bw_valid.specs.Breaches.{breach}
 use Rattle.bw_valid.proofs.BreachLaws.{valid_decided}
-use Rattle.bigwig.specs.Asked.{page, page_file, rules, schema, built_in, judged, ruled, formats_in, formats_file, formats, lit, lit_file}
-use Rattle.bigwig.specs.Asked.{command, file, read, typed, service_file, checked, checked_with, checked_by, accepted_file, accepted_text}
-use Rattle.bigwig.specs.Asked.Work.{prints}
-use Rattle.bigwig.specs.Asked.{accepted, replayed, at_port, beside, turned, work, asked, usage_line}
-use Rattle.bigwig.specs.Behind.{Shown, shown_file}
-use Rattle.bigwig.specs.Commands.{command_of}
-use Rattle.bigwig.specs.Lines.{no_file_line}
-use Rattle.bigwig.specs.Questions.{Said, Question, ◌>>=◌, found, line}
-use Rattle.bigwig.specs.declared.command.Command.{Command}
-use Rattle.bigwig.specs.declared.command.Command.TheVariants.{Check, Replay, Serve, Keep, Valid, Make, Light}
-use Rattle.bigwig.specs.declared.command.Judging.{Judging}
-use Rattle.bigwig.specs.declared.status.Status.{Status}
-use Rattle.bigwig.specs.declared.status.Status.TheVariants.{Usage, NoFile, ServiceRefused, SchemaRefused, PageRefused, FormatsRefused}
-use Rattle.bigwig.proofs.Checks.{IsTyped, typed_of, typed_given, not_refused}
+use Rattle.bw_questions.specs.Asked.{page, page_file, rules, schema, built_in, judged, ruled, formats_in, formats_file, formats, lit, lit_file}
+use Rattle.bw_questions.specs.Asked.{command, file, read, typed, service_file, checked, checked_with, checked_by, accepted_file, accepted_text}
+use Rattle.bw_questions.specs.Asked.Work.{prints}
+use Rattle.bw_questions.specs.Asked.{accepted, turned, usage_line}
+use Rattle.bigwig.specs.Asked.{replayed, resumed, at_port, beside, work, asked}
+use Rattle.bw_questions.specs.Asked.Task.{to_serve}
+use Rattle.bw_questions.specs.Behind.{Shown, shown_file}
+use Rattle.bw_command.specs.Commands.{command_of}
+use Rattle.bw_questions.specs.Lines.{no_file_line}
+use Rattle.bw_questions.specs.Questions.{Said, Question, ◌>>=◌, found, line}
+use Rattle.bw_command.specs.declared.command.Command.{Command}
+use Rattle.bw_command.specs.declared.command.Command.TheVariants.{Check, Replay, Resume, Serve, Keep, Valid, Make, Light}
+use Rattle.bw_command.specs.declared.command.Judging.{Judging}
+use Rattle.bw_questions.specs.declared.status.Status.{Status}
+use Rattle.bw_questions.specs.declared.status.Status.TheVariants.{Usage, NoFile, ServiceRefused, SchemaRefused, PageRefused, FormatsRefused}
+use Rattle.bw_questions.proofs.Checks.{IsTyped, typed_of, typed_given, not_refused}
 
 -- The question is answered in one way: it gives one value, or something is said, with one status.
 pub record IsDecided {A : Type 0} (question : Question A) : Type 0 where
@@ -203,8 +205,12 @@ work_decided disk (Replay service requests judging form most) =
 work_decided disk (Serve service judging form port most) =
     then (accepted_file disk service judging form) (at_port port most) (accepted_file_decided disk service judging form)
     (λ ruled _. found_decided _)
+work_decided disk (Resume service from judging form journal most) =
+    then (accepted_file disk service judging form) (resumed disk service from journal most) (accepted_file_decided disk service judging form)
+    (λ ruled _. then (file disk from) _ (file_decided disk from)
+    (λ stream _. then (file disk service) _ (file_decided disk service) (λ text _. found_decided _)))
 work_decided disk (Keep service judging form journal port most) =
-    then (accepted_file disk service judging form) (beside disk service journal port most) (accepted_file_decided disk service judging form)
+    then (accepted_file disk service judging form) (beside disk service journal (to_serve port most)) (accepted_file_decided disk service judging form)
     (λ ruled _. then (file disk service) _ (file_decided disk service) (λ text _. found_decided _))
 work_decided disk (Valid name named) =
     then (page_file disk name) (ruled disk named) (then (file disk name) page (file_decided disk name) (λ content _. page_decided content))

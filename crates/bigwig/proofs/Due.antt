@@ -2,14 +2,19 @@
 use Rattle.std.proofs.Common.{◌≡◌, ◌⊎◌, ℕ, Bool, true, false, List, [], Option, Some, codes, refl, sym, ◌∙◌, ap, subst, inl, inr}
 use Rattle.bw_check.specs.Accepts.{Accepts}
 use Rattle.bw_out.specs.Told.{Disk}
-use Rattle.bigwig.specs.Asked.{Ruled, Work, asked, work}
-use Rattle.bigwig.specs.Asked.Work.{prints, replays, serves, keeps}
-use Rattle.bigwig.specs.Keeping.{EndsWith, IsKept}
+use Rattle.bw_keeping.specs.declared.ended.StreamEnded.{StreamEnded}
+use Rattle.bw_keeping.specs.declared.ended.StreamEnded.TheVariants as streamed
+use Rattle.bw_model.specs.Sessions.{World}
+use Rattle.bw_questions.specs.Asked.{Ruled, Task, Work}
+use Rattle.bigwig.specs.Asked.{asked, work}
+use Rattle.bw_questions.specs.Asked.Task.{to_answer, to_serve}
+use Rattle.bw_questions.specs.Asked.Work.{prints, replays, serves, keeps}
+use Rattle.bigwig.specs.Keeping.{AnswersEndWith, EndsWith, Follows, IsKept, Keeps, sum_behind}
 use Rattle.bigwig.specs.Keeping.IsKept.{stopped, refused, failed, begun}
 use Rattle.bigwig.specs.Keeping.Keeps.{no_port as keep_no_port, no_line as keep_no_line, links_served as keep_links_served}
 use Rattle.bw_keeping.specs.declared.ended.Ended.{Ended}
 use Rattle.bw_keeping.specs.declared.ended.Ended.TheVariants as ended
-use Rattle.bigwig.specs.Commands.{command_of}
+use Rattle.bw_command.specs.Commands.{command_of}
 use Rattle.bigwig.specs.Laws.{IsAcceptedFile, CheckIsDone, IsValidFile, ValidIsDone, Due, IsFree}
 use Rattle.bigwig.specs.Laws.{SomeStatusIsDue, OneStatusIsDue, ComesWhereDue, DoesItsWork, ServesLinks, DoorFaultsServe, JournalsAreKept}
 use Rattle.bigwig.specs.Laws.ServesLinks.{alone, kept}
@@ -19,12 +24,12 @@ use Rattle.bigwig.specs.Outcomes.{IsDone}
 use Rattle.bigwig.specs.Works.{Outside, IsSaid, IsServing, status_of}
 use Rattle.bigwig.specs.Outcomes.Comes.{said, done, read_fault, no_memory}
 use Rattle.bigwig.specs.Works.IsServing.{no_port, no_line, links_served}
-use Rattle.bigwig.specs.Questions.{Said, line}
-use Rattle.bigwig.specs.declared.command.Command.{Command}
-use Rattle.bigwig.specs.declared.command.Command.TheVariants.{Check, Valid}
-use Rattle.bigwig.specs.declared.command.Judging.{Judging}
-use Rattle.bigwig.specs.declared.status.Status.{Status}
-use Rattle.bigwig.specs.declared.status.Status.TheVariants.{Done, ReadFault, WriteFault, DoorFault, Memory, JournalRefused, JournalFault}
+use Rattle.bw_questions.specs.Questions.{Said, line}
+use Rattle.bw_command.specs.declared.command.Command.{Command}
+use Rattle.bw_command.specs.declared.command.Command.TheVariants.{Check, Valid}
+use Rattle.bw_command.specs.declared.command.Judging.{Judging}
+use Rattle.bw_questions.specs.declared.status.Status.{Status}
+use Rattle.bw_questions.specs.declared.status.Status.TheVariants.{Done, ReadFault, WriteFault, DoorFault, Memory, JournalRefused, JournalFault}
 use Rattle.bigwig.proofs.Decided.{asked_decided}
 use Rattle.bigwig.proofs.Refusals.{never_said}
 use Rattle.bigwig.proofs.SomeAnswer.{asked_some}
@@ -75,16 +80,32 @@ kept_end held now ended.DoorFault status e = inr (inr (inr (inl e.0)))
 kept_end held now ended.JournalFault status (inl e) = inr (inr (inr (inr (inr (inl e.0)))))
 kept_end held now ended.JournalFault status (inr e) = inr (inr (inl e.0))
 
-kept_or_fault : (ruled : Ruled) (text content : List ℕ) (port most : ℕ) (before after : Outside) (status : Status)
-    → IsKept ruled text content port most before after status → (status ≡ Done) ⊎ IsFree status
-kept_or_fault ruled text content port most before after status (stopped (inl e) k u) = inr (inl e)
-kept_or_fault ruled text content port most before after status (stopped (inr e) k u) = inr (inr (inr (inr (inl e))))
-kept_or_fault ruled text content port most before after status (refused why r i u) = inr (journal_said _ _ after status i (inl refl))
-kept_or_fault ruled text content port most before after status (failed i) = inr (journal_said _ _ after status i (inr refl))
-kept_or_fault ruled text content port most before after status (begun f w mid h k o (keep_no_port e m l)) = inr (inr (inr (inl e)))
-kept_or_fault ruled text content port most before after status (begun f w mid h k o (keep_no_line e a p l)) = inr (inr (inl e))
-kept_or_fault ruled text content port most before after status (begun f w mid h k o (keep_links_served printed end a p e s)) =
-    kept_end printed after.printed end status e
+resumed_end : (held now : Option (List ℕ)) (end : StreamEnded) (status : Status) → AnswersEndWith held now end status → (status ≡ Done) ⊎ IsFree status
+resumed_end held now (streamed.Ended n) status e = inl e.0
+resumed_end held now streamed.ReadFault status e = inr (inl e.0)
+resumed_end held now streamed.WriteFault status e = inr (inr (inl e.0))
+resumed_end held now streamed.JournalFault status (inl e) = inr (inr (inr (inr (inr (inl e.0)))))
+resumed_end held now streamed.JournalFault status (inr e) = inr (inr (inl e.0))
+
+links_end : (ruled : Ruled) (world : World) (port most sum : ℕ) (before after : Outside) (status : Status)
+    → Keeps ruled world port most sum before after status → (status ≡ Done) ⊎ IsFree status
+links_end ruled world port most sum before after status (keep_no_port e m l) = inr (inr (inr (inl e)))
+links_end ruled world port most sum before after status (keep_no_line e a p l) = inr (inr (inl e))
+links_end ruled world port most sum before after status (keep_links_served printed end a p e s) = kept_end printed after.printed end status e
+
+task_end : (ruled : Ruled) (task : Task) (world : World) (sum : ℕ) (before after : Outside) (status : Status)
+    → Follows ruled task world sum before after status → (status ≡ Done) ⊎ IsFree status
+task_end ruled (to_serve port most) world sum before after status k = links_end ruled world port most sum before after status k
+task_end ruled (to_answer stream most) world sum before after status r = resumed_end r.printed after.printed r.end status r.ends
+
+kept_or_fault : (ruled : Ruled) (text content : List ℕ) (task : Task) (before after : Outside) (status : Status)
+    → IsKept ruled text content task before after status → (status ≡ Done) ⊎ IsFree status
+kept_or_fault ruled text content task before after status (stopped (inl e) k u) = inr (inl e)
+kept_or_fault ruled text content task before after status (stopped (inr e) k u) = inr (inr (inr (inr (inl e))))
+kept_or_fault ruled text content task before after status (refused why r i u) = inr (journal_said _ _ after status i (inl refl))
+kept_or_fault ruled text content task before after status (failed i) = inr (journal_said _ _ after status i (inr refl))
+kept_or_fault ruled text content task before after status (begun f w mid h k o follows) =
+    task_end ruled task w (sum_behind text f) mid after status follows
 
 -- the work ends with Done, unless there was a fault
 done_or_fault : (work : Work) (before after : Outside) (status : Status) → IsDone work before after status → (status ≡ Done) ⊎ IsFree status
@@ -92,7 +113,7 @@ done_or_fault (prints text) before after status d = said_or_fault _ before after
 done_or_fault (replays ruled stream most) before after status d =
     subst (λ s. (s ≡ Done) ⊎ IsFree s) (sym d.0.status_is) (ended_or_fault d.0.end)
 done_or_fault (serves ruled port most) before after status d = serving_or_fault ruled port most before after status d.0
-done_or_fault (keeps ruled text content port most) before after status d = kept_or_fault ruled text content port most before after status d
+done_or_fault (keeps ruled text content task) before after status d = kept_or_fault ruled text content task before after status d
 
 or_fault : (s t u : Status) → (u ≡ t) ⊎ IsFree u → t ≡ s → (u ≡ s) ⊎ IsFree u
 or_fault s t u (inl x) e = inl (x ∙ e)
@@ -129,12 +150,40 @@ stream_status (ends.Ended n) = inl refl
 stream_status ends.ReadFault = inr (inl refl)
 stream_status ends.WriteFault = inr (inr (inl refl))
 
+-- requests that are answered beside a journal have no door
+requests_status : (held now : Option (List ℕ)) (end : StreamEnded) (status : Status) → AnswersEndWith held now end status → DoorFault ≡ status → ⊥
+requests_status held now (streamed.Ended n) status e f = no_door_fault status f (inl e.0)
+requests_status held now streamed.ReadFault status e f = no_door_fault status f (inr (inl e.0))
+requests_status held now streamed.WriteFault status e f = no_door_fault status f (inr (inr (inl e.0)))
+requests_status held now streamed.JournalFault status (inl e) f = let g : DoorFault ≡ JournalFault = f ∙ e.0 in cc
+requests_status held now streamed.JournalFault status (inr e) f = no_door_fault status f (inr (inr (inl e.0)))
+
+journal_is_no_door : (x : Said) (before after : Outside) → IsSaid x before after DoorFault → (x.status ≡ JournalRefused) ⊎ (x.status ≡ JournalFault) → ⊥
+journal_is_no_door x before after i (inl e) = elim i.prints [
+  | inl p ↦ let g : DoorFault ≡ JournalRefused = p.0 ∙ e in cc
+  | inr p ↦ no_door_fault WriteFault p.0 (inr (inr (inl refl)))
+]
+journal_is_no_door x before after i (inr e) = elim i.prints [
+  | inl p ↦ let g : DoorFault ≡ JournalFault = p.0 ∙ e in cc
+  | inr p ↦ no_door_fault WriteFault p.0 (inr (inr (inl refl)))
+]
+
+kept_links : (ruled : Ruled) (text content : List ℕ) (task : Task) (before after : Outside) → IsKept ruled text content task before after DoorFault
+    → ServesLinks (keeps ruled text content task)
+kept_links ruled text content (to_serve port most) before after d = kept ruled text content port most
+kept_links ruled text content (to_answer stream most) before after (stopped (inl e) k u) = absurd (no_door_fault ReadFault e (inr (inl refl)))
+kept_links ruled text content (to_answer stream most) before after (stopped (inr e) k u) = absurd (no_door_fault Memory e (inr (inr (inr refl))))
+kept_links ruled text content (to_answer stream most) before after (refused why r i u) = absurd (journal_is_no_door _ _ after i (inl refl))
+kept_links ruled text content (to_answer stream most) before after (failed i) = absurd (journal_is_no_door _ _ after i (inr refl))
+kept_links ruled text content (to_answer stream most) before after (begun f w mid h k o r) =
+    absurd (requests_status r.printed after.printed r.end DoorFault r.ends refl)
+
 served_work : (work : Work) (before after : Outside) → IsDone work before after DoorFault → ServesLinks work
 served_work (prints text) before after d = absurd (elim d.prints
     [ inl x ↦ no_door_fault Done x.0 (inl refl) | inr x ↦ no_door_fault WriteFault x.0 (inr (inr (inl refl))) ])
 served_work (replays ruled stream most) before after d = absurd (no_door_fault (status_of d.0.end) d.0.status_is (stream_status d.0.end))
 served_work (serves ruled port most) before after d = alone ruled port most
-served_work (keeps ruled text content port most) before after d = kept ruled text content port most
+served_work (keeps ruled text content task) before after d = kept_links ruled text content task before after d
 
 pub door_faults_serve : DoorFaultsServe
 door_faults_serve words disk before after (said s p i) =
@@ -173,12 +222,12 @@ stream_is_none ends.ReadFault = refl
 stream_is_none ends.WriteFault = refl
 
 kept_work : (work : Work) (before after : Outside) (s : Status) → IsDone work before after s → IsJournals s
-    → (ruled : Ruled) × (text : List ℕ) × (content : List ℕ) × (port : ℕ) × (most : ℕ) × (work ≡ keeps ruled text content port most)
+    → (ruled : Ruled) × (text : List ℕ) × (content : List ℕ) × (task : Task) × (work ≡ keeps ruled text content task)
 kept_work (prints text) before after s d j = absurd (elim d.prints
     [ inl x ↦ not_journals s Done j x.0 refl | inr x ↦ not_journals s WriteFault j x.0 refl ])
 kept_work (replays ruled stream most) before after s d j = absurd (not_journals s (status_of d.0.end) j d.0.status_is (stream_is_none d.0.end))
 kept_work (serves ruled port most) before after s d j = absurd (served_status ruled port most before after s d.0 j)
-kept_work (keeps ruled text content port most) before after s d j = (ruled, text, content, port, most, refl)
+kept_work (keeps ruled text content task) before after s d j = (ruled, text, content, task, refl)
 
 said_journals : (words : List (List ℕ)) (disk : Disk) (x : Said) (s : Status) → (asked words disk).says x → s ≡ x.status → IsJournals s → ⊥
 said_journals words disk x s p e (inl j) = never_said words disk x JournalRefused refl p (sym j ∙ e)
@@ -188,7 +237,7 @@ pub journals_are_kept : JournalsAreKept
 journals_are_kept words disk before after s (said x p i) j =
     absurd (elim i.prints [ inl y ↦ said_journals words disk x s p y.0 j | inr y ↦ not_journals s WriteFault j y.0 refl ])
 journals_are_kept words disk before after s (done w p d) j =
-    let k = kept_work w before after s d j in (k.0, k.1, k.2, k.3, k.4, subst (λ x. (asked words disk).gives x) k.5 p)
+    let k = kept_work w before after s d j in (k.0, k.1, k.2, k.3, subst (λ x. (asked words disk).gives x) k.4 p)
 journals_are_kept words disk before after s (read_fault e k) j = absurd (not_journals s ReadFault j e refl)
 journals_are_kept words disk before after s (no_memory e k) j = absurd (not_journals s Memory j e refl)
 

@@ -1,19 +1,21 @@
 -- What comes of the work, and of the questions before it.
 use Rattle.std.proofs.Common.{ℕ, List, Option, None, Some, IfSome, ◌≡◌, refl, sym, ap, subst, inl, inr}
 use Rattle.bw_out.specs.Told.{Coming, Disk}
-use Rattle.bigwig.specs.Asked.{Work, command, work, asked, usage_line}
-use Rattle.bigwig.specs.Asked.Work.{prints}
-use Rattle.bigwig.specs.Commands.{command_of}
+use Rattle.bw_questions.specs.Asked.{Work, command, usage_line}
+use Rattle.bigwig.specs.Asked.{work, asked}
+use Rattle.bw_questions.specs.Asked.Work.{prints}
+use Rattle.bw_command.specs.Commands.{command_of}
 use Rattle.bigwig.specs.Outcomes.{Comes, Speaks, Replies}
-use Rattle.bigwig.specs.Works.{Outside, Prints}
+use Rattle.bigwig.specs.Works.{Outside}
+use Rattle.bw_questions.specs.Reports.{Prints}
 use Rattle.bigwig.specs.Outcomes.Comes.{said, done, read_fault, no_memory}
-use Rattle.bigwig.specs.Questions.{Question, ◌>>=◌, IsStop}
-use Rattle.bigwig.specs.Reports.{IsReported}
-use Rattle.bigwig.specs.declared.command.Command.{Command}
-use Rattle.bigwig.specs.declared.status.Status.{Status}
-use Rattle.bigwig.specs.declared.status.Status.TheVariants as status
-use Rattle.bigwig.specs.declared.stop.Stop.{Stop}
-use Rattle.bigwig.specs.declared.stop.Stop.TheVariants as stop
+use Rattle.bw_questions.specs.Questions.{Question, ◌>>=◌, IsStop}
+use Rattle.bw_questions.specs.Reports.{IsReported}
+use Rattle.bw_command.specs.declared.command.Command.{Command}
+use Rattle.bw_questions.specs.declared.status.Status.{Status}
+use Rattle.bw_questions.specs.declared.status.Status.TheVariants as status
+use Rattle.bw_questions.specs.declared.stop.Stop.{Stop}
+use Rattle.bw_questions.specs.declared.stop.Stop.TheVariants as stop
 
 -- ---- questions, and what comes of them
 

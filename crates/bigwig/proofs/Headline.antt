@@ -27,19 +27,20 @@ use Rattle.bw_sound.specs.Good.{AreGood}
 use Rattle.bw_types.specs.Faults.{IsWellTyped}
 use Rattle.bw_types.specs.Typing.{IsTypedService}
 use Rattle.bw_types.proofs.WellTyped.{typed}
-use Rattle.bigwig.specs.Asked.{Ruled, Work, accepted_file, asked, formats, schema, work}
-use Rattle.bigwig.specs.Commands.{command_of}
+use Rattle.bw_questions.specs.Asked.{Ruled, Work, accepted_file, formats, schema}
+use Rattle.bigwig.specs.Asked.{asked, work}
+use Rattle.bw_command.specs.Commands.{command_of}
 use Rattle.bigwig.specs.Headline.{AreAnswered, AreFormatsOf, AreRight, Headline, IsAnswer, IsAnswered, IsLit, IsReplay, IsServe, IsServiceOf, rules_text}
 use Rattle.bigwig.specs.Headline.IsAnswered.{whole, broken, unread}
 use Rattle.bigwig.specs.Outcomes.{Comes, IsDone}
 use Rattle.bigwig.specs.Works.{AreServed, Between, IsReplayed, IsSaid, IsServing, IsStreamed, Outside, begins, status_of}
 use Rattle.bigwig.specs.Outcomes.Comes.{said, done, read_fault, no_memory as no_room}
 use Rattle.bigwig.specs.Works.IsServing.{no_port, no_line, links_served}
-use Rattle.bigwig.specs.declared.command.Command.{Command}
-use Rattle.bigwig.specs.declared.command.Command.TheVariants.{Replay, Serve, Light}
-use Rattle.bigwig.specs.declared.command.Judging.{Judging}
-use Rattle.bigwig.specs.declared.status.Status.{Status}
-use Rattle.bigwig.specs.declared.status.Status.TheVariants as status
+use Rattle.bw_command.specs.declared.command.Command.{Command}
+use Rattle.bw_command.specs.declared.command.Command.TheVariants.{Replay, Serve, Light}
+use Rattle.bw_command.specs.declared.command.Judging.{Judging}
+use Rattle.bw_questions.specs.declared.status.Status.{Status}
+use Rattle.bw_questions.specs.declared.status.Status.TheVariants as status
 use Rattle.bigwig.proofs.Refusals.{never_said}
 
 -- ---- messages

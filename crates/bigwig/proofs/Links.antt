@@ -15,10 +15,11 @@ use Rattle.bw_out.specs.Doors.{Returned, Arrives, GivesBack}
 use Rattle.bw_out.specs.Told.{Coming}
 use Rattle.bw_world.specs.Seen.{Seen}
 use Rattle.bw_world.specs.Stands.{StandsFor}
-use Rattle.bigwig.specs.Asked.{Ruled}
-use Rattle.bigwig.specs.Checks.{IsRuled, IsFitWorld}
+use Rattle.bw_questions.specs.Asked.{Ruled}
+use Rattle.bw_questions.specs.Checks.{IsRuled}
+use Rattle.bigwig.specs.Fits.{IsFitWorld}
 use Rattle.bigwig.specs.Works.{Between, Outside, AreServed, IsServed, AreGivenBack, ServesLinks, begins}
-use Rattle.bigwig.specs.declared.status.Status.TheVariants.{Done, DoorFault}
+use Rattle.bw_questions.specs.declared.status.Status.TheVariants.{Done, DoorFault}
 use Rattle.bigwig.proofs.Reaching.{course_is_fit}
 
 -- so many links were given back, and the world of the code stands for the model world that they leave, which is fit

@@ -8,8 +8,8 @@ use Rattle.bw_model.specs.Reached.{Reached, none}
 use Rattle.bw_model.specs.Runs.{At}
 use Rattle.bw_model.proofs.Reaching.{streams_reach}
 use Rattle.bw_sound.proofs.Runs.{worlds_are_sound}
-use Rattle.bigwig.specs.Asked.{Ruled}
-use Rattle.bigwig.specs.Checks.{IsFitWorld}
+use Rattle.bw_questions.specs.Asked.{Ruled}
+use Rattle.bigwig.specs.Fits.{IsFitWorld}
 
 pub course_is_fit : (ruled : Ruled) (most : ℕ) (at to : At) (held now : Option (List ℕ)) (taken : List ℕ) (cost : ℕ) (end : StreamEnd)
     → Accepts ruled.service ruled.schema → Course ruled.formats ruled.service most at to held now taken cost end → IsFitWorld ruled at.world

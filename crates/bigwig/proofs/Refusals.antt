@@ -5,18 +5,22 @@ use Rattle.bw_lang.specs.declared.service.Service.{Service}
 use Rattle.bw_make.specs.Made.{made}
 use Rattle.bw_out.specs.Told.{Disk}
 use Rattle.bw_schema.specs.declared.schema.Schema.{Schema}
-use Rattle.bigwig.specs.Asked.{command, file, read, typed, service_file, checked, checked_with, checked_by, accepted_file, accepted_text, accepted, replayed}
-use Rattle.bigwig.specs.Asked.{at_port, beside, turned, page, page_file, rules, schema, built_in, formats_in, formats_file, formats, judged, ruled}
-use Rattle.bigwig.specs.Asked.{lit, lit_file, work, asked}
-use Rattle.bigwig.specs.Asked.Work.{replays, keeps}
-use Rattle.bigwig.specs.Behind.{content_of}
-use Rattle.bigwig.specs.Behind.{Shown, shown_file}
-use Rattle.bigwig.specs.Questions.{Said, Question, ◌>>=◌, found}
-use Rattle.bigwig.specs.declared.command.Command.{Command}
-use Rattle.bigwig.specs.declared.command.Command.TheVariants.{Check, Replay, Serve, Keep, Valid, Make, Light}
-use Rattle.bigwig.specs.declared.command.Judging.{Judging}
-use Rattle.bigwig.specs.declared.status.Status.{Status}
-use Rattle.bigwig.specs.declared.status.Status.TheVariants.{Usage, NoFile, ServiceRefused, SchemaRefused, PageRefused, FormatsRefused}
+use Rattle.bw_questions.specs.Asked.{command, file, read, typed, service_file, checked, checked_with, checked_by, accepted_file, accepted_text, accepted}
+use Rattle.bigwig.specs.Asked.{replayed}
+use Rattle.bw_questions.specs.Asked.{turned, page, page_file, rules, schema, built_in, formats_in, formats_file, formats, judged, ruled}
+use Rattle.bigwig.specs.Asked.{at_port, beside}
+use Rattle.bw_questions.specs.Asked.{Ruled, Task, lit, lit_file}
+use Rattle.bigwig.specs.Asked.{resumed, work, asked}
+use Rattle.bw_questions.specs.Asked.Task.{to_answer, to_serve}
+use Rattle.bw_questions.specs.Asked.Work.{replays, keeps}
+use Rattle.bw_questions.specs.Behind.{content_of}
+use Rattle.bw_questions.specs.Behind.{Shown, shown_file}
+use Rattle.bw_questions.specs.Questions.{Said, Question, ◌>>=◌, found}
+use Rattle.bw_command.specs.declared.command.Command.{Command}
+use Rattle.bw_command.specs.declared.command.Command.TheVariants.{Check, Replay, Resume, Serve, Keep, Valid, Make, Light}
+use Rattle.bw_command.specs.declared.command.Judging.{Judging}
+use Rattle.bw_questions.specs.declared.status.Status.{Status}
+use Rattle.bw_questions.specs.declared.status.Status.TheVariants.{Usage, NoFile, ServiceRefused, SchemaRefused, PageRefused, FormatsRefused}
 
 abbrev is_refusal : Status → Bool
 is_refusal Usage = true
@@ -81,6 +85,10 @@ accepted_text_refuses text =
     (then_refuses (read None text) (typed None) (read_refuses None text) (typed_refuses None))
     (λ tree. then_refuses built_in (λ by. checked None tree by []) (rules_refuse _) (λ by. checked_refuses None tree by []))
 
+beside_refuses : (disk : Disk) (name journal : List ℕ) (task : Task) (ruled : Ruled) → Refuses (beside disk name journal task ruled)
+beside_refuses disk name journal task ruled =
+    then_refuses (file disk name) (λ text. found (keeps ruled text (content_of (disk journal)) task)) (file_refuses disk name) (λ text s x. absurd x)
+
 work_refuses : (disk : Disk) (c : Command) → Refuses (work disk c)
 work_refuses disk (Check service judging) =
     then_refuses (accepted_file disk service judging None) accepted (accepted_file_refuses disk service judging None) (λ ruled s x. absurd x)
@@ -90,10 +98,13 @@ work_refuses disk (Replay service requests judging form most) =
 work_refuses disk (Serve service judging form port most) =
     then_refuses (accepted_file disk service judging form) (at_port port most) (accepted_file_refuses disk service judging form)
     (λ ruled s x. absurd x)
+work_refuses disk (Resume service from judging form journal most) =
+    then_refuses (accepted_file disk service judging form) (resumed disk service from journal most) (accepted_file_refuses disk service judging form)
+    (λ ruled. then_refuses (file disk from) (λ stream. beside disk service journal (to_answer stream most) ruled) (file_refuses disk from)
+    (λ stream. beside_refuses disk service journal (to_answer stream most) ruled))
 work_refuses disk (Keep service judging form journal port most) =
-    then_refuses (accepted_file disk service judging form) (beside disk service journal port most) (accepted_file_refuses disk service judging form)
-    (λ ruled. then_refuses (file disk service) (λ text. found (keeps ruled text (content_of (disk journal)) port most)) (file_refuses disk service)
-    (λ text s x. absurd x))
+    then_refuses (accepted_file disk service judging form) (beside disk service journal (to_serve port most)) (accepted_file_refuses disk service judging form)
+    (beside_refuses disk service journal (to_serve port most))
 work_refuses disk (Valid name named) =
     then_refuses (page_file disk name) (ruled disk named) (then_refuses (file disk name) page (file_refuses disk name) (λ content s x. says_so s _ x.1 refl))
     (λ tree. then_refuses (schema disk named) (judged tree) (schema_refuses disk named) (λ by s x. says_so s _ x.2 refl))

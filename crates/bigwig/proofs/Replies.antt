@@ -17,25 +17,27 @@ use Rattle.bw_model.proofs.Storing.{empty_is_within}
 use Rattle.bw_sound.specs.Worlds.{BeginsSound}
 use Rattle.bw_world.specs.Seen.{Seen}
 use Rattle.bw_world.specs.Stands.{StandsFor}
-use Rattle.bigwig.specs.Asked.{Ruled, Work, accepted_file, accepted, file, replayed, at_port}
-use Rattle.bigwig.specs.Asked.Work.{replays, serves}
-use Rattle.bigwig.specs.Checks.{IsRuled, IsFitWorld}
-use Rattle.bigwig.specs.Codes.{status_for}
-use Rattle.bigwig.specs.Lines.{no_file_line}
+use Rattle.bw_questions.specs.Asked.{Ruled, Work, accepted_file, accepted, file}
+use Rattle.bigwig.specs.Asked.{replayed, at_port}
+use Rattle.bw_questions.specs.Asked.Work.{replays, serves}
+use Rattle.bw_questions.specs.Checks.{IsRuled}
+use Rattle.bigwig.specs.Fits.{IsFitWorld}
+use Rattle.bw_questions.specs.Codes.{status_for}
+use Rattle.bw_questions.specs.Lines.{no_file_line}
 use Rattle.bigwig.specs.Outcomes.{Comes, Replies}
 use Rattle.bigwig.specs.Works.{Outside, outside, IsReplayed, ServesLinks, begins, serving_line, status_of}
 use Rattle.bigwig.specs.Outcomes.Comes.{done, read_fault, no_memory}
 use Rattle.bigwig.specs.Works.IsServing.{no_port, no_line, links_served}
-use Rattle.bigwig.specs.Questions.{Said, Question, ◌>>=◌, IsStop, found, line}
-use Rattle.bigwig.specs.Reports.{IsReported, SaysLine}
-use Rattle.bigwig.specs.declared.command.Judging.{Judging}
-use Rattle.bigwig.specs.declared.status.Refusal.{Refusal}
-use Rattle.bigwig.specs.declared.status.Refusal.TheVariants as refusals
-use Rattle.bigwig.specs.declared.status.Status.{Status}
-use Rattle.bigwig.specs.declared.status.Status.TheVariants as status
-use Rattle.bigwig.specs.declared.stop.Stop.{Stop}
-use Rattle.bigwig.specs.declared.stop.Stop.TheVariants as stop
-use Rattle.bigwig.proofs.Answering.{stops_first}
+use Rattle.bw_questions.specs.Questions.{Said, Question, ◌>>=◌, IsStop, found, line}
+use Rattle.bw_questions.specs.Reports.{IsReported, SaysLine}
+use Rattle.bw_command.specs.declared.command.Judging.{Judging}
+use Rattle.bw_questions.specs.declared.status.Refusal.{Refusal}
+use Rattle.bw_questions.specs.declared.status.Refusal.TheVariants as refusals
+use Rattle.bw_questions.specs.declared.status.Status.{Status}
+use Rattle.bw_questions.specs.declared.status.Status.TheVariants as status
+use Rattle.bw_questions.specs.declared.stop.Stop.{Stop}
+use Rattle.bw_questions.specs.declared.stop.Stop.TheVariants as stop
+use Rattle.bw_questions.proofs.Answering.{stops_first}
 use Rattle.bigwig.proofs.Endings.{comes_then, stopped_so}
 use Rattle.bigwig.proofs.Links.{given_so}
 use Rattle.bigwig.proofs.Reaching.{course_is_fit}
@@ -47,12 +49,6 @@ pub found_accepted : (disk : Disk) (name : List ℕ) (judging : Judging) (form :
     → IsRuled ruled.service ruled.formats ruled
 found_accepted disk name judging form ruled g = (refl, subst (λ (r : Ruled). Accepts r.service r.schema) (sym g.2.2.2.0) g.2.2.2.1, refl)
 
--- and where no more is asked for, that is said
-pub accepted_said : (told : Option Disk) (name : List ℕ) (judging : Judging) (form : Option (List ℕ)) (ruled : Ruled) (work : Work) → (accepted ruled).gives work
-    → IfSome told (λ d. (accepted_file d name judging form).gives ruled) → IfSome told (λ d. (accepted_file d name judging form >>= accepted).gives work)
-accepted_said None name judging form ruled work e g = tt
-accepted_said (Some d) name judging form ruled work e g = (ruled, g, e)
-
 -- ---- the requests of a file
 
 -- nothing has changed, whatever was asked
@@ -63,7 +59,7 @@ nothing_replied None service formats q held keys unread steps r why = tt
 nothing_replied (Some d) service formats q held keys unread steps r (inl e) = λ ruled is o. read_fault e refl
 nothing_replied (Some d) service formats q held keys unread steps r (inr e) = λ ruled is o. no_memory e refl
 
-absent_stop : (disk : Disk) (name : List ℕ) (s : Stop) → disk name ≡ None → SaysLine refusals.File (no_file_line name) s → IsStop (file disk name) s
+pub absent_stop : (disk : Disk) (name : List ℕ) (s : Stop) → disk name ≡ None → SaysLine refusals.File (no_file_line name) s → IsStop (file disk name) s
 absent_stop disk name (stop.Says refusal text) e a = (
   e,
   ap (λ (x : Refusal). let s : Said = record { status = status_for x; text = text.items } in s) a.0

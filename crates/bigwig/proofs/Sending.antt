@@ -13,14 +13,15 @@ use Rattle.bw_model.specs.Steps.{Step, step}
 use Rattle.bw_out.specs.Told.{Disk}
 use Rattle.bw_world.specs.Seen.{Seen}
 use Rattle.bw_world.specs.Stands.{StandsFor, Ends, Handles}
-use Rattle.bigwig.specs.Asked.{Ruled, accepted_text, made_work, turned}
-use Rattle.bigwig.specs.Asked.Work.{prints}
-use Rattle.bigwig.specs.Making.{first_request, next_request, requests, page_length, sent, IsSent, lines_of}
+use Rattle.bw_questions.specs.Asked.{Ruled, accepted_text, made_work, turned}
+use Rattle.bw_questions.specs.Asked.Work.{prints}
+use Rattle.bw_questions.specs.Making.{first_request, next_request, requests, page_length, sent, lines_of}
+use Rattle.bigwig.specs.Sending.{IsSent}
 use Rattle.bigwig.specs.Outcomes.{Speaks}
-use Rattle.bigwig.specs.Questions.{IsStop}
-use Rattle.bigwig.specs.declared.status.Status.{Status}
-use Rattle.bigwig.specs.declared.stop.Stop.{Stop}
-use Rattle.bigwig.proofs.Answering.{stops_first}
+use Rattle.bw_questions.specs.Questions.{IsStop}
+use Rattle.bw_questions.specs.declared.status.Status.{Status}
+use Rattle.bw_questions.specs.declared.stop.Stop.{Stop}
+use Rattle.bw_questions.proofs.Answering.{stops_first}
 
 -- ---- one request
 

@@ -27,20 +27,22 @@ use Rattle.bw_types.specs.declared.fault.TypeFault.{TypeFault}
 use Rattle.bw_valid.specs.Breaches.{breach}
 use Rattle.bw_valid.specs.declared.breach.Breach.{Breach}
 use Rattle.bw_valid.proofs.BreachLaws.{valid_decided}
-use Rattle.bigwig.specs.Asked.{page, page_file, rules, schema, built_in, judged, ruled, formats_in, formats_file, formats, AreTexts, lit, lit_file}
-use Rattle.bigwig.specs.Asked.Work.{prints}
-use Rattle.bigwig.specs.Asked.{command, file, read, typed, service_file, service_text, checked, checked_with, checked_by, accepted_file, accepted_text}
-use Rattle.bigwig.specs.Asked.{accepted, replayed, at_port, beside, turned, work, asked, usage_line}
-use Rattle.bigwig.specs.Behind.{Shown, AreShown, shown_file, content_of, behind_syntax, behind_type, blamed_in}
-use Rattle.bigwig.specs.Commands.{command_of}
-use Rattle.bigwig.specs.FaultLines.{check_text, page_names}
+use Rattle.bw_questions.specs.Asked.{page, page_file, rules, schema, built_in, judged, ruled, formats_in, formats_file, formats, AreTexts, lit, lit_file}
+use Rattle.bw_questions.specs.Asked.Work.{prints}
+use Rattle.bw_questions.specs.Asked.{command, file, read, typed, service_file, service_text, checked, checked_with, checked_by, accepted_file, accepted_text}
+use Rattle.bw_questions.specs.Asked.{accepted, turned, usage_line}
+use Rattle.bigwig.specs.Asked.{replayed, resumed, at_port, beside, work, asked}
+use Rattle.bw_questions.specs.Asked.Task.{to_serve}
+use Rattle.bw_questions.specs.Behind.{Shown, AreShown, shown_file, content_of, behind_syntax, behind_type, blamed_in, behind_fault}
+use Rattle.bw_command.specs.Commands.{command_of}
+use Rattle.bw_questions.specs.FaultLines.{check_text, page_names}
 use Rattle.bigwig.specs.Laws.{HasVerdict, Checks}
-use Rattle.bigwig.specs.Lines.{syntax_line, type_line, no_file_line, no_page_line, breach_line, schema_line, format_line, no_texts_line}
-use Rattle.bigwig.specs.Questions.{Said, Question, ◌>>=◌, found, line}
-use Rattle.bigwig.specs.declared.command.Command.{Command}
-use Rattle.bigwig.specs.declared.command.Command.TheVariants.{Check, Replay, Serve, Keep, Valid, Make, Light}
-use Rattle.bigwig.specs.declared.command.Judging.{Judging}
-use Rattle.bigwig.specs.declared.status.Status.TheVariants.{Usage, NoFile, ServiceRefused, SchemaRefused, PageRefused, FormatsRefused}
+use Rattle.bw_questions.specs.Lines.{syntax_line, type_line, no_file_line, no_page_line, breach_line, schema_line, format_line, no_texts_line}
+use Rattle.bw_questions.specs.Questions.{Said, Question, ◌>>=◌, found, line}
+use Rattle.bw_command.specs.declared.command.Command.{Command}
+use Rattle.bw_command.specs.declared.command.Command.TheVariants.{Check, Replay, Resume, Serve, Keep, Valid, Make, Light}
+use Rattle.bw_command.specs.declared.command.Judging.{Judging}
+use Rattle.bw_questions.specs.declared.status.Status.TheVariants.{Usage, NoFile, ServiceRefused, SchemaRefused, PageRefused, FormatsRefused}
 
 abbrev pub HasAnswer : {A : Type 0} → Question A → Type 0
 HasAnswer {A = A} question = ((a : A) × question.gives a) ⊎ ((said : Said) × question.says said)
@@ -172,7 +174,7 @@ checked_some : (how : Option Shown) (tree : Service) (by : Schema) (given : List
     → HasAnswer (checked how tree by given)
 checked_some how tree by given has (inl x) = inl (record { service = tree; schema = by; formats = given }, (refl, x))
 checked_some how tree by given has (inr x) =
-    inr (record { status = ServiceRefused; text = check_text how has.0 (page_names tree) x.0 }, (x.0, x.1, x.2, has.0, has.1, refl))
+    inr (record { status = ServiceRefused; text = check_text how (behind_fault how has.0) (page_names tree) x.0 }, (x.0, x.1, x.2, has.0, has.1, refl))
 
 accepted_file_some : (disk : Disk) (name : List ℕ) (judging : Judging) (form : Option (List ℕ))
     → ((tree : Service) (by : Schema) → (service_file None disk name).gives tree → (schema disk judging.schema).gives by → HasVerdict tree by)
@@ -201,8 +203,13 @@ work_some disk (Replay service requests judging form most) verdicts =
 work_some disk (Serve service judging form port most) verdicts =
     then_some (accepted_file disk service judging form) (at_port port most)
     (accepted_file_some disk service judging form (λ tree by g k. verdicts tree by (g, k))) (λ ruled _. found_some _)
+work_some disk (Resume service from judging form journal most) verdicts =
+    then_some (accepted_file disk service judging form) (resumed disk service from journal most)
+    (accepted_file_some disk service judging form (λ tree by g k. verdicts tree by (g, k)))
+    (λ ruled _. then_some (file disk from) _ (file_some disk from)
+    (λ stream _. then_some (file disk service) _ (file_some disk service) (λ text _. found_some _)))
 work_some disk (Keep service judging form journal port most) verdicts =
-    then_some (accepted_file disk service judging form) (beside disk service journal port most)
+    then_some (accepted_file disk service judging form) (beside disk service journal (to_serve port most))
     (accepted_file_some disk service judging form (λ tree by g k. verdicts tree by (g, k)))
     (λ ruled _. then_some (file disk service) _ (file_some disk service) (λ text _. found_some _))
 work_some disk (Valid name named) verdicts =

@@ -8,16 +8,19 @@ use Rattle.bw_keeping.specs.declared.recalling.Recalled.TheVariants as recalled
 use Rattle.bw_stable.specs.Deeds.{Deed, cut, kept}
 use Rattle.bw_world.specs.Seen.{Seen}
 use Rattle.bw_world.specs.Stands.{StandsFor}
-use Rattle.bigwig.specs.Asked.{Ruled}
-use Rattle.bigwig.specs.Checks.{IsFitWorld}
-use Rattle.bigwig.specs.Keeping.{Holds, Refuses}
-use Rattle.bigwig.specs.Lines.{journal_line}
-use Rattle.bigwig.specs.Reports.{SaysLine}
+use Rattle.bw_questions.specs.Asked.{Ruled, Task}
+use Rattle.bw_questions.specs.Asked.Task.{to_answer, to_serve}
+use Rattle.bigwig.specs.Fits.{IsFitWorld}
+use Rattle.bigwig.specs.Keeping.{Holds, Refuses, sum_behind}
+use Rattle.bigwig.specs.JournalLines.{journal_line}
+use Rattle.bw_questions.specs.Reports.{SaysLine}
 use Rattle.bigwig.specs.declared.keeping.Found.{Found}
 use Rattle.bigwig.specs.declared.keeping.Found.TheVariants.{Nothing, Entries}
-use Rattle.bigwig.specs.declared.status.Refusal.TheVariants as refusals
-use Rattle.bigwig.specs.declared.stop.Stop.{Stop}
-use Rattle.bigwig.specs.declared.stop.Stop.TheVariants.{Says, ReadFault, Memory}
+use Rattle.bigwig.specs.declared.keeping.Task.{Task as CodeTask}
+use Rattle.bigwig.specs.declared.keeping.Task.TheVariants.{Links, Stream}
+use Rattle.bw_questions.specs.declared.status.Refusal.TheVariants as refusals
+use Rattle.bw_questions.specs.declared.stop.Stop.{Stop}
+use Rattle.bw_questions.specs.declared.stop.Stop.TheVariants.{Says, ReadFault, Memory}
 
 -- how the reading of a journal ended in which this is found
 abbrev pub recalled_of : Found → Recalled
@@ -63,3 +66,21 @@ begun_by (Entries len sum) head given printed = cut len ∷ []
 abbrev pub AreDone : Option (List Deed) → Option (List Deed) → List Deed → Type 0
 AreDone None after deeds = after ≡ None
 AreDone (Some before) after deeds = after ≡ Some (before ++ deeds)
+
+-- ---- the task
+
+-- the task of the code is this one, where its file tells what it has to read
+abbrev pub IsTask : {S : Type 0} → (S → Option (List ℕ)) → CodeTask S → Task → Type 0
+IsTask left (Links place) task = task ≡ to_serve place.port place.most
+IsTask left (Stream requests) task = (stream : List ℕ) × (left requests.file ≡ Some stream) × (task ≡ to_answer stream requests.most)
+
+-- no read of its file has failed
+abbrev pub IsFresh : {S : Type 0} → (S → ℕ) → CodeTask S → Type 0
+IsFresh faults (Links place) = ⊤
+IsFresh faults (Stream requests) = faults requests.file ≡ 0
+
+-- the journal was read: this was found in it, and this is to be done to it
+pub record IsRead (ruled : Ruled) (text content : List ℕ) (seen : Seen) (found : Found) (start : List ℕ) (sum : ℕ) : Type 0 where
+  pub is_found : IsFoundIn ruled text content seen found
+  pub start_is : start ≡ head_if text found
+  pub sum_is : sum ≡ sum_behind text (recalled_of found)

@@ -22,12 +22,12 @@ use Rattle.bw_schema.specs.declared.default_schema.TheConstants.{BUILT_IN}
 use Rattle.bw_schema.specs.declared.schema.Schema.{Schema}
 use Rattle.bw_sound.specs.Good.{IsGood}
 use Rattle.bw_types.specs.Typing.{IsTypedService}
-use Rattle.bigwig.specs.Commands.{command_of}
+use Rattle.bw_command.specs.Commands.{command_of}
 use Rattle.bigwig.specs.Works.{Outside}
-use Rattle.bigwig.specs.declared.command.Command.TheVariants.{Replay, Serve, Light}
-use Rattle.bigwig.specs.declared.command.Judging.{Judging}
-use Rattle.bigwig.specs.declared.status.Status.{Status}
-use Rattle.bigwig.specs.declared.status.Status.TheVariants.{Done, DoorFault}
+use Rattle.bw_command.specs.declared.command.Command.TheVariants.{Replay, Serve, Light}
+use Rattle.bw_command.specs.declared.command.Judging.{Judging}
+use Rattle.bw_questions.specs.declared.status.Status.{Status}
+use Rattle.bw_questions.specs.declared.status.Status.TheVariants.{Done, DoorFault}
 
 -- ---- a stream of requests
 
@@ -134,8 +134,8 @@ pub record IsLit (disk : Disk) (form texts : List ℕ) (before after : Outside) 
   pub lights : AreLights formats (lines content) printed
   pub appended : Appends before.printed after.printed printed
 
--- The headline: what each `replay` that was done has answered, each `serve` that was done or whose door failed, and what each
--- `light` that was done has printed.
+-- The headline: what each `replay` that was done has answered, each `serve` that was done or whose door failed, both without a
+-- journal, and what each `light` that was done has printed. Of journals `Comes` speaks alone.
 -- Where a read or a write of a `replay` failed, what was answered before is said by `Comes` alone: such a status also comes
 -- before any request.
 pub record Headline (words : List (List ℕ)) (disk : Disk) (before after : Outside) (status : Status) : Type 0 where

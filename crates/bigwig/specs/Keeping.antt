@@ -1,4 +1,4 @@
--- What serving beside a journal comes to.
+-- What serving and answering beside a journal come to.
 use Rattle.std.specs.Prelude.{◌≡◌, ◌⊎◌, ◌+◌, ℕ, List, [], ◌∷◌, ◌++◌, length, Option, Some, IfSome, codes}
 use Rattle.std.specs.Io.KnownBytes.{Appends}
 use Rattle.bw_journal.specs.Heads.{HasOther, HasVersion, head_of, start_sum}
@@ -9,7 +9,14 @@ use Rattle.bw_keeping.specs.Answered.{backs_of}
 use Rattle.bw_keeping.specs.Served.{HasServed, View}
 use Rattle.bw_keeping.specs.declared.ended.Ended.{Ended}
 use Rattle.bw_keeping.specs.declared.ended.Ended.TheVariants as ended
+use Rattle.bw_keeping.specs.Streamed.{HasStreamed, sight}
+use Rattle.bw_keeping.specs.declared.ended.StreamEnded.{StreamEnded}
+use Rattle.bw_keeping.specs.declared.ended.StreamEnded.TheVariants as streams
+use Rattle.bw_http.specs.declared.replies.Reply.{Reply}
 use Rattle.bw_model.specs.Sessions.{World, empty}
+use Rattle.bw_model.specs.Within.{AreWithin}
+use Rattle.bw_sound.specs.Good.{AreGood}
+use Rattle.bw_world.specs.Streams.Answers.{between}
 use Rattle.bw_out.specs.Doors.{Returned, Asks, MayAsk}
 use Rattle.bw_out.specs.Told.{Coming}
 use Rattle.bw_out.specs.Writes.{AppendsPart}
@@ -19,12 +26,14 @@ use Rattle.bw_keeping.specs.declared.recalling.Recalled.{Recalled}
 use Rattle.bw_keeping.specs.declared.recalling.Recalled.TheVariants as recalled
 use Rattle.bw_stable.specs.Deeds.{Deed, cut, kept}
 use Rattle.bw_world.specs.Seen.{Seen}
-use Rattle.bigwig.specs.Asked.{Ruled}
-use Rattle.bigwig.specs.Lines.{journal_line}
-use Rattle.bigwig.specs.Questions.{line}
-use Rattle.bigwig.specs.Works.{Between, Outside, AreServed, IsSaid, Prints, serving_line}
-use Rattle.bigwig.specs.declared.status.Status.{Status}
-use Rattle.bigwig.specs.declared.status.Status.TheVariants.{Done, ReadFault, WriteFault, DoorFault, Memory, JournalRefused, JournalFault}
+use Rattle.bw_questions.specs.Asked.{Ruled, Task}
+use Rattle.bw_questions.specs.Asked.Task.{to_answer, to_serve}
+use Rattle.bigwig.specs.JournalLines.{journal_line}
+use Rattle.bw_questions.specs.Questions.{line}
+use Rattle.bigwig.specs.Works.{Between, Outside, AreServed, IsSaid, begins, serving_line}
+use Rattle.bw_questions.specs.Reports.{Prints}
+use Rattle.bw_questions.specs.declared.status.Status.{Status}
+use Rattle.bw_questions.specs.declared.status.Status.TheVariants.{Done, ReadFault, WriteFault, DoorFault, Memory, JournalRefused, JournalFault}
 
 -- ---- what a journal holds
 
@@ -126,20 +135,62 @@ pub data Keeps (ruled : Ruled) (world : World) (port most sum : ℕ) (before aft
   links_served : (printed : Option (List ℕ)) (end : Ended) → Asks before.asked after.asked port → Appends before.printed printed (serving_line port)
       → EndsWith printed after.printed end status → ServesKept ruled world sum most before after end → Keeps ruled world port most sum before after status
 
+-- ---- requests
+
+-- The requests of a stream were answered from this model world on, one after another, and what is kept of each was kept before a
+-- byte of its reply was printed. `now` is what is printed behind their replies. Each page among these is good, and each value that
+-- a session stored is in its field's format.
+pub record AreKeptRequests (ruled : Ruled) (most sum : ℕ) (from : Between) (stream printed : List ℕ) (deeds : List Deed)
+    (returned : Option (List Returned)) (now : Option (List ℕ)) (after : Outside) (end : StreamEnded) : Type 0 where
+  pub world : Seen
+  pub taken : List ℕ
+  pub behind : ℕ
+  pub streamed : HasStreamed ruled.formats ruled.service most returned sum from.steps (begins from stream) printed deeds
+      (sight (between world taken after.unread now after.keys after.steps) after.deeds behind) end
+  pub pages : (replies : List Reply) → AreGood ruled.formats ruled.service ruled.schema (begins from stream) replies
+  pub within : AreWithin ruled.formats ruled.service streamed.to.world
+
+-- so it is where the keys, the output and the journal tell
+abbrev pub AnswersKept : Ruled → World → List ℕ → ℕ → ℕ → Outside → Option (List ℕ) → Outside → StreamEnded → Type 0
+AnswersKept ruled world stream most sum before now after end =
+    (keys : Coming) → before.keys ≡ Some keys → (printed : List ℕ) → before.printed ≡ Some printed → (deeds : List Deed) → before.deeds ≡ Some deeds
+    → AreKeptRequests ruled most sum (record { world = world; keys = keys; steps = before.steps }) stream printed deeds before.returned now after end
+
+-- What was printed behind the replies, and the status: that the journal failed, or nothing.
+abbrev pub AnswersEndWith : Option (List ℕ) → Option (List ℕ) → StreamEnded → Status → Type 0
+AnswersEndWith held now (streams.Ended count) status = (status ≡ Done) × (now ≡ held)
+AnswersEndWith held now streams.ReadFault status = (status ≡ ReadFault) × (now ≡ held)
+AnswersEndWith held now streams.WriteFault status = (status ≡ WriteFault) × (now ≡ held)
+AnswersEndWith held now streams.JournalFault status = Prints (record { status = JournalFault; text = fault_line }) held now status
+
+-- What comes of answering a stream beside a journal that is begun, from this model world on and behind this check. What was not
+-- read of the stream is what its file had left as it was closed.
+pub record Resumes (ruled : Ruled) (world : World) (stream : List ℕ) (most sum : ℕ) (before after : Outside) (status : Status) : Type 0 where
+  pub end : StreamEnded
+  pub printed : Option (List ℕ)
+  pub ends : AnswersEndWith printed after.printed end status
+  pub answers : AnswersKept ruled world stream most sum before printed after end
+  pub kept : (after.asked ≡ before.asked) × (after.coming ≡ before.coming) × (after.returned ≡ before.returned)
+
 -- ---- the work
 
--- What comes of serving an accepted service beside a journal of this content. There was a read fault or no memory for it, or it
--- is refused, and nothing was done to it; or it failed before any link, and that was printed; or it was begun, and then it was
--- served beside, from the world that the journal brings about.
-pub data IsKept (ruled : Ruled) (text content : List ℕ) (port most : ℕ) (before after : Outside) (status : Status) : Type 0 where
+-- what comes of the task beside a journal that is begun
+abbrev pub Follows : Ruled → Task → World → ℕ → Outside → Outside → Status → Type 0
+Follows ruled (to_serve port most) world sum before after status = Keeps ruled world port most sum before after status
+Follows ruled (to_answer stream most) world sum before after status = Resumes ruled world stream most sum before after status
+
+-- What comes of a task over an accepted service beside a journal of this content. There was a read fault or no memory for it, or it
+-- is refused, and nothing was done to it; or it failed before any link or request, and that was printed; or it was begun, and then
+-- the task was done beside it, from the world that the journal brings about.
+pub data IsKept (ruled : Ruled) (text content : List ℕ) (task : Task) (before after : Outside) (status : Status) : Type 0 where
   stopped : (status ≡ ReadFault) ⊎ (status ≡ Memory) → after ≡ record before { unread = after.unread; steps = after.steps; deeds = after.deeds }
-      → IsUntouched before.deeds after.deeds → IsKept ruled text content port most before after status
+      → IsUntouched before.deeds after.deeds → IsKept ruled text content task before after status
   refused : (why : Recalled) → Refuses ruled text content why
       → IsSaid (record { status = JournalRefused; text = line (journal_line why) }) (record before { steps = after.steps; deeds = after.deeds }) after status
-      → IsUntouched before.deeds after.deeds → IsKept ruled text content port most before after status
+      → IsUntouched before.deeds after.deeds → IsKept ruled text content task before after status
   failed : IsSaid (record { status = JournalFault; text = fault_line }) (record before { steps = after.steps; deeds = after.deeds }) after status
-      → IsKept ruled text content port most before after status
+      → IsKept ruled text content task before after status
   begun : (found : Recalled) (world : World) (mid : Outside) → Holds ruled text content found world
       → mid ≡ record before { unread = mid.unread; steps = mid.steps; deeds = mid.deeds }
-      → IfSome mid.deeds (IsBegun text before.returned before.printed found) → Keeps ruled world port most (sum_behind text found) mid after status
-      → IsKept ruled text content port most before after status
+      → IfSome mid.deeds (IsBegun text before.returned before.printed found) → Follows ruled task world (sum_behind text found) mid after status
+      → IsKept ruled text content task before after status

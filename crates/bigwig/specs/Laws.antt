@@ -15,17 +15,19 @@ use Rattle.bw_schema.specs.Validity.{Valid as IsValid}
 use Rattle.bw_schema.specs.declared.default_schema.TheConstants.{BUILT_IN}
 use Rattle.bw_schema.specs.declared.schema.Schema.{Schema}
 use Rattle.bw_types.specs.Faults.{IsWellTyped}
-use Rattle.bigwig.specs.Asked.{Ruled, Work, asked, built_in, schema, service_file, service_text}
-use Rattle.bigwig.specs.Asked.Work.{keeps, serves}
-use Rattle.bigwig.specs.Commands.{command_of}
+use Rattle.bw_questions.specs.Asked.{Ruled, Task, Work, built_in, schema, service_file, service_text}
+use Rattle.bigwig.specs.Asked.{asked}
+use Rattle.bw_questions.specs.Asked.Task.{to_serve}
+use Rattle.bw_questions.specs.Asked.Work.{keeps, serves}
+use Rattle.bw_command.specs.Commands.{command_of}
 use Rattle.bigwig.specs.Outcomes.{Comes, IsDone}
 use Rattle.bigwig.specs.Works.{Outside}
-use Rattle.bigwig.specs.Questions.{Said}
-use Rattle.bigwig.specs.declared.command.Command.{Command}
-use Rattle.bigwig.specs.declared.command.Command.TheVariants.{Check, Make, Replay, Serve, Keep, Valid, Light}
-use Rattle.bigwig.specs.declared.command.Judging.{Judging}
-use Rattle.bigwig.specs.declared.status.Status.{Status}
-use Rattle.bigwig.specs.declared.status.Status.TheVariants.{Done, ReadFault, WriteFault, DoorFault, Memory, JournalRefused, JournalFault}
+use Rattle.bw_questions.specs.Questions.{Said}
+use Rattle.bw_command.specs.declared.command.Command.{Command}
+use Rattle.bw_command.specs.declared.command.Command.TheVariants.{Check, Make, Replay, Resume, Serve, Keep, Valid, Light}
+use Rattle.bw_command.specs.declared.command.Judging.{Judging}
+use Rattle.bw_questions.specs.declared.status.Status.{Status}
+use Rattle.bw_questions.specs.declared.status.Status.TheVariants.{Done, ReadFault, WriteFault, DoorFault, Memory, JournalRefused, JournalFault}
 
 -- the status that is due by the words and the files: that of what is said, or that of work that is done
 abbrev pub Due : List (List ℕ) → Disk → Status → Type 0
@@ -40,6 +42,8 @@ HasVerdict tree by = Accepts tree by ⊎ ((fault : CheckFault) × IsCheckFault t
 abbrev pub Checks : Disk → Command → Service → Schema → Type 0
 Checks disk (Check service judging) tree by = (service_file None disk service).gives tree × (schema disk judging.schema).gives by
 Checks disk (Replay service requests judging form most) tree by = (service_file None disk service).gives tree × (schema disk judging.schema).gives by
+Checks disk (Resume service requests judging form journal most) tree by =
+    (service_file None disk service).gives tree × (schema disk judging.schema).gives by
 Checks disk (Serve service judging form port most) tree by = (service_file None disk service).gives tree × (schema disk judging.schema).gives by
 Checks disk (Keep service judging form journal port most) tree by = (service_file None disk service).gives tree × (schema disk judging.schema).gives by
 Checks disk (Valid name named) tree by = ⊥
@@ -77,7 +81,7 @@ DoesItsWork =
 -- the work serves links at a port
 pub data ServesLinks : Work → Type 0 where
   alone : (ruled : Ruled) (port most : ℕ) → ServesLinks (serves ruled port most)
-  kept : (ruled : Ruled) (text content : List ℕ) (port most : ℕ) → ServesLinks (keeps ruled text content port most)
+  kept : (ruled : Ruled) (text content : List ℕ) (port most : ℕ) → ServesLinks (keeps ruled text content (to_serve port most))
 
 -- the door's fault comes only where a service is served
 abbrev pub DoorFaultsServe : Type 0
@@ -85,12 +89,12 @@ DoorFaultsServe =
     (words : List (List ℕ)) (disk : Disk) (before after : Outside) → Comes (asked words disk) before after DoorFault
     → (work : Work) × (asked words disk).gives work × ServesLinks work
 
--- a journal is refused or fails only where a service is served beside one
+-- a journal is refused or fails only where a service is served, or requests are answered, beside one
 abbrev pub JournalsAreKept : Type 0
 JournalsAreKept =
     (words : List (List ℕ)) (disk : Disk) (before after : Outside) (status : Status) → Comes (asked words disk) before after status
     → (status ≡ JournalRefused) ⊎ (status ≡ JournalFault)
-    → (ruled : Ruled) × (text : List ℕ) × (content : List ℕ) × (port : ℕ) × (most : ℕ) × (asked words disk).gives (keeps ruled text content port most)
+    → (ruled : Ruled) × (text : List ℕ) × (content : List ℕ) × (task : Task) × (asked words disk).gives (keeps ruled text content task)
 
 -- the file of this name has a service that is accepted by the schema that is named
 pub record IsAcceptedFile (disk : Disk) (name : List ℕ) (named : Option (List ℕ)) : Type 0 where

@@ -1,20 +1,20 @@
 -- What the program comes to: its status, and what is then printed, drawn and given back.
 use Rattle.std.specs.Prelude.{◌≡◌, ℕ, List, Option}
 use Rattle.bw_out.specs.Told.{Coming}
-use Rattle.bigwig.specs.Asked.{Work}
-use Rattle.bigwig.specs.Asked.Work.{prints, replays, serves, keeps}
+use Rattle.bw_questions.specs.Asked.{Work}
+use Rattle.bw_questions.specs.Asked.Work.{prints, replays, serves, keeps}
 use Rattle.bigwig.specs.Keeping.{IsKept}
-use Rattle.bigwig.specs.Questions.{Said, Question}
+use Rattle.bw_questions.specs.Questions.{Said, Question}
 use Rattle.bigwig.specs.Works.{Outside, IsReplayed, IsSaid, IsServing}
-use Rattle.bigwig.specs.declared.status.Status.{Status}
-use Rattle.bigwig.specs.declared.status.Status.TheVariants.{Done, ReadFault, Memory}
+use Rattle.bw_questions.specs.declared.status.Status.{Status}
+use Rattle.bw_questions.specs.declared.status.Status.TheVariants.{Done, ReadFault, Memory}
 
 -- what comes of the work
 abbrev pub IsDone : Work → Outside → Outside → Status → Type 0
 IsDone (prints text) before after status = IsSaid (record { status = Done; text = text }) before after status
 IsDone (replays ruled stream most) before after status = IsReplayed ruled stream most before after status × (after.deeds ≡ before.deeds)
 IsDone (serves ruled port most) before after status = IsServing ruled port most before after status × (after.deeds ≡ before.deeds)
-IsDone (keeps ruled text content port most) before after status = IsKept ruled text content port most before after status
+IsDone (keeps ruled text content task) before after status = IsKept ruled text content task before after status
 
 -- What comes of the questions. What is said is printed; or the work is done; or, after a read fault or for want of
 -- memory, nothing has changed, but for the files that were read.

@@ -13,10 +13,11 @@ use Rattle.bw_world.specs.Streams.Courses.{AreLeft, Course}
 use Rattle.bw_world.specs.declared.ends.StreamEnd.{StreamEnd}
 use Rattle.bw_world.specs.declared.ends.StreamEnd.TheVariants as ends
 use Rattle.bw_sound.specs.Good.{AreGood}
-use Rattle.bigwig.specs.declared.status.Status.{Status}
-use Rattle.bigwig.specs.Asked.{Ruled}
-use Rattle.bigwig.specs.Questions.{Said, line}
-use Rattle.bigwig.specs.declared.status.Status.TheVariants.{Done, ReadFault, WriteFault, DoorFault}
+use Rattle.bw_questions.specs.declared.status.Status.{Status}
+use Rattle.bw_questions.specs.Asked.{Ruled}
+use Rattle.bw_questions.specs.Questions.{Said, line}
+use Rattle.bw_questions.specs.Reports.{Prints}
+use Rattle.bw_questions.specs.declared.status.Status.TheVariants.{Done, ReadFault, WriteFault, DoorFault}
 use Rattle.bw_stable.specs.Deeds.{Deed}
 
 -- what is seen of the outside: what `out` holds, the keys to come, the ports that were asked for, the links to come and
@@ -75,10 +76,6 @@ abbrev pub status_of : StreamEnd → Status
 status_of (ends.Ended count) = Done
 status_of ends.ReadFault = ReadFault
 status_of ends.WriteFault = WriteFault
-
--- the text was printed, and the status is this one; or a first part of it was, and it is a write fault
-abbrev pub Prints : Said → Option (List ℕ) → Option (List ℕ) → Status → Type 0
-Prints what held now status = ((status ≡ what.status) × Appends held now what.text) ⊎ ((status ≡ WriteFault) × AppendsPart held now what.text)
 
 -- this was said, and nothing else has changed, but for the files that were read before
 pub record IsSaid (what : Said) (before after : Outside) (status : Status) : Type 0 where

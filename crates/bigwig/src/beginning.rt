@@ -1,27 +1,28 @@
-//! A journal that was read is begun, and then links are served beside it.
+//! A journal that was read is begun, and links are served beside it.
 ghost use Rattle.std.specs.Prelude.{◌≡◌, ◌≢◌, ◌⊎◌, ◌^◌, ◌<◌, ℕ, List, [], length, IfOk, IfSome, OnOk};
 ghost use Rattle.bw_model.specs.Sessions as model;
 ghost use Rattle.bw_out.specs.Causes.{HasCause, Shows};
 ghost use Rattle.bw_world.specs.Stands.{StandsFor};
-ghost use Rattle.bigwig.specs.Asked.{Ruled};
-ghost use Rattle.bigwig.specs.Checks.{IsFitWorld, IsRuled};
-ghost use Rattle.bigwig.specs.Finding.{AreDone, IsFoundIn, begun_by, head_if, recalled_of};
+ghost use Rattle.bw_questions.specs.Asked.{Ruled};
+ghost use Rattle.bw_questions.specs.Checks.{IsRuled};
+ghost use Rattle.bigwig.specs.Fits.{IsFitWorld};
+ghost use Rattle.bw_questions.specs.Asked.Task.{to_serve};
+ghost use Rattle.bigwig.specs.Finding.{AreDone, IsRead, begun_by, head_if, recalled_of};
 ghost use Rattle.bigwig.specs.Keeping.{EndsWith, IsKept, Keeps, fault_line, sum_behind};
 ghost use Rattle.bw_keeping.specs.Served.{Serves, view};
 ghost use Rattle.bw_keeping.specs.declared.ended.Ended.{Ended as Ended_};
 ghost use Rattle.bigwig.specs.Lent.{AreSame, ShowsJournal, seen_of};
-ghost use Rattle.bigwig.specs.Works.{Prints};
+ghost use Rattle.bw_questions.specs.Reports.{Prints};
 
 use crate::keeping::{Found, Place};
 use crate::lent::Lent;
-use crate::report::print_line;
 use crate::server::Server;
 use crate::serving::print_serving;
-use crate::status::Status;
 use bw_journal::{put_head, start_sum};
 use bw_keeping::{Ended, Room, WideDoor, serve_kept};
 use bw_lang::Memory;
 use bw_out::{Failed, Files, Keys, Sink, Steps, WriteFault};
+use bw_questions::{Status, print_line};
 use bw_stable::{Journal, Journals};
 use std::alloc::Global;
 use std::sync::ledger::Ledger;
@@ -58,22 +59,54 @@ pub fn opening_for(alloc: Global, text: &[u8], found: Found) -> Result<Opening, 
     }
 }
 
-/// Serves a port beside a journal of which all was read: it is begun, and then links are served.
-pub fn keep_begun<F: Files, J: Journals, I: Journal, D: WideDoor, K: Keys, W: Sink, L: Ledger>(
+/// Serves a port beside a journal of which all was read. The memory for links is taken first.
+pub fn serve_beside<F: Files, J: Journals, I: Journal, D: WideDoor, K: Keys, W: Sink, L: Ledger>(
     server: &mut Server,
-    room: &mut Room<D::Link>,
-    opening: &Opening,
-    place: Place<'_>,
+    opening: Opening,
+    place: Place,
     journal: &mut I,
     lent: &mut Lent<F, J, D, K, W, Steps<L>>,
 ) -> Status
     requires journal { I.is_sound journal.old }
-    requires fresh { IfSome (I.deeds journal.old) (λ deeds. deeds ≡ []) }
+    requires none { IfSome (I.deeds journal.old) (λ deeds. deeds ≡ []) }
+    ensures keeps { (ruled : Ruled) (text content : List ℕ) → IsRuled server.old.world.service server.old.formats ruled
+        → IsRead ruled text content server.old.world opening.found opening.head.items opening.sum
+        → IsKept ruled text content (to_serve place.port place.most)
+        (record (seen_of F.Files J.Journals D.Door K.Keys W.Channel lent.old) { deeds = I.deeds journal.old })
+        (record (seen_of F.Files J.Journals D.Door K.Keys W.Channel lent.new) { deeds = I.deeds journal.new }) result }
+    ensures others { (result ≢ Status.Usage) × (result ≢ Status.ReadFault) }
+    ensures write_fault { Shows (result ≡ Status.WriteFault) (W.write_faults lent.old.out.now) (W.write_faults lent.new.out.now) }
+    ensures door_fault { Shows (result ≡ Status.DoorFault) (D.faults lent.old.door.now) (D.faults lent.new.door.now) }
+    ensures journal_fault { ShowsJournal result (I.faults journal.old) (I.faults journal.new) }
+    ensures kept { (lent.new.files.now ≡ lent.old.files.now) × (lent.new.journals.now ≡ lent.old.journals.now) }
+    ensures same { AreSame lent.old lent.new }
+{
+    let Ok(mut room) = Room::new(server.alloc, opening.sum) else {
+        drop(opening);
+        return Status::Memory;
+    };
+    let status = keep_begun(server, &mut room, &opening, place, journal, lent);
+    room.close();
+    drop(opening);
+    status
+}
+
+/// The same with memory for links: the journal is begun, and then they are served.
+fn keep_begun<F: Files, J: Journals, I: Journal, D: WideDoor, K: Keys, W: Sink, L: Ledger>(
+    server: &mut Server,
+    room: &mut Room<D::Link>,
+    opening: &Opening,
+    place: Place,
+    journal: &mut I,
+    lent: &mut Lent<F, J, D, K, W, Steps<L>>,
+) -> Status
+    requires journal { I.is_sound journal.old }
+    requires none { IfSome (I.deeds journal.old) (λ deeds. deeds ≡ []) }
     requires bytes { room.old.group.bytes ≡ [] }
     requires queue { room.old.queue.links.items ≡ [] }
     ensures keeps { (ruled : Ruled) (text content : List ℕ) → IsRuled server.old.world.service server.old.formats ruled
-        → IsFoundIn ruled text content server.old.world opening.now.found → opening.now.head.items ≡ head_if text opening.now.found
-        → room.old.group.sum ≡ sum_behind text (recalled_of opening.now.found) → IsKept ruled text content place.entry.port place.entry.most
+        → IsRead ruled text content server.old.world opening.now.found opening.now.head.items room.old.group.sum
+        → IsKept ruled text content (to_serve place.port place.most)
         (record (seen_of F.Files J.Journals D.Door K.Keys W.Channel lent.old) { deeds = I.deeds journal.old })
         (record (seen_of F.Files J.Journals D.Door K.Keys W.Channel lent.new) { deeds = I.deeds journal.new }) result }
     ensures others { (result ≢ Status.Usage) × (result ≢ Status.ReadFault) }
@@ -91,7 +124,7 @@ pub fn keep_begun<F: Files, J: Journals, I: Journal, D: WideDoor, K: Keys, W: Si
 }
 
 /// Makes a journal ready for entries: puts the head there where there is none, and cuts off what is less than an entry.
-fn begin<J: Journal, D: WideDoor, W: Sink>(
+pub fn begin<J: Journal, D: WideDoor, W: Sink>(
     opening: &Opening,
     journal: &mut J,
     door: &D,
@@ -115,7 +148,7 @@ fn begin<J: Journal, D: WideDoor, W: Sink>(
 fn keep_port<F: Files, J: Journals, I: Journal, D: WideDoor, K: Keys, W: Sink, L: Ledger>(
     server: &mut Server,
     room: &mut Room<D::Link>,
-    place: Place<'_>,
+    place: Place,
     journal: &mut I,
     lent: &mut Lent<F, J, D, K, W, Steps<L>>,
 ) -> Status
@@ -123,7 +156,7 @@ fn keep_port<F: Files, J: Journals, I: Journal, D: WideDoor, K: Keys, W: Sink, L
     requires bytes { room.old.group.bytes ≡ [] }
     requires queue { room.old.queue.links.items ≡ [] }
     ensures serves { (ruled : Ruled) (m : model.World) → IsRuled server.old.world.service server.old.formats ruled → StandsFor server.old.world m
-        → IsFitWorld ruled m → Keeps ruled m place.entry.port place.entry.most room.old.group.sum
+        → IsFitWorld ruled m → Keeps ruled m place.port place.most room.old.group.sum
         (record (seen_of F.Files J.Journals D.Door K.Keys W.Channel lent.old) { deeds = I.deeds journal.old })
         (record (seen_of F.Files J.Journals D.Door K.Keys W.Channel lent.new) { deeds = I.deeds journal.new }) result }
     ensures others { (result ≢ Status.Usage) × (result ≢ Status.ReadFault) }

@@ -1,46 +1,57 @@
-//! Links that are served beside a journal, over the world that it brings about.
+//! Links that are served and requests that are answered beside a journal, over the world that it brings about.
 ghost use Rattle.std.specs.Prelude.{◌≡◌, ◌≢◌, ◌^◌, ◌<◌, [], length, None, Some, IfOk, IfErr, IfSome, IsErrOf};
 ghost use Rattle.bw_model.specs.Sessions as model;
 ghost use Rattle.bw_out.specs.Causes.{Shows};
 ghost use Rattle.bw_sound.specs.Worlds.{BeginsSound};
 ghost use Rattle.bw_world.specs.Stands.{StandsFor};
-ghost use Rattle.bigwig.specs.Asked.{Ruled, work};
-ghost use Rattle.bigwig.specs.Behind.{content_of};
-ghost use Rattle.bigwig.specs.Checks.{IsRuled};
-ghost use Rattle.bigwig.specs.Commands.{AreWorkers};
-ghost use Rattle.bigwig.specs.Finding.{IsFoundIn, IsRefusedBy, IsToldBy, recalled_of};
+ghost use Rattle.bw_questions.specs.Asked.{Ruled, Task as Task_};
+ghost use Rattle.bigwig.specs.Asked.{work};
+ghost use Rattle.bw_questions.specs.Behind.{content_of};
+ghost use Rattle.bw_questions.specs.Checks.{IsRuled};
+ghost use Rattle.bw_command.specs.Commands.{AreWorkers};
+ghost use Rattle.bigwig.specs.Finding.{IsFoundIn, IsFresh, IsRefusedBy, IsTask, IsToldBy, recalled_of};
 ghost use Rattle.bigwig.specs.Keeping.{IsKept};
 ghost use Rattle.bigwig.specs.Lent.{AreSame, HasCauses, ShowsJournal, faults_of, seen_of};
 ghost use Rattle.bigwig.specs.Outcomes.{Comes};
-ghost use Rattle.bigwig.specs.declared.command.Command.TheVariants as commands;
+ghost use Rattle.bw_command.specs.declared.command.Command.TheVariants as commands;
 
-use crate::beginning::{keep_begun, opening_for, tell_fault};
-use crate::checking::{Kept, load_kept};
-use crate::command::Named;
-use crate::lent::{Lent, Tools};
-use crate::lines::journal_line;
-use crate::loading::refused;
-use crate::report::report;
+use crate::beginning::{opening_for, serve_beside, tell_fault};
+use crate::journal_lines::journal_line;
+use crate::lent::Lent;
+use crate::resuming::resume_beside;
 use crate::server::Server;
-use crate::status::{Refusal, Status};
-use crate::stop::Stop;
-use bw_keeping::{Recalled, Room, WideDoor, recall};
+use bw_command::Named;
+use bw_keeping::{Recalled, WideDoor, recall};
 use bw_lang::{Memory, Text};
 use bw_out::{Failed, Files, Keys, Pulse, Sink, Steps};
+use bw_questions::{Kept, Refusal, Status, Stop, Tools, load_kept, refused, report};
 use bw_stable::{Journal, Journals};
 use std::alloc::Global;
 use std::sync::ledger::Ledger;
 use std::thread::Threads;
 
-/// What is served beside a journal, and where.
+/// Where links are served, and how many.
 #[derive(Clone, Copy)]
-pub struct Place<'a> {
-    /// The name of the journal.
-    pub journal: &'a Text,
+pub struct Place {
     /// The port.
     pub port: u16,
     /// The greatest number of links that are served.
     pub most: u32,
+}
+
+/// The requests of a file that was fetched. It has no `Drop`, so it has to be closed.
+pub struct Stream<S> {
+    pub file: S,
+    /// The greatest number of requests that are answered.
+    pub most: u32,
+}
+
+/// What is done beside a journal.
+pub enum Task<S> {
+    /// Links are served.
+    Links(Place),
+    /// Requests of a file are answered.
+    Stream(Stream<S>),
 }
 
 /// What is found in a journal that is one.
@@ -66,33 +77,43 @@ pub fn keep_command<
 >(
     tools: &Tools<R, P>,
     named: Named<'_, '_, '_>,
-    place: Place<'_>,
+    journal: &Text,
+    place: Place,
     lent: &mut Lent<F, J, D, K, W, Steps<L>>,
 ) -> Status
     requires { AreWorkers named.judging.now.workers }
     ensures comes { IfSome (F.told lent.old.files.now) (λ disk. Comes (work disk (commands.Keep named.entry.service.now named.entry.judging.now
-        named.entry.formats.now place.entry.journal.now place.entry.port place.entry.most))
+        named.entry.formats.now journal.now place.port place.most))
         (seen_of F.Files J.Journals D.Door K.Keys W.Channel lent.old) (seen_of F.Files J.Journals D.Door K.Keys W.Channel lent.new) result) }
     ensures not_usage { result ≢ Status.Usage }
     ensures causes { HasCauses result (faults_of F.Files J.Journals D.Door W.Channel lent.old) (faults_of F.Files J.Journals D.Door W.Channel lent.new) }
     ensures same { AreSame lent.old lent.new }
 {
     match load_kept(tools, lent.files, named) {
-        Ok(kept) => keep_service(tools.alloc, kept, place, lent),
+        Ok(kept) => keep_service(
+            tools.alloc,
+            kept,
+            journal.as_str(),
+            Task::Links(place),
+            lent,
+        ),
         Err(stop) => report(lent.out, stop),
     }
 }
 
-/// The same of a service that is accepted.
-fn keep_service<F: Files, J: Journals, D: WideDoor, K: Keys, W: Sink, L: Ledger>(
+/// Does a task over a service that is accepted, beside a journal.
+pub fn keep_service<F: Files, J: Journals, D: WideDoor, K: Keys, W: Sink, L: Ledger>(
     alloc: Global,
     kept: Kept,
-    place: Place<'_>,
+    name: &str,
+    task: Task<F::File>,
     lent: &mut Lent<F, J, D, K, W, Steps<L>>,
 ) -> Status
     requires text { length kept.text.items < 2 ^ 32 }
-    ensures keeps { IfSome (F.told lent.old.files.now) (λ disk. (ruled : Ruled) → IsRuled kept.served.checked.typed.service kept.served.formats ruled
-        → IsKept ruled kept.text.items (content_of (disk place.entry.journal.now)) place.entry.port place.entry.most
+    requires fresh { IsFresh F.File.read_faults task }
+    ensures keeps { IfSome (F.told lent.old.files.now) (λ disk. (ruled : Ruled) (x : Task_)
+        → IsRuled kept.served.checked.typed.service kept.served.formats ruled → IsTask F.File.left task x
+        → IsKept ruled kept.text.items (content_of (disk name.now)) x
         (seen_of F.Files J.Journals D.Door K.Keys W.Channel lent.old) (seen_of F.Files J.Journals D.Door K.Keys W.Channel lent.new) result) }
     ensures not_usage { result ≢ Status.Usage }
     ensures causes { HasCauses result (faults_of F.Files J.Journals D.Door W.Channel lent.old) (faults_of F.Files J.Journals D.Door W.Channel lent.new) }
@@ -101,12 +122,13 @@ fn keep_service<F: Files, J: Journals, D: WideDoor, K: Keys, W: Sink, L: Ledger>
     let Kept { served, text } = kept;
     match Server::new(alloc, served) {
         Ok(mut server) => {
-            let status = keep_opened(&mut server, &text, place, lent);
+            let status = keep_opened(&mut server, &text, name, task, lent);
             drop(server);
             drop(text);
             status
         }
         Err(Memory) => {
+            close_task(task, lent.files);
             drop(text);
             Status::Memory
         }
@@ -117,45 +139,52 @@ fn keep_service<F: Files, J: Journals, D: WideDoor, K: Keys, W: Sink, L: Ledger>
 fn keep_opened<F: Files, J: Journals, D: WideDoor, K: Keys, W: Sink, L: Ledger>(
     server: &mut Server,
     text: &[u8],
-    place: Place<'_>,
+    name: &str,
+    task: Task<F::File>,
     lent: &mut Lent<F, J, D, K, W, Steps<L>>,
 ) -> Status
     requires stands { StandsFor server.old.world (model.empty server.old.world.service) }
     requires sound { BeginsSound server.old.world.service }
     requires text { length text.now < 2 ^ 32 }
-    ensures keeps { IfSome (F.told lent.old.files.now) (λ disk. (ruled : Ruled) → IsRuled server.old.world.service server.old.formats ruled
-        → IsKept ruled text.now (content_of (disk place.entry.journal.now)) place.entry.port place.entry.most
+    requires fresh { IsFresh F.File.read_faults task }
+    ensures keeps { IfSome (F.told lent.old.files.now) (λ disk. (ruled : Ruled) (x : Task_) → IsRuled server.old.world.service server.old.formats ruled
+        → IsTask F.File.left task x → IsKept ruled text.now (content_of (disk name.now)) x
         (seen_of F.Files J.Journals D.Door K.Keys W.Channel lent.old) (seen_of F.Files J.Journals D.Door K.Keys W.Channel lent.new) result) }
     ensures not_usage { result ≢ Status.Usage }
     ensures causes { HasCauses result (faults_of F.Files J.Journals D.Door W.Channel lent.old) (faults_of F.Files J.Journals D.Door W.Channel lent.new) }
     ensures same { AreSame lent.old lent.new }
 {
-    match lent.journals.open_journal(place.journal.as_str()) {
-        Err(Failed) => tell_fault(lent.out),
+    match lent.journals.open_journal(name) {
+        Err(Failed) => {
+            close_task(task, lent.files);
+            tell_fault(lent.out)
+        }
         Ok(mut journal) => {
-            let status = keep_beside(server, text, place, &mut journal, lent);
+            let status = keep_beside(server, text, name, task, &mut journal, lent);
             lent.journals.close_journal(journal);
             status
         }
     }
 }
 
-/// The same beside a journal that is open. What the journal holds is read first, and the memory for serving is taken before
+/// The same beside a journal that is open. What the journal holds is read first, and the memory for the task is taken before
 /// anything is done to it.
 fn keep_beside<F: Files, J: Journals, I: Journal, D: WideDoor, K: Keys, W: Sink, L: Ledger>(
     server: &mut Server,
     text: &[u8],
-    place: Place<'_>,
+    name: &str,
+    task: Task<F::File>,
     journal: &mut I,
     lent: &mut Lent<F, J, D, K, W, Steps<L>>,
 ) -> Status
     requires stands { StandsFor server.old.world (model.empty server.old.world.service) }
     requires sound { BeginsSound server.old.world.service }
     requires text { length text.now < 2 ^ 32 }
+    requires fresh { IsFresh F.File.read_faults task }
     requires journal { I.is_sound journal.old }
-    requires fresh { IfSome (I.deeds journal.old) (λ deeds. deeds ≡ []) }
-    ensures keeps { IfSome (F.told lent.old.files.now) (λ disk. (ruled : Ruled) → IsRuled server.old.world.service server.old.formats ruled
-        → IsKept ruled text.now (content_of (disk place.entry.journal.now)) place.entry.port place.entry.most
+    requires none { IfSome (I.deeds journal.old) (λ deeds. deeds ≡ []) }
+    ensures keeps { IfSome (F.told lent.old.files.now) (λ disk. (ruled : Ruled) (x : Task_) → IsRuled server.old.world.service server.old.formats ruled
+        → IsTask F.File.left task x → IsKept ruled text.now (content_of (disk name.now)) x
         (record (seen_of F.Files J.Journals D.Door K.Keys W.Channel lent.old) { deeds = I.deeds journal.old })
         (record (seen_of F.Files J.Journals D.Door K.Keys W.Channel lent.new) { deeds = I.deeds journal.new }) result) }
     ensures not_usage { result ≢ Status.Usage }
@@ -166,21 +195,43 @@ fn keep_beside<F: Files, J: Journals, I: Journal, D: WideDoor, K: Keys, W: Sink,
     ensures journals { lent.new.journals.now ≡ lent.old.journals.now }
     ensures same { AreSame lent.old lent.new }
 {
-    let found = match read_journal(server, text, place.journal.as_str(), lent.files, lent.steps) {
+    let found = match read_journal(server, text, name, lent.files, lent.steps) {
         Ok(found) => found,
-        Err(stop) => return report(lent.out, stop),
+        Err(stop) => {
+            close_task(task, lent.files);
+            return report(lent.out, stop);
+        }
     };
     let Ok(opening) = opening_for(server.alloc, text, found) else {
+        close_task(task, lent.files);
         return Status::Memory;
     };
-    let Ok(mut room) = Room::new(server.alloc, opening.sum) else {
-        drop(opening);
-        return Status::Memory;
-    };
-    let status = keep_begun(server, &mut room, &opening, place, journal, lent);
-    room.close();
-    drop(opening);
-    status
+    match task {
+        Task::Links(place) => serve_beside(server, opening, place, journal, lent),
+        Task::Stream(stream) => resume_beside(server, opening, stream, journal, lent),
+    }
+}
+
+/// Closes the file of a task that isn't done.
+fn close_task<F: Files>(task: Task<F::File>, files: &mut F)
+    requires { IsFresh F.File.read_faults task }
+    ensures told { F.told files.new ≡ F.told files.old }
+    ensures quiet { F.faults files.new ≡ F.faults files.old }
+{
+    match task {
+        Task::Links(_) => {}
+        Task::Stream(stream) => close_stream(stream, files),
+    }
+}
+
+/// Closes a file of which no request was read.
+pub fn close_stream<F: Files>(stream: Stream<F::File>, files: &mut F)
+    requires { F.File.read_faults stream.file ≡ 0 }
+    ensures told { F.told files.new ≡ F.told files.old }
+    ensures quiet { F.faults files.new ≡ F.faults files.old }
+{
+    let Stream { file, most: _ } = stream;
+    files.close(file);
 }
 
 /// Brings back the world of a journal. Where there is no file, nothing was kept yet. The file is closed again.

@@ -2,31 +2,18 @@
 #![tactic(auto)]
 
 mod beginning;
-mod checking;
-mod command;
-mod fault_lines;
-mod formats;
-mod judging;
+mod journal_lines;
 mod keeping;
 mod laws;
 mod lent;
-mod lighting;
-mod lines;
-mod loading;
 mod making;
-mod numbers;
+mod obeying;
 mod program;
-mod reading;
 mod replaying;
-mod report;
-mod schemas;
+mod resuming;
 mod server;
 mod serving;
-mod sight;
-mod status;
-mod stop;
-mod words;
 
+pub use bw_questions::Status;
 pub use laws::{built_in_is_read, one_outcome};
 pub use program::run;
-pub use status::Status;

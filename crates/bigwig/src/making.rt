@@ -3,24 +3,21 @@ ghost use Rattle.std.specs.Prelude.{◌≡◌, ◌≢◌, ◌≤◌, ◌<◌, �
 ghost use Rattle.bw_model.specs.Sessions.{empty};
 ghost use Rattle.bw_out.specs.Causes.{Shows};
 ghost use Rattle.bw_world.specs.Stands.{StandsFor};
-ghost use Rattle.bigwig.specs.Asked.{made_work};
-ghost use Rattle.bigwig.specs.Asked.Work.{prints};
-ghost use Rattle.bigwig.specs.Commands.{AreWorkers};
-ghost use Rattle.bigwig.specs.Making as spec;
+ghost use Rattle.bw_questions.specs.Asked.{made_work};
+ghost use Rattle.bw_questions.specs.Asked.Work.{prints};
+ghost use Rattle.bw_command.specs.Commands.{AreWorkers};
+ghost use Rattle.bw_questions.specs.Making as spec;
+ghost use Rattle.bigwig.specs.Sending.{IsSent};
 ghost use Rattle.bigwig.specs.Outcomes.{Speaks};
-ghost use Rattle.bigwig.specs.Questions.{IsAnswer, line};
+ghost use Rattle.bw_questions.specs.Questions.{IsAnswer, line};
 ghost use Rattle.bw_make.specs.declared.TheConstants.{MAX_PAGES};
 
-use crate::checking::{Served, made_checked};
-use crate::lent::Tools;
-use crate::report::{print_text, report};
-use crate::status::Status;
-use crate::stop::Stop;
 use bw_check::Checked;
 use bw_http::{Method, Path, Reply, Request};
 use bw_lang::{Memory, Name, Submission, Text};
 use bw_make::make;
 use bw_out::{Pulse, Sink, Steps};
+use bw_questions::{Served, Status, Stop, Tools, made_checked, print_text, report};
 use bw_world::World;
 use itoa::Buffer;
 use std::alloc::Global;
@@ -124,7 +121,7 @@ fn send_one<L: Ledger>(
     request: &Request,
     steps: &mut Steps<L>,
 ) -> Result<u64, Memory>
-    ensures sent { IfOk result (spec.IsSent world.old world.new request.now) }
+    ensures sent { IfOk result (IsSent world.old world.new request.now) }
     ensures service { world.new.service ≡ world.old.service }
 {
     match world.handle(alloc, request, 0, steps) {

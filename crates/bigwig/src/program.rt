@@ -1,31 +1,21 @@
 //! All that the program does.
-ghost use Rattle.std.specs.Prelude.{◌≡◌, ◌≢◌, ◌⊎◌, None, IfSome};
+ghost use Rattle.std.specs.Prelude.{◌≡◌, ◌⊎◌, None, IfSome};
 ghost use Rattle.bw_out.specs.Causes.{Shows};
 ghost use Rattle.bw_out.specs.Told.{AreWords};
-ghost use Rattle.bigwig.specs.Asked.{asked, work};
-ghost use Rattle.bigwig.specs.Commands.{command_of, AreWorkers, IsInRange};
+ghost use Rattle.bigwig.specs.Asked.{asked};
+ghost use Rattle.bw_command.specs.Commands.{command_of};
 ghost use Rattle.bigwig.specs.Headline.{Headline};
 ghost use Rattle.bigwig.specs.Lent.{AreSame, HasCauses, ShowsJournal, faults_of, seen_of};
-ghost use Rattle.bigwig.specs.Outcomes.{Comes, Speaks};
+ghost use Rattle.bigwig.specs.Outcomes.{Comes};
 ghost use Rattle.bigwig.specs.Works.{outside};
-ghost use Rattle.bigwig.specs.declared.command.Command.TheVariants as commands;
 
-use crate::checking::load_accepted;
-use crate::command::{Command, Judging, Named};
-use crate::judging::load_valid;
-use crate::keeping::{Place, keep_command};
-use crate::lent::{Lent, Tools};
-use crate::lighting::load_lights;
-use crate::making::make_command;
-use crate::reading::read_words;
-use crate::replaying::replay_command;
-use crate::report::{print_line, print_text, report};
-use crate::serving::serve_command;
-use crate::status::Status;
-use crate::words::WordsFault;
+use crate::lent::Lent;
+use crate::obeying::obey;
+use bw_command::{WordsFault, read_words};
 use bw_keeping::WideDoor;
-use bw_lang::{Text, Words};
+use bw_lang::Words;
 use bw_out::{Files, Keys, Pulse, Sink, Steps};
+use bw_questions::{Status, Tools, print_line};
 use bw_stable::Journals;
 use std::alloc::Global;
 use std::sync::ledger::Ledger;
@@ -49,12 +39,12 @@ const USAGE: &[u8] =
 /// turn, after a fault too, and holds what the run answers. `light` prints the lights of the lines of its texts.
 ///
 /// With a journal, of `journals`, it is over the world that the requests bring about which the journal holds, and each link is
-/// given back, and a byte is written on it, only behind what is kept of its request. A journal that is damaged, of another version
-/// or of another service is refused (`JournalRefused`), and nothing is done to it.
+/// given back, and a byte is written on it, only behind what is kept of its request; so is each reply of `replay` printed. A journal
+/// that is damaged, of another version or of another service is refused (`JournalRefused`), and nothing is done to it.
 ///
 /// `Usage` comes only where the words are refused, and `ReadFault`, `WriteFault` and `DoorFault` exactly where the count
 /// of `files`, `out` or `door` rose in this call; a fault on a link is none of these and ends that link alone. `JournalFault`
-/// comes only where the count of `journals` rose, and then nothing more is written on a link. After a
+/// comes only where the count of `journals` rose, and then no further reply is written or printed. After a
 /// `ReadFault` or a `WriteFault` of `replay` each request before the fault was answered whole. `Memory` comes, with
 /// nothing printed and no link taken, only before the first request.
 pub fn run<
@@ -128,147 +118,5 @@ fn obey_words<
         Ok(command) => obey(tools, &command, lent),
         Err(WordsFault::Refused) => print_line(lent.out, Status::Usage, USAGE),
         Err(WordsFault::Memory) => Status::Memory,
-    }
-}
-
-/// Does what a command asks for.
-fn obey<
-    R: Threads + Sync,
-    F: Files,
-    J: Journals,
-    D: WideDoor,
-    K: Keys,
-    W: Sink,
-    P: Pulse,
-    L: Ledger,
->(tools: &Tools<R, P>, command: &Command, lent: &mut Lent<F, J, D, K, W, Steps<L>>) -> Status
-    requires { IsInRange command.now }
-    ensures comes { IfSome (F.told lent.old.files.now) (λ disk. Comes (work disk command.now)
-        (seen_of F.Files J.Journals D.Door K.Keys W.Channel lent.old) (seen_of F.Files J.Journals D.Door K.Keys W.Channel lent.new) result) }
-    ensures not_usage { result ≢ Status.Usage }
-    ensures causes { HasCauses result (faults_of F.Files J.Journals D.Door W.Channel lent.old) (faults_of F.Files J.Journals D.Door W.Channel lent.new) }
-    ensures same { AreSame lent.old lent.new }
-{
-    match command {
-        Command::Check { service, judging } => {
-            check_command(tools, service, judging, lent.files, lent.out)
-        }
-        Command::Replay {
-            service,
-            requests,
-            judging,
-            formats,
-            most,
-        } => {
-            let named = Named {
-                service,
-                judging,
-                formats,
-            };
-            replay_command(tools, named, requests, *most, lent)
-        }
-        Command::Serve {
-            service,
-            judging,
-            formats,
-            port,
-            most,
-        } => {
-            let named = Named {
-                service,
-                judging,
-                formats,
-            };
-            serve_command(tools, named, *port, *most, lent)
-        }
-        Command::Keep {
-            service,
-            judging,
-            formats,
-            journal,
-            port,
-            most,
-        } => {
-            let named = Named {
-                service,
-                judging,
-                formats,
-            };
-            let place = Place {
-                journal,
-                port: *port,
-                most: *most,
-            };
-            keep_command(tools, named, place, lent)
-        }
-        Command::Valid { page, schema } => {
-            valid_command(tools.alloc, page, schema, lent.files, lent.out)
-        }
-        Command::Make { count, workers } => make_command(tools, *count, *workers, lent.out),
-        Command::Light { formats, texts } => {
-            light_command(tools.alloc, formats, texts, lent.files, lent.out)
-        }
-    }
-}
-
-/// `check`: says whether a service is accepted.
-fn check_command<R: Threads + Sync, F: Files, W: Sink, P: Pulse>(
-    tools: &Tools<R, P>,
-    service: &Text,
-    judging: &Judging,
-    files: &mut F,
-    out: &mut W,
-) -> Status
-    requires { AreWorkers judging.now.workers }
-    ensures comes { IfSome (F.told files.old) (λ disk. Speaks (work disk (commands.Check service.now judging.now))
-        (W.held out.old) (W.held out.new) result) }
-    ensures others { (result ≢ Status.Usage) × (result ≢ Status.DoorFault) }
-    ensures no_journal { result ≢ Status.JournalFault }
-    ensures read_fault { Shows (result ≡ Status.ReadFault) (F.faults files.old) (F.faults files.new) }
-    ensures write_fault { Shows (result ≡ Status.WriteFault) (W.write_faults out.old) (W.write_faults out.new) }
-{
-    match load_accepted(tools, files, service, judging) {
-        Ok(()) => print_line(out, Status::Done, b"accepted"),
-        Err(stop) => report(out, stop),
-    }
-}
-
-/// `valid`: says whether a page is valid.
-fn valid_command<F: Files, W: Sink>(
-    alloc: Global,
-    page: &Text,
-    schema: &Option<Text>,
-    files: &mut F,
-    out: &mut W,
-) -> Status
-    ensures comes { IfSome (F.told files.old) (λ disk. Speaks (work disk (commands.Valid page.now schema.now)) (W.held out.old) (W.held out.new) result) }
-    ensures others { (result ≢ Status.Usage) × (result ≢ Status.DoorFault) }
-    ensures no_journal { result ≢ Status.JournalFault }
-    ensures read_fault { Shows (result ≡ Status.ReadFault) (F.faults files.old) (F.faults files.new) }
-    ensures write_fault { Shows (result ≡ Status.WriteFault) (W.write_faults out.old) (W.write_faults out.new) }
-{
-    match load_valid(alloc, files, page.as_str(), schema) {
-        Ok(()) => print_line(out, Status::Done, b"valid"),
-        Err(stop) => report(out, stop),
-    }
-}
-
-/// `light`: prints the lights of texts.
-fn light_command<F: Files, W: Sink>(
-    alloc: Global,
-    formats: &Text,
-    texts: &Text,
-    files: &mut F,
-    out: &mut W,
-) -> Status
-    ensures comes { IfSome (F.told files.old) (λ disk. Speaks (work disk (commands.Light formats.now texts.now)) (W.held out.old) (W.held out.new) result) }
-    ensures others { (result ≢ Status.Usage) × (result ≢ Status.DoorFault) }
-    ensures no_journal { result ≢ Status.JournalFault }
-    ensures read_fault { Shows (result ≡ Status.ReadFault) (F.faults files.old) (F.faults files.new) }
-    ensures write_fault { Shows (result ≡ Status.WriteFault) (W.write_faults out.old) (W.write_faults out.new) }
-{
-    match load_lights(alloc, files, formats.as_str(), texts.as_str()) {
-        Ok(printed) => print_text(out, Status::Done, printed.as_bytes()),
-        Err(stop) => report(out, stop),
     }
 }

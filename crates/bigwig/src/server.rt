@@ -4,10 +4,10 @@ ghost use Rattle.bw_model.specs.Sessions.{empty};
 ghost use Rattle.bw_sound.specs.Worlds.{BeginsSound};
 ghost use Rattle.bw_world.specs.Stands.{StandsFor};
 
-use crate::checking::Served;
 use bw_format::Formats;
 use bw_http::Intake;
 use bw_lang::Memory;
+use bw_questions::Served;
 use bw_world::World;
 use std::alloc::Global;
 

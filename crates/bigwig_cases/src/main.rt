@@ -33,7 +33,7 @@ enum Subject {
     Sessions,
     /// Runs of the whole program that serve links.
     Serves,
-    /// Runs of the whole program that serve links beside a journal.
+    /// Runs of the whole program that serve links, or answer requests, beside a journal.
     Journals,
     /// Journals that are cut at each byte of their ends.
     Torn,

@@ -10,12 +10,13 @@ bigwig replay SERVICE REQUESTS   checks the service, and answers the requests of
   --schema FILE, --workers N     as check has them, and --show-source
   --formats FILE                 takes values in the formats of this file alone; else any values
   --limit N                      answers N requests at most, from 1 to 1000000; else 1000000
+  --journal FILE                 keeps all that changes the service in this file, and goes on from it
 bigwig serve SERVICE             checks the service, and serves it to browsers on this machine
   --schema FILE, --workers N     as check has them, and --show-source
   --formats FILE                 as replay has it
   --port N                       at this port, from 1 to 65535; else at 8080
   --limit N                      for N connections at most, from 1 to 1000000; else for 1000000
-  --journal FILE                 keeps all that changes the service in this file, and goes on from it
+  --journal FILE                 as replay has it
 bigwig valid PAGE                says 'valid', or which element of the page breaks which rule
   --schema FILE                  as check has it
 bigwig make N                    makes a service of N pages, from 1 to 250, checks it and runs it

@@ -2,8 +2,10 @@
 use Rattle.std.proofs.Common.{◌≡◌, ◌<◌, ◌≤◌, ℕ, zero, suc, ◌+◌, List, [], ◌∷◌, length, get_or, Option, Some, refl, ap, sym, subst, arith}
 use Rattle.bw_lang.specs.declared.declaration.Draft.{Draft}
 use Rattle.bw_places.specs.Counts.{draft_tokens, drafts_tokens}
+use Rattle.bw_places.specs.Drafted.{draft_of, drafts_of}
 use Rattle.bw_places.specs.Seeking.{declared_at, run}
 use Rattle.bw_places.specs.declared.span.Span.{Span}
+use Rattle.bw_places.specs.declared.spelled.Spelled.{Spelled}
 
 the_same : (a b : Span) → Some a ≡ Some b → a ≡ b
 the_same a b e = cc
@@ -15,7 +17,9 @@ declared_early (d ∷ ds) zero at own e =
 declared_early (d ∷ ds) (suc n) at own e = omega (arith, declared_early ds n (at + draft_tokens d) own e)
 
 -- a declaration has no more tokens than all of them
-pub draft_is_few : (ds : List Draft) (n : ℕ) (d : Draft) → d ≡ get_or ds n d → n < length ds → draft_tokens d ≤ drafts_tokens ds
-draft_is_few [] n d e h = absurd (omega arith)
-draft_is_few (x ∷ ds) zero d e h = let f : draft_tokens d ≡ draft_tokens x = ap draft_tokens e in omega (arith, f)
-draft_is_few (x ∷ ds) (suc n) d e h = omega (arith, draft_is_few ds n d e (omega arith))
+pub declaration_is_few : (xs : List Spelled) (n : ℕ) (x : Spelled) → x ≡ get_or xs n x → n < length xs
+    → draft_tokens (draft_of x) ≤ drafts_tokens (drafts_of xs)
+declaration_is_few [] n x e h = absurd (omega arith)
+declaration_is_few (y ∷ xs) zero x e h =
+    let f : draft_tokens (draft_of x) ≡ draft_tokens (draft_of y) = ap (λ (z : Spelled). draft_tokens (draft_of z)) e in omega (arith, f)
+declaration_is_few (y ∷ xs) (suc n) x e h = omega (arith, declaration_is_few xs n x e (omega arith))

@@ -8,3 +8,7 @@ pub mod GoesOn
 pub mod FoundGaps
 pub mod Walked
 pub mod Taken
+pub mod Aimed
+pub mod Pushed
+pub mod Spellings
+pub mod Marked

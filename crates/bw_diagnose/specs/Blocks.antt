@@ -9,9 +9,13 @@ use Rattle.bw_hints.specs.Hints as hints
 use Rattle.bw_lang.specs.declared.declaration.Draft.{Draft}
 use Rattle.bw_syntax.specs.declared.fault.SyntaxFault.{SyntaxFault}
 use Rattle.bw_types.specs.declared.fault.TypeFault.{TypeFault}
+use Rattle.bw_diagnose.specs.Aims.{meant_among}
+use Rattle.bw_diagnose.specs.Marks.{marked_place, marked_element}
 use Rattle.bw_diagnose.specs.Meant.{meant, role_of}
 use Rattle.bw_diagnose.specs.Places.{blamed_place, fault_place, fault_element, name_place}
 use Rattle.bw_diagnose.specs.Templates.{syntax_shown}
+use Rattle.bw_diagnose.specs.declared.aim.Aim.{Aim}
+use Rattle.bw_diagnose.specs.declared.marks.Marks.{Marks}
 
 -- the digits of the number of a place's line
 abbrev pub line_digits : List ℕ → Place → ℕ
@@ -51,6 +55,12 @@ type_block name text ds blamed fault =
     block name text (blamed_place text ds blamed) None (hints.type_what fault) (hints.type_mend fault (role_of text ds blamed))
     ++ meant_note (widest text (blamed_place text ds blamed) None) (meant text ds blamed fault)
 
+-- the same, where this is known of its first test that fails
+abbrev pub aimed_block : List ℕ → List ℕ → Aim → TypeFault → List ℕ
+aimed_block name text aim fault =
+    block name text aim.place None (hints.type_what fault) (hints.type_mend fault aim.role)
+    ++ meant_note (widest text aim.place None) (meant_among aim.names.items fault)
+
 -- the elements of the wrappers of pages, by their numbers
 abbrev pub wrapper_tag : ℕ → List ℕ
 wrapper_tag element =
@@ -67,6 +77,12 @@ abbrev pub fault_block : List ℕ → List ℕ → List Draft → Fault → List
 fault_block name text ds f =
     block name text (fault_place text ds f) (fault_element text ds f f.template)
     (hints.fault_what f.number f.detail (tag_name text f.place (fault_element text ds f f.template))) (hints.fault_mend f.number)
+
+-- the same, where its statements and templates stand there
+abbrev pub marked_block : List ℕ → List ℕ → Marks → Fault → List ℕ
+marked_block name text marks f =
+    block name text (marked_place text marks.statements.items f) (marked_element text marks.insides.items f f.template)
+    (hints.fault_what f.number f.detail (tag_name text f.place (marked_element text marks.insides.items f f.template))) (hints.fault_mend f.number)
 
 -- of the limits of the check
 abbrev pub points_block : List ℕ → List ℕ → List ℕ

@@ -1,11 +1,14 @@
+pub mod Aims
 pub mod Attributes
 pub mod Blocks
 pub mod Finding
 pub mod Gaps
 pub mod Known
+pub mod Marks
 pub mod Markup
 pub mod Meant
 pub mod Pairing
 pub mod Places
+pub mod Spelling
 pub mod Templates
 pub mod Walks

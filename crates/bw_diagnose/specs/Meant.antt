@@ -18,8 +18,8 @@ use Rattle.bw_diagnose.specs.Finding.{sign_at}
 use Rattle.bw_diagnose.specs.Gaps.{gaps_in}
 use Rattle.bw_diagnose.specs.Known.{lexemes_in}
 use Rattle.bw_diagnose.specs.declared.gaps.Part.TheVariants as parts
-use Rattle.bw_diagnose.specs.declared.meant.Sort.{Sort}
-use Rattle.bw_diagnose.specs.declared.meant.Sort.TheVariants as sorts
+use Rattle.bw_diagnose.specs.declared.names.Sort.{Sort}
+use Rattle.bw_diagnose.specs.declared.names.Sort.TheVariants as sorts
 
 -- the names that a declaration brings in: a template's, a shared variable's, or those of the gaps in a template
 abbrev pub own_names : Sort → Draft → List (List ℕ)

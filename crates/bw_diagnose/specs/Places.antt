@@ -15,11 +15,9 @@ use Rattle.bw_lang.specs.declared.token.Lexeme.TheVariants as lex
 use Rattle.bw_lang.specs.declared.token.Token.{Token}
 use Rattle.bw_lex.specs.declared.LexFault.{LexFault}
 use Rattle.bw_lex.specs.declared.LexFault.TheVariants as lexing
-use Rattle.bw_places.specs.Seeking.{seek_all, declared_at}
+use Rattle.bw_places.specs.Seeking.{Sought, Found, Behind, seek_all, declared_at}
 use Rattle.bw_places.specs.Tags.{tag_place}
 use Rattle.bw_places.specs.declared.span.Span.{Span}
-use Rattle.bw_places.specs.declared.span.Sought.{Sought}
-use Rattle.bw_places.specs.declared.span.Sought.TheVariants.{Found, Behind}
 use Rattle.bw_syntax.specs.declared.fault.SyntaxFault.{SyntaxFault}
 use Rattle.bw_syntax.specs.declared.fault.SyntaxFault.TheVariants as reading
 use Rattle.bw_diagnose.specs.Finding.{first_in, field_in, gap_in}

@@ -4,11 +4,12 @@ ghost use Rattle.bw_diagnose.specs.Blocks as spec;
 ghost use Rattle.bw_diagnose.specs.Known.{IsLent};
 ghost use Rattle.bw_hints.specs.Hints as hints;
 
-use crate::known::Known;
-use crate::meant::{meant, role_of};
-use crate::places::{blamed_place, fault_element, fault_place, name_place};
+use crate::aim::Aim;
+use crate::known::Tokened;
+use crate::marks::Marks;
+use crate::meant::meant;
+use crate::places::{fault_element, fault_place, name_place};
 use crate::templates::syntax_shown;
-use bw_blame::Blamed;
 use bw_excerpt::{Paper, Place, digits, push_excerpt, push_note, readable, spot_of, start_in};
 use bw_faults::Fault;
 use bw_hints::{
@@ -127,37 +128,25 @@ fn push_meant(
     }
 }
 
-/// The block of a service that isn't well typed, behind what is there; its first test that fails is about this. Where a
+/// The block of a service that isn't well typed, behind what is there; this is known of its first test that fails. Where a
 /// name is unknown, one that is near may be meant.
 pub fn push_type_block(
     out: &mut Vec<u8>,
     alloc: Global,
-    name: &[u8],
-    known: &Known<'_>,
-    blamed: Option<Blamed>,
+    paper: Paper<'_>,
+    aim: &Aim,
     fault: &TypeFault,
 ) -> Result<(), Memory>
-    ensures { OnOk result (out.new.items ≡ out.old.items
-        ++ spec.type_block name.now known.now.told.text.now known.now.drafts.items blamed fault.now) }
+    ensures { OnOk result (out.new.items ≡ out.old.items ++ spec.aimed_block paper.entry.name.now paper.entry.text.now aim.now fault.now) }
 {
     let mut what = Vec::new(alloc);
     push_type_what(&mut what, fault)?;
-    let name_meant = meant(alloc, known, blamed, fault)?;
-    let paper = Paper {
-        name,
-        text: known.told.text,
-    };
+    let name_meant = meant(alloc, &aim.names, fault)?;
     let places = Places {
-        first: blamed_place(known, blamed),
+        first: aim.place,
         second: None,
     };
-    push_block(
-        out,
-        paper,
-        places,
-        &what,
-        type_mend(fault, role_of(known, blamed)),
-    )?;
+    push_block(out, paper, places, &what, type_mend(fault, aim.role))?;
     push_meant(out, alloc, widest(paper.text, places), &name_meant)
 }
 
@@ -208,68 +197,68 @@ fn behind_bracket<'a>(text: &'a [u8], place: Place) -> &'a [u8]
 /// What is wrong where a service has this fault, which is about the element of this start tag.
 fn fault_words(
     alloc: Global,
-    known: &Known<'_>,
+    told: &Tokened<'_>,
     fault: &Fault,
     element: Option<Place>,
 ) -> Result<Vec<u8>, Memory>
     ensures { IfOk result (λ words. words.items ≡ hints.fault_what fault.now.number fault.now.detail
-        (spec.tag_name known.now.told.text.now fault.now.place element)) }
+        (spec.tag_name told.now.text.now fault.now.place element)) }
 {
-    let tag = tag_name(known.told.text, fault.place, element);
+    let tag = tag_name(told.text, fault.place, element);
     let mut words = Vec::new(alloc);
     push_fault_what(&mut words, fault.number, fault.detail.as_bytes(), tag)?;
     Ok(words)
 }
 
-/// The block of a fault of a service, behind what is there.
+/// The block of a fault of a service, behind what is there; its statements and templates stand there.
 pub fn push_fault_block(
     out: &mut Vec<u8>,
     alloc: Global,
     name: &[u8],
-    known: &Known<'_>,
+    told: &Tokened<'_>,
+    marks: &Marks,
     fault: &Fault,
 ) -> Result<(), Memory>
-    ensures { OnOk result (out.new.items ≡ out.old.items
-        ++ spec.fault_block name.now known.now.told.text.now known.now.drafts.items fault.now) }
+    ensures { OnOk result (out.new.items ≡ out.old.items ++ spec.marked_block name.now told.now.text.now marks.now fault.now) }
 {
-    let element = fault_element(known, fault);
-    let what = fault_words(alloc, known, fault, element)?;
+    let element = fault_element(told, &marks.insides, fault);
+    let what = fault_words(alloc, told, fault, element)?;
     let paper = Paper {
         name,
-        text: known.told.text,
+        text: told.text,
     };
     let places = Places {
-        first: fault_place(known, fault),
+        first: fault_place(told, &marks.statements, fault),
         second: element,
     };
     push_block(out, paper, places, &what, fault_mend(fault.number))
 }
 
 /// The block of a service that has too many points, behind what is there.
-pub fn push_points_block(out: &mut Vec<u8>, name: &[u8], known: &Known<'_>) -> Result<(), Memory>
-    ensures { OnOk result (out.new.items ≡ out.old.items ++ spec.points_block name.now known.now.told.text.now) }
+pub fn push_points_block(out: &mut Vec<u8>, name: &[u8], told: &Tokened<'_>) -> Result<(), Memory>
+    ensures { OnOk result (out.new.items ≡ out.old.items ++ spec.points_block name.now told.now.text.now) }
 {
     let paper = Paper {
         name,
-        text: known.told.text,
+        text: told.text,
     };
     let places = Places {
-        first: name_place(&known.told),
+        first: name_place(told),
         second: None,
     };
     push_block(out, paper, places, points_what(), points_mend())
 }
 
 /// The block of a service whose analysis has too many facts, behind what is there.
-pub fn push_facts_block(out: &mut Vec<u8>, name: &[u8], known: &Known<'_>) -> Result<(), Memory>
-    ensures { OnOk result (out.new.items ≡ out.old.items ++ spec.facts_block name.now known.now.told.text.now) }
+pub fn push_facts_block(out: &mut Vec<u8>, name: &[u8], told: &Tokened<'_>) -> Result<(), Memory>
+    ensures { OnOk result (out.new.items ≡ out.old.items ++ spec.facts_block name.now told.now.text.now) }
 {
     let paper = Paper {
         name,
-        text: known.told.text,
+        text: told.text,
     };
     let places = Places {
-        first: name_place(&known.told),
+        first: name_place(told),
         second: None,
     };
     push_block(out, paper, places, facts_what(), facts_mend())

@@ -1,12 +1,10 @@
 //! The gaps of a template, found among the bytes of its inside.
-ghost use Rattle.std.specs.Prelude.{◌≡◌, IfOk};
-ghost use Rattle.bw_near.specs.Near.{nearest_behind};
+ghost use Rattle.std.specs.Prelude.{◌≡◌, ◌++◌, OnOk};
 ghost use Rattle.bw_diagnose.specs.Gaps as spec;
 ghost use Rattle.bw_diagnose.specs.declared.gaps.Part.TheVariants as parts;
 
 use crate::tags::{rest, word_length};
 use bw_lang::{Bytes, Memory};
-use bw_near::nearer;
 use std::alloc::Global;
 
 /// Where a byte of the inside of a template stands.
@@ -60,39 +58,30 @@ fn opens_gap(part: Part, byte: u8) -> bool
     }
 }
 
-/// The nearest name to a word so far, or the gap that begins at a byte, where one does that is nearer. These bytes stand
-/// behind it.
-fn nearest_there(
+/// The gap that begins at a byte, if one does. These bytes stand behind it.
+fn push_there(
     alloc: Global,
-    word: &[u8],
-    best: Option<Bytes>,
+    names: &mut Vec<Bytes>,
     part: Part,
     byte: u8,
     behind: &[u8],
-) -> Result<Option<Bytes>, Memory>
-    ensures { IfOk result (λ o. o ≡ nearest_behind word.now best (spec.gap_there part byte behind.now)) }
+) -> Result<(), Memory>
+    ensures { OnOk result (names.new.items ≡ names.old.items ++ spec.gap_there part byte behind.now) }
 {
     if opens_gap(part, byte) {
-        nearer(alloc, word, best, &behind[..word_length(behind)])
-    } else {
-        Ok(best)
+        names.push(Bytes::of(alloc, &behind[..word_length(behind)])?)?;
     }
+    Ok(())
 }
 
-/// The nearest name to a word so far, or a gap in the inside of a template that is nearer.
-pub fn nearest_gap(
-    alloc: Global,
-    word: &[u8],
-    best: Option<Bytes>,
-    inside: &[u8],
-) -> Result<Option<Bytes>, Memory>
-    ensures { IfOk result (λ o. o ≡ nearest_behind word.now best (spec.gaps_in parts.Outside inside.now)) }
+/// The gaps in the inside of a template, each as often as it stands.
+pub fn push_gaps(alloc: Global, names: &mut Vec<Bytes>, inside: &[u8]) -> Result<(), Memory>
+    ensures { OnOk result (names.new.items ≡ names.old.items ++ spec.gaps_in parts.Outside inside.now) }
 {
-    let mut nearest = best;
     let mut part = Part::Outside;
     for (index, &byte) in inside.iter().enumerate() {
-        nearest = nearest_there(alloc, word, nearest, part, byte, rest(inside, index + 1))?;
+        push_there(alloc, names, part, byte, rest(inside, index + 1))?;
         part = part_behind(part, byte);
     }
-    Ok(nearest)
+    Ok(())
 }

@@ -1,11 +1,14 @@
 //! What is known of a text whose refusal is shown.
 ghost use Rattle.std.specs.Prelude.{◌≡◌, ◌<◌, ◌+◌, ◌^◌, IfOk};
+ghost use Rattle.bw_lang.specs.Service.Reads.{Reads};
 ghost use Rattle.bw_places.specs.Counts.{drafts_tokens};
+ghost use Rattle.bw_places.specs.Drafted.{drafts_of};
 ghost use Rattle.bw_syntax.specs.Told.{IsTold};
 ghost use Rattle.bw_diagnose.specs.Known as spec;
 
-use bw_lang::{Draft, Lexeme, Memory, Token};
-use bw_parse::{ServiceDraft, parse_service};
+use crate::spelling::spelled_all;
+use bw_lang::{Lexeme, Memory, Service, Token};
+use bw_places::Spelled;
 use bw_syntax::Told;
 use std::alloc::Global;
 
@@ -23,8 +26,8 @@ pub struct Tokened<'a> {
 #[derive(Drop)]
 pub struct Known<'a> {
     pub told: Tokened<'a>,
-    pub drafts: Vec<Draft>,
-    pub ghost few: { 3 + drafts_tokens drafts.items < 2 ^ 63 },
+    pub declarations: Vec<Spelled<'a>>,
+    pub ghost few: { 3 + drafts_tokens (drafts_of declarations.items) < 2 ^ 63 },
 }
 
 /// A text with its tokens.
@@ -39,18 +42,18 @@ pub fn with_tokens<'a>(text: &'a [u8], told: &'a Told) -> Tokened<'a>
     }
 }
 
-/// A text that is written for a service, with its tokens and declarations.
-#[tactic(auto, using(bw_places::proofs::Seeks::drafts_are_few))]
-pub fn read_known<'a>(alloc: Global, told: Tokened<'a>) -> Result<Known<'a>, Memory>
+/// A text that reads as this service, with its tokens and declarations: those of the service, as the tokens spell them.
+pub fn read_known<'a>(
+    alloc: Global,
+    told: Tokened<'a>,
+    service: &'a Service,
+) -> Result<Known<'a>, Memory>
+    requires { Reads told.text.now service.now }
     ensures text { IfOk result (λ known. known.told.text.now ≡ told.entry.text.now) }
-    ensures drafts { IfOk result (λ known. spec.AreDrafts told.entry.text.now known.drafts.items) }
+    ensures drafts { IfOk result (λ known. spec.AreDrafts told.entry.text.now (drafts_of known.declarations.items)) }
 {
-    match parse_service(alloc, told.lexemes) {
-        Ok(draft) => {
-            let ServiceDraft { name, drafts } = draft;
-            drop(name);
-            Ok(Known { told, drafts })
-        }
-        Err(_) => Err(Memory),
-    }
+    let declared = service.declarations(alloc)?;
+    let declarations = spelled_all(alloc, told.lexemes, &declared)?;
+    drop(declared);
+    Ok(Known { told, declarations })
 }

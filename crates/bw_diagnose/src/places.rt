@@ -1,21 +1,21 @@
 //! Which bytes of a text a refusal points at.
-ghost use Rattle.std.specs.Prelude.{◌≡◌, ◌<◌, ◌+◌, ◌-◌, ◌^◌, slice_get, Some, IfSome};
-ghost use Rattle.bw_places.specs.Counts.{drafts_tokens};
+ghost use Rattle.std.specs.Prelude.{◌≡◌, ◌<◌, ◌+◌, ◌-◌, ◌^◌, slice_get};
 ghost use Rattle.bw_diagnose.specs.Places as spec;
 ghost use Rattle.bw_diagnose.specs.Known.{IsLent, tokens_in, lexemes_in};
+ghost use Rattle.bw_diagnose.specs.Marks.{marked_span, marked_element, marked_place};
 ghost use Rattle.bw_diagnose.specs.Walks.{limit_token as limit_token_spec};
 
 use crate::finding::{Wanted, field_in, first_in, gap_in};
-use crate::known::{Known, Tokened, with_tokens};
+use crate::known::{Tokened, with_tokens};
 use crate::tags::{hole_there, rest, tag_there, token_start, word_length};
 use crate::walk::limit_token;
-use bw_blame::{Blamed, Site};
+use bw_blame::Site;
 use bw_excerpt::Place;
 use bw_faults::Fault;
 use bw_lang::limits::MAX_FILE_BYTES;
-use bw_lang::{Draft, Lexeme, Limit, TemplateId, Token};
+use bw_lang::{Lexeme, Limit, Token};
 use bw_lex::LexFault;
-use bw_places::{Sought, Span, declaration, statement};
+use bw_places::Span;
 use bw_syntax::{SyntaxFault, Told};
 
 /// So many bytes.
@@ -166,7 +166,7 @@ pub fn name_place(told: &Tokened<'_>) -> Place
 }
 
 /// What a test is about, in the declaration of these tokens.
-fn site_place(told: &Tokened<'_>, own: Span, site: Site) -> Place
+pub fn site_place(told: &Tokened<'_>, own: Span, site: Site) -> Place
     requires { own.from < 2 ^ 63 }
     ensures { result ≡ spec.site_place told.now.text.now own site }
 {
@@ -184,90 +184,45 @@ fn site_place(told: &Tokened<'_>, own: Span, site: Site) -> Place
     }
 }
 
-/// What the first test that fails is about.
-#[tactic(auto, using(crate::proofs::Early::declared_early))]
-pub fn blamed_place(known: &Known<'_>, blamed: Option<Blamed>) -> Place
-    ensures { result ≡ spec.blamed_place known.now.told.text.now known.now.drafts.items blamed }
-{
-    match blamed {
-        Some(blamed) => match declaration(&known.drafts, blamed.declaration) {
-            Some(own) => site_place(&known.told, own, blamed.site),
-            None => name_place(&known.told),
-        },
-        None => name_place(&known.told),
-    }
-}
-
 /// The tokens of a statement, which is counted from 1.
-fn statement_span(drafts: &[Draft], point: u32) -> Span
-    requires { 3 + drafts_tokens drafts.now < 2 ^ 63 }
-    ensures { result ≡ spec.statement_span drafts.now point }
+fn statement_span(statements: &[Span], point: u32) -> Span
+    ensures { result ≡ marked_span statements.now point }
 {
-    match statement(drafts, point.saturating_sub(1) as usize) {
-        Sought::Found(own) => own,
-        Sought::Behind(_, _) => Span { from: 1, to: 2 },
-    }
-}
-
-/// The number of the declaration of a template, both counted from 0.
-fn template_number(drafts: &[Draft], number: usize) -> Option<usize>
-    ensures { result ≡ spec.template_number drafts.now number 0 }
-{
-    let mut left = number;
-    for (index, draft) in drafts.iter().enumerate() {
-        if let Draft::Template { .. } = draft {
-            if left == 0 {
-                return Some(index);
-            }
-            left -= 1;
-        }
-    }
-    None
-}
-
-/// The tokens of the declaration of a template.
-#[tactic(auto, using(crate::proofs::Early::declared_early))]
-fn template_span(drafts: &[Draft], template: TemplateId) -> Option<Span>
-    requires { 3 + drafts_tokens drafts.now < 2 ^ 63 }
-    ensures tokens { result ≡ spec.template_span drafts.now template }
-    ensures early { IfSome result (λ own. own.from < 2 ^ 63) }
-{
-    match template_number(drafts, template.number() as usize) {
-        Some(number) => declaration(drafts, number),
-        None => None,
+    match statements.get(point.saturating_sub(1) as usize) {
+        Some(own) => *own,
+        None => Span { from: 1, to: 2 },
     }
 }
 
 /// The start tag of the element that a fault is about; wrappers of pages have none.
-pub fn fault_element(known: &Known<'_>, fault: &Fault) -> Option<Place>
-    ensures { result ≡ spec.fault_element known.now.told.text.now known.now.drafts.items fault.now fault.now.template }
+pub fn fault_element(told: &Tokened<'_>, insides: &[usize], fault: &Fault) -> Option<Place>
+    ensures { result ≡ marked_element told.now.text.now insides.now fault.now fault.now.template }
 {
     match fault.template {
-        Some(template) => match template_span(&known.drafts, template) {
-            Some(own) => Some(element_place(&known.told, own, fault.place)),
+        Some(template) => match insides.get(template.number() as usize) {
+            Some(at) => Some(element_place(told, *at, fault.place)),
             None => None,
         },
         None => None,
     }
 }
 
-/// The start tag of an element of a template, which is counted from 1.
-fn element_place(told: &Tokened<'_>, own: Span, element: u32) -> Place
-    requires { own.from < 2 ^ 63 }
-    ensures { Some result ≡ spec.element_place told.now.text.now element (Some own) }
+/// The start tag of an element, which is counted from 1, of the template whose inside is this token.
+fn element_place(told: &Tokened<'_>, at: usize, element: u32) -> Place
+    ensures { result ≡ spec.tag_there (tokens_in told.now.text.now) (lexemes_in told.now.text.now) at (element - 1) }
 {
     let number = element.saturating_sub(1) as usize;
-    tag_there(told.tokens, told.lexemes, own.from + 3, number)
+    tag_there(told.tokens, told.lexemes, at, number)
 }
 
 /// The field that is received, or the gap that is plugged, which a fault is about; or else the whole statement.
-pub fn fault_place(known: &Known<'_>, fault: &Fault) -> Place
-    ensures { result ≡ spec.fault_place known.now.told.text.now known.now.drafts.items fault.now }
+pub fn fault_place(told: &Tokened<'_>, statements: &[Span], fault: &Fault) -> Place
+    ensures { result ≡ marked_place told.now.text.now statements.now fault.now }
 {
-    let own = statement_span(&known.drafts, fault.point);
-    match named_token(&known.told, own, fault) {
-        Some(at) => told_place(&known.told, at),
-        None => span_place(known.told.tokens, own.from, own.to),
+    let own = statement_span(statements, fault.point);
+    match named_token(told, own, fault) {
+        Some(at) => told_place(told, at),
+        None => span_place(told.tokens, own.from, own.to),
     }
 }
 

@@ -43,7 +43,7 @@ pub fn token_start(tokens: &[Token], at: usize) -> usize
 }
 
 /// The inside of a template that is the token of this number.
-fn inside_of(lexemes: &[Lexeme], at: usize) -> &[u8]
+pub fn inside_of(lexemes: &[Lexeme], at: usize) -> &[u8]
     ensures { result.now ≡ spec.inside_of (slice_get lexemes.now at) }
 {
     match lexemes.get(at) {

@@ -153,8 +153,7 @@ impl<R: Net + Clock + Wait + Copy, W: Settles> PortDoor<R, W> {
 
     /// The port that is listened on: where 0 was asked for, the one that the system chose. None where there is none, or
     /// where the system doesn't say.
-    #[cfg(test)]
-    pub(crate) fn port(&self) -> Option<u16> {
+    pub fn port(&self) -> Option<u16> {
         match &self.port {
             Some(port) => match port.listener.local_addr() {
                 Ok(address) => Some(address.port()),

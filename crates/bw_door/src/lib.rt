@@ -26,10 +26,3 @@ pub use door::PortDoor;
 pub use limits::Limits;
 pub use link::PortLink;
 pub use settles::{Lack, Settles};
-
-#[cfg(test)]
-mod acts;
-#[cfg(test)]
-mod pieces;
-#[cfg(test)]
-mod tests;

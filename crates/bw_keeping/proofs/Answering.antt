@@ -1,12 +1,12 @@
 -- A link whose message was handled is sent its reply: so it is answered.
-use Rattle.std.proofs.Common.{◌≡◌, ◌⊎◌, ◌<◌, ◌≤◌, ◌+◌, ℕ, List, [], ◌∷◌, ◌++◌, length, Option, Some, refl, sym, ap, ◌∙◌, subst, inl, inr, arith, append-nil}
+use Rattle.std.proofs.Common.{◌≡◌, ◌⊎◌, ◌+◌, ℕ, List, [], ◌∷◌, Option, Some, refl, sym, ◌∙◌, subst, inl, inr, arith, append-nil}
 use Rattle.std.specs.Io.KnownBytes.{Appends}
 use Rattle.bw_format.specs.declared.format.Format.{Format}
 use Rattle.bw_http.specs.Messages.{IsShort}
 use Rattle.bw_http.specs.declared.replies.Reply.{Reply}
 use Rattle.bw_journal.specs.Layout.{Entry}
 use Rattle.bw_lang.specs.declared.service.Service.{Service}
-use Rattle.bw_model.specs.Runs.{At, Run, Turn, Turns, Stops, wants, answer_of}
+use Rattle.bw_model.specs.Runs.{At, Run, Turn, Stops, wants}
 use Rattle.bw_out.specs.Causes.{Rose, Shows}
 use Rattle.bw_out.specs.Writes.{AppendsPart}
 use Rattle.bw_out.specs.declared.outside.Channel.{Ghosts}
@@ -15,11 +15,10 @@ use Rattle.bw_keeping.specs.Taking.{Taking}
 use Rattle.bw_keeping.specs.declared.taken.Taken.{Taken}
 use Rattle.bw_keeping.specs.declared.taken.Taken.TheVariants as takens
 use Rattle.bw_world.specs.Streams.Answers.{Place}
-use Rattle.bw_world.specs.Streams.Courses.{AreLeft, Course, bytes_by}
-use Rattle.bw_world.specs.declared.ends.StreamEnd.{StreamEnd}
+use Rattle.bw_world.specs.Streams.Courses.{AreLeft, bytes_by}
 use Rattle.bw_world.specs.declared.ends.StreamEnd.TheVariants as ends
 use Rattle.bw_keeping.specs.Answered.{Between, IsAnswered, IsUnanswered, at_link}
-use Rattle.bw_keeping.specs.Steps.{IsSent, Replies, Writes, back_of}
+use Rattle.bw_keeping.specs.Steps.{Replies, Writes, back_of}
 
 -- A link waits: its message was handled between there and there, so many bytes of it were not used, nothing is written on
 -- it, and this is to be kept of it.

@@ -8,7 +8,6 @@ use Rattle.bw_lang.specs.declared.service.Service.{Service}
 use Rattle.bw_out.specs.Doors.{Returned, Arrives}
 use Rattle.bw_out.specs.Told.{Coming}
 use Rattle.bw_out.specs.declared.outside.Channel.{Ghosts}
-use Rattle.bw_stable.specs.Deeds.{Deed}
 use Rattle.bw_world.specs.Seen.{Seen}
 use Rattle.bw_keeping.specs.Answered.{Exchange, backs_of, entries_of}
 use Rattle.bw_keeping.specs.Served.{IsOver, Serves, View}

@@ -46,14 +46,15 @@ consumed : (told after : Option (List ℕ)) (bytes left front : List ℕ) → to
 consumed told after bytes left front a b c =
     subst (λ (x : Option (List ℕ)). Consumes (Some bytes) x front) b (subst (λ (x : Option (List ℕ)). Consumes x after front) a c)
 
-noted : (told after : Option (List ℕ)) (bytes notes now : List ℕ) (r : Request) → told ≡ Some bytes → Tells told after [] (Ok r) now
-    → IsFilled told after [] notes → IsNoted bytes (take (length notes - length now) notes) r
-noted told after bytes notes now r is tells filled =
+noted : (told after : Option (List ℕ)) (bytes held notes now : List ℕ) (r : Request) → told ≡ Some bytes → Tells told after held (Ok r) now
+    → IsFilled told after held notes → IsNoted (held ++ bytes) (take (length notes - length now) notes) r
+noted told after bytes held notes now r is tells filled =
     let t = tells bytes is in
     let left = t.0 in
-    let all : bytes ≡ notes ++ left =
-    consumed told after bytes left filled.0 is t.1 filled.1 ∙ ap (λ (x : List ℕ). x ++ left) (sym filled.2) in
-    let c = cut_off bytes (now ++ left) r t.2 in
+    let all : held ++ bytes ≡ notes ++ left =
+    ap (λ (x : List ℕ). held ++ x) (consumed told after bytes left filled.0 is t.1 filled.1) ∙ sym (append_assoc held filled.0 left)
+    ∙ ap (λ (x : List ℕ). x ++ left) (sym filled.2) in
+    let c = cut_off (held ++ bytes) (now ++ left) r t.2 in
     let m = c.message in
     let notes_are : notes ≡ m ++ now = append_cancel_right notes (m ++ now) left (sym all ∙ c.parts ∙ sym (append_assoc m now left)) in
     let size : length notes ≡ length m + length now = ap (λ (x : List ℕ). length x) notes_are ∙ length-append m now in
@@ -67,12 +68,13 @@ noted told after bytes notes now r is tells filled =
     }
 
 -- the message as the code has it
-pub noted_as : (told after : Option (List ℕ)) (bytes notes now seen held message : List ℕ) (r : Request) → told ≡ Some bytes → Tells told after [] (Ok r) now
-    → IsFilled told after [] notes → seen ≡ notes → held ≡ now → message ≡ take (length seen - length held) seen → IsNoted bytes message r
-noted_as told after bytes notes now seen held message r is tells filled a b m =
+pub noted_as : (told after : Option (List ℕ)) (bytes held notes now seen left message : List ℕ) (r : Request) → told ≡ Some bytes
+    → Tells told after held (Ok r) now → IsFilled told after held notes → seen ≡ notes → left ≡ now
+    → message ≡ take (length seen - length left) seen → IsNoted (held ++ bytes) message r
+noted_as told after bytes held notes now seen left message r is tells filled a b m =
     let same : message ≡ take (length notes - length now) notes =
-    m ∙ ap (λ (x : List ℕ). take (length x - length held) x) a ∙ ap (λ (x : List ℕ). take (length notes - length x) notes) b in
-    subst (λ (x : List ℕ). IsNoted bytes x r) (sym same) (noted told after bytes notes now r is tells filled)
+    m ∙ ap (λ (x : List ℕ). take (length x - length left) x) a ∙ ap (λ (x : List ℕ). take (length notes - length x) notes) b in
+    subst (λ (x : List ℕ). IsNoted (held ++ bytes) x r) (sym same) (noted told after bytes held notes now r is tells filled)
 
 -- ---- what is kept of it
 

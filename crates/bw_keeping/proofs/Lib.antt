@@ -19,4 +19,9 @@ pub mod Restarting
 mod Sending
 mod ServedSoFar
 pub mod SoFar
+mod StreamLists
+mod StreamSoFar
+mod StreamTurns
+mod StreamsSurvive
+pub mod StreamsWithin
 mod Surviving

@@ -1,5 +1,5 @@
 -- What is kept of links brings about the world that they left, and has bytes.
-use Rattle.std.proofs.Common.{◌≡◌, ℕ, List, [], ◌∷◌, ◌++◌, ap, subst}
+use Rattle.std.proofs.Common.{List, [], ◌∷◌, ◌++◌, ap, subst}
 use Rattle.std.specs.List.{AllByRecursion}
 use Rattle.bw_format.specs.declared.format.Format.{Format}
 use Rattle.bw_journal.specs.Layout.{Entry, Fits}
@@ -26,7 +26,8 @@ answered_bring formats service from links [] to rest answered = ap (λ (b : Betw
 answered_bring formats service from links (x ∷ xs) to rest (bytes, more, mid, all, one, others) =
     entered_brings formats service _ _ x.entries (entries_of xs) to.world one.entered (answered_bring formats service mid more xs to rest others)
 
-entered_fit : (formats : List Format) (service : Service) (at to : At) (entries : List Entry) → IsEntered formats service at to entries
+-- and it has bytes
+pub entered_fit : (formats : List Format) (service : Service) (at to : At) (entries : List Entry) → IsEntered formats service at to entries
     → AllByRecursion Fits entries
 entered_fit formats service at to _ (nothing same) = tt
 entered_fit formats service at to _ (kept e r s bytes key fits sends guarded page world) = (fits, tt)

@@ -1,5 +1,5 @@
 -- The pieces that were kept are groups, and they are parted as the links are.
-use Rattle.std.proofs.Common.{◌≡◌, ℕ, List, [], ◌∷◌, ◌++◌, refl, sym, ap, ◌∙◌, subst, append_assoc, append-nil}
+use Rattle.std.proofs.Common.{ℕ, List, [], ◌∷◌, ◌++◌, refl, sym, ap, ◌∙◌, subst, append-nil}
 use Rattle.bw_journal.specs.Layout.{Entry, last_sum}
 use Rattle.bw_out.specs.Doors.{Returned}
 use Rattle.bw_stable.specs.Deeds.Deed.{cut, kept}

@@ -1,4 +1,4 @@
--- What a crash leaves of links that are served beside a journal.
+-- What a crash leaves of what is kept group by group, and of links that are served beside a journal.
 use Rattle.std.proofs.Common.{◌≡◌, ℕ, List, [], ◌∷◌, ◌++◌, length, suc, take, sym, ap, ◌∙◌, subst, append_assoc}
 use Rattle.std.proofs.Math.Seq.{take-append_seam}
 use Rattle.std.proofs.lemmas.List.{append_cancel_left}
@@ -6,7 +6,9 @@ use Rattle.std.specs.List.{AllByRecursion}
 use Rattle.bw_journal.specs.Heads.{start_sum}
 use Rattle.bw_journal.specs.Layout.{Entry, Fits, last_sum}
 use Rattle.bw_journal.proofs.Readings.{fits_then, sum_then}
-use Rattle.bw_out.specs.Doors.{Returned}
+use Rattle.bw_format.specs.declared.format.Format.{Format}
+use Rattle.bw_lang.specs.declared.service.Service.{Service}
+use Rattle.bw_model.specs.Sessions.{World}
 use Rattle.bw_keeping.specs.Bringing.{Brings}
 use Rattle.bw_keeping.specs.Restarts.{HasKept, IsFileOf, Keeps, file_of, joined}
 use Rattle.bw_keeping.proofs.Bringing.{brings_then}
@@ -47,78 +49,104 @@ same_parts : {X : Type 0} (a x b y : List X) → a ++ x ≡ b ++ y → length a 
 same_parts {X} a x b y all size =
     sym (take-append_seam a x) ∙ ap (λ (l : List X). take (length a) l) all ∙ ap (λ (n : ℕ). take n (b ++ y)) size ∙ take-append_seam b y
 
-module _ (text : List ℕ) (before : List Entry) (given : List Returned) (exchanges : List Exchange) (done undone : List Deed) (left : List ℕ)
-    (p : AreParted (last_sum (start_sum text) before) given exchanges done undone) where
-  pub first : HasGroups (last_sum (start_sum text) before) p.first done
-  first = pieces_are_groups (last_sum (start_sum text) before) given p.first done p.before
-
-  pub others : HasGroups (last_sum (last_sum (start_sum text) before) (entries_of p.first)) p.others undone
-  others = pieces_are_groups (last_sum (last_sum (start_sum text) before) (entries_of p.first)) (given ++ backs_of p.first) p.others undone
-      p.behind
-
+module _ (text : List ℕ) (before passed others : List Entry) (done undone : List Deed) (left : List ℕ)
+    (first : HasGroups (last_sum (start_sum text) before) passed done)
+    (rest : HasGroups (last_sum (last_sum (start_sum text) before) passed) others undone) where
   abbrev groups : List (List Entry)
-  groups = first.groups ++ others.groups
+  groups = first.groups ++ rest.groups
 
-  -- the groups of all links
-  pub all_kept : Keeps (last_sum (start_sum text) before) (done ++ undone) groups
+  -- the groups of all
+  all_kept : Keeps (last_sum (start_sum text) before) (done ++ undone) groups
   all_kept =
-      keeps_then (last_sum (start_sum text) before) done undone first.groups others.groups first.kept
-      (subst (λ (es : List Entry). Keeps (last_sum (last_sum (start_sum text) before) es) undone others.groups) (sym first.all) others.kept)
+      keeps_then (last_sum (start_sum text) before) done undone first.groups rest.groups first.kept
+      (subst (λ (es : List Entry). Keeps (last_sum (last_sum (start_sum text) before) es) undone rest.groups) (sym first.all) rest.kept)
 
-  joined_all : joined groups ≡ entries_of p.first ++ entries_of p.others
-  joined_all =
-      joined_then first.groups others.groups ∙ ap (λ (es : List Entry). es ++ joined others.groups) first.all
-      ∙ ap (λ (es : List Entry). entries_of p.first ++ es) others.all
-
-  pub all_joined : joined groups ≡ entries_of exchanges
-  all_joined = joined_all ∙ sym (entries_then p.first p.others) ∙ ap (λ (xs : List Exchange). entries_of xs) (sym p.all)
+  all_joined : joined groups ≡ passed ++ others
+  all_joined =
+      joined_then first.groups rest.groups ∙ ap (λ (es : List Entry). es ++ joined rest.groups) first.all
+      ∙ ap (λ (es : List Entry). passed ++ es) rest.all
 
   module _ (k : HasKept text before groups done left) where
     whole_is : k.whole ≡ first.groups
     whole_is =
-        same_parts k.whole k.rest first.groups others.groups (sym k.groups_are)
+        same_parts k.whole k.rest first.groups rest.groups (sym k.groups_are)
         (keeps_long (last_sum (start_sum text) before) done k.whole k.done_is
         ∙ sym (keeps_long (last_sum (start_sum text) before) done first.groups first.kept))
 
-    pub joined_whole : joined k.whole ≡ entries_of p.first
+    joined_whole : joined k.whole ≡ passed
     joined_whole = ap joined whole_is ∙ first.all
 
-    pub parted_others : entries_of p.others ≡ k.first ++ k.others
+    parted_others : others ≡ k.first ++ k.others
     parted_others =
-        append_cancel_left (entries_of p.first) (entries_of p.others) (k.first ++ k.others)
-        (sym joined_all ∙ k.all ∙ append_assoc (joined k.whole) k.first k.others
+        append_cancel_left passed others (k.first ++ k.others)
+        (sym all_joined ∙ k.all ∙ append_assoc (joined k.whole) k.first k.others
         ∙ ap (λ (es : List Entry). es ++ (k.first ++ k.others)) joined_whole)
 
-    pub is_file : IsFileOf text (before ++ (entries_of p.first ++ k.first)) left
+    is_file : IsFileOf text (before ++ (passed ++ k.first)) left
     is_file =
         subst (λ (es : List Entry). IsFileOf text (before ++ (es ++ k.first)) left) joined_whole
         (record { behind = k.behind; parts = k.parts; tail = k.tail; journal = k.journal })
 
+-- A crash left a journal of the entries before, of those that were kept whole, and of the first of the others; and from the world
+-- that these bring about the lost ones bring about the world behind all of them.
+pub record IsLeft (formats : List Format) (service : Service) (origin to : World) (text : List ℕ) (before passed others : List Entry) (file : List ℕ)
+    : Type 0 where
+  pub found : List Entry
+  pub lost : List Entry
+  pub others_are : others ≡ found ++ lost
+  pub is_file : IsFileOf text (before ++ (passed ++ found)) file
+  pub world : World
+  pub brings : Brings formats service origin (before ++ (passed ++ found)) world
+  pub goes_on : Brings formats service world lost to
+
 -- whenever a crash comes
+pub left_so : (formats : List Format) (service : Service) (origin from to : World) (text : List ℕ) (before passed others : List Entry) (deeds : List Deed)
+    (left : List ℕ) → AllByRecursion Fits before → AllByRecursion Fits (passed ++ others) → Brings formats service origin before from
+    → Brings formats service from (passed ++ others) to → (may : MayLeave deeds (file_of text before) left)
+    → HasGroups (last_sum (start_sum text) before) passed may.done → HasGroups (last_sum (last_sum (start_sum text) before) passed) others may.undone
+    → IsLeft formats service origin to text before passed others left
+left_so formats service origin from to text before passed others deeds left fits fitting brings brought may first rest =
+    let sum = last_sum (start_sum text) before in
+    let gs : List (List Entry) = groups text before passed others may.done may.undone left first rest in
+    let all : joined gs ≡ passed ++ others = all_joined text before passed others may.done may.undone left first rest in
+    let keeps : Keeps sum deeds gs =
+    subst (λ (ds : List Deed). Keeps sum ds gs) may.all (all_kept text before passed others may.done may.undone left first rest) in
+    let r = restarts_go_on formats service origin to text before gs deeds left
+    (fits_then before (joined gs) fits (subst (AllByRecursion Fits) (sym all) fitting))
+    (brings_then formats service origin from to before (joined gs) brings
+    (subst (λ (es : List Entry). Brings formats service from es to) (sym all) brought)) keeps may in
+    record {
+      found = r.kept.first;
+      lost = r.kept.others;
+      others_are = parted_others text before passed others may.done may.undone left first rest r.kept;
+      is_file = is_file text before passed others may.done may.undone left first rest r.kept;
+      world = r.world;
+      brings = subst (λ (es : List Entry). Brings formats service origin (before ++ (es ++ r.kept.first)) r.world)
+          (joined_whole text before passed others may.done may.undone left first rest r.kept) r.brings;
+      goes_on = r.goes_on;
+    }
+
+-- so it is of links
 pub links_survive : LinksSurvive
 links_survive formats service origin text before from links exchanges to rest given deeds left fits brings answered are may =
     let sum = last_sum (start_sum text) before in
     let p : AreParted sum given exchanges may.done may.undone =
     kept_in_parts sum given exchanges may.done may.undone (subst (AreKept sum given exchanges) (sym may.all) are) in
-    let gs : List (List Entry) = groups text before given exchanges may.done may.undone left p in
-    let all : joined gs ≡ entries_of exchanges = all_joined text before given exchanges may.done may.undone left p in
-    let fitting : AllByRecursion Fits (before ++ joined gs) =
-    fits_then before (joined gs) fits (subst (AllByRecursion Fits) (sym all) (answered_fit formats service from links exchanges to rest answered)) in
-    let brought : Brings formats service origin (before ++ joined gs) to.world =
-    brings_then formats service origin from.world to.world before (joined gs) brings
-    (subst (λ (es : List Entry). Brings formats service from.world es to.world) (sym all)
-    (answered_bring formats service from links exchanges to rest answered)) in
-    let keeps : Keeps sum deeds gs =
-    subst (λ (ds : List Deed). Keeps sum ds gs) may.all (all_kept text before given exchanges may.done may.undone left p) in
-    let r = restarts_go_on formats service origin to.world text before gs deeds left fitting brought keeps may in
+    let all : entries_of exchanges ≡ entries_of p.first ++ entries_of p.others =
+    ap (λ (xs : List Exchange). entries_of xs) p.all ∙ entries_then p.first p.others in
+    let l = left_so formats service origin from.world to.world text before (entries_of p.first) (entries_of p.others) deeds left fits
+    (subst (AllByRecursion Fits) all (answered_fit formats service from links exchanges to rest answered)) brings
+    (subst (λ (es : List Entry). Brings formats service from.world es to.world) all
+    (answered_bring formats service from links exchanges to rest answered)) may
+    (pieces_are_groups sum given p.first may.done p.before)
+    (pieces_are_groups (last_sum sum (entries_of p.first)) (given ++ backs_of p.first) p.others may.undone p.behind) in
     record {
       parts = p;
-      found = r.kept.first;
-      lost = r.kept.others;
-      others_are = parted_others text before given exchanges may.done may.undone left p r.kept;
-      is_file = is_file text before given exchanges may.done may.undone left p r.kept;
-      world = r.world;
-      brings = subst (λ (es : List Entry). Brings formats service origin (before ++ (es ++ r.kept.first)) r.world)
-          (joined_whole text before given exchanges may.done may.undone left p r.kept) r.brings;
-      goes_on = r.goes_on;
+      found = l.found;
+      lost = l.lost;
+      others_are = l.others_are;
+      is_file = l.is_file;
+      world = l.world;
+      brings = l.brings;
+      goes_on = l.goes_on;
     }

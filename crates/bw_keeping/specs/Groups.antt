@@ -16,6 +16,10 @@ pub record Grouped : Type 0 where
 abbrev pub HasRoom : Grouped → Type 0
 HasRoom group = MAX_ENTRY_BYTES ≤ group.room
 
+-- it has no entry, and there is memory for one
+abbrev pub IsReady : Grouped → Type 0
+IsReady group = (group.bytes ≡ []) × HasRoom group
+
 -- these entries were put behind the others
 pub record Grows (before after : Grouped) (entries : List Entry) : Type 0 where
   pub bytes : after.bytes ≡ before.bytes ++ entries_bytes before.sum entries

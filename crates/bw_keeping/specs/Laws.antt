@@ -23,16 +23,17 @@ AnsweredFit =
     (formats : List Format) (service : Service) (from : Between) (links : List (List ℕ)) (exchanges : List Exchange) (to : Between) (rest : List (List ℕ)) →
     AreAnswered formats service from links exchanges to rest → AllByRecursion Fits (entries_of exchanges)
 
--- these groups of entries are those of the links, and the deeds kept them one after another
-pub record HasGroups (sum : ℕ) (exchanges : List Exchange) (deeds : List Deed) : Type 0 where
+-- these entries are groups, and the deeds kept them one after another
+pub record HasGroups (sum : ℕ) (entries : List Entry) (deeds : List Deed) : Type 0 where
   pub groups : List (List Entry)
   pub kept : Keeps sum deeds groups
-  pub all : joined groups ≡ entries_of exchanges
+  pub all : joined groups ≡ entries
 
 -- so it is of all that is kept in pieces
 abbrev pub PiecesAreGroups : Type 0
 PiecesAreGroups =
-    (sum : ℕ) (given : List Returned) (exchanges : List Exchange) (deeds : List Deed) → AreKept sum given exchanges deeds → HasGroups sum exchanges deeds
+    (sum : ℕ) (given : List Returned) (exchanges : List Exchange) (deeds : List Deed) → AreKept sum given exchanges deeds
+    → HasGroups sum (entries_of exchanges) deeds
 
 -- the first deeds kept what is kept of the first links, and the others what is kept of those behind them
 pub record AreParted (sum : ℕ) (given : List Returned) (exchanges : List Exchange) (done undone : List Deed) : Type 0 where

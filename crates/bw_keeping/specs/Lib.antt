@@ -11,6 +11,9 @@ pub mod Recalling
 pub mod Restarts
 pub mod Served
 pub mod Steps
+pub mod StreamLaws
+pub mod StreamSteps
+pub mod Streamed
 pub mod Surviving
 pub mod Taking
 pub mod Windows

@@ -56,3 +56,8 @@ abbrev pub AreFit : Service → Taken → Type 0
 AreFit service (takens.Refused reply) = IsReply (fields_of service) reply × (want reply ≡ 0)
 AreFit service (takens.Answered reply) = IsReply (fields_of service) reply
 AreFit service taken = ⊤
+
+-- nothing is put into the group where no message was handled
+abbrev pub Leaves : Grouped → Grouped → Taken → Type 0
+Leaves before after (takens.Answered reply) = ⊤
+Leaves before after taken = after ≡ before

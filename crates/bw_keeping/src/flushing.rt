@@ -1,60 +1,60 @@
 //! What waits is kept and answered.
-ghost use Rattle.std.specs.Prelude.{◌≡◌, ◌⊎◌, ◌<◌, ◌≤◌, [], length, OnOk, OnErr};
+ghost use Rattle.std.specs.Prelude.{◌≡◌, ◌≢◌, ◌⊎◌, ◌<◌, ◌≤◌, [], length, OnOk, OnErr};
 ghost use Rattle.std.specs.List.{AllByRecursion};
 ghost use Rattle.bw_out.specs.Causes.{HasCause, Shows};
 ghost use Rattle.bw_keeping.specs.Groups.{HasRoom};
 ghost use Rattle.bw_keeping.specs.Taking.{AreFit};
 ghost use Rattle.bw_keeping.specs.declared.waiting.TheConstants.{MAX_WAITING};
-ghost use Rattle.bw_keeping.specs.Steps.{Closes, Finishes, Flushes, Keeps, desk, written};
+ghost use Rattle.bw_keeping.specs.Steps.{Closes, Finishes, Flushes, Keeps, desk};
 
 use crate::doors::WideDoor;
 use crate::ended::Ended;
 use crate::group::Group;
 use crate::replying::{give_up_all, reply_to_all};
 use crate::room::Room;
-use crate::waiting::Queue;
-use bw_out::{Door, Failed};
+use bw_out::{Channel, Door, Failed};
 use bw_stable::Journal;
 use bw_world::World;
 
 /// Keeps bytes in one piece, if there are some. What is written on the links that wait is told with it.
-fn keep_bytes<D: WideDoor, J: Journal>(
+fn keep_bytes<D: Door, C: Channel, J: Journal>(
     bytes: &[u8],
-    queue: &Queue<D::Link>,
+    links: &C,
     door: &D,
     journal: &mut J,
 ) -> Result<(), Failed>
     requires { J.is_sound journal.old }
-    ensures keeps { OnOk result (Keeps (J.deeds journal.old) (J.deeds journal.new) bytes.now (D.returned door.now)
-        (written D.Link.Channel queue.now.links.items)) }
+    ensures keeps { OnOk result (Keeps (J.deeds journal.old) (J.deeds journal.new) bytes.now (D.returned door.now) (C.held links.now)) }
     ensures none { OnErr result (J.deeds journal.new ≡ J.deeds journal.old) }
+    ensures some { OnErr result (bytes.now ≢ []) }
     ensures sound { OnOk result (J.is_sound journal.new) }
     ensures cause { HasCause (J.faults journal.old) (J.faults journal.new) result }
 {
     if bytes.is_empty() {
         return Ok(());
     }
-    journal.keep(door, queue, bytes)
+    journal.keep(door, links, bytes)
 }
 
-/// Keeps the entries of the group in one piece, if there are some, and lets them go.
-fn keep_group<D: WideDoor, J: Journal>(
+/// Keeps the entries of the group in one piece, if there are some, and lets them go. What is written on the links that wait, or
+/// on the link that is answered, is told with it.
+pub(crate) fn keep_group<D: Door, C: Channel, J: Journal>(
     group: &mut Group,
-    queue: &Queue<D::Link>,
+    links: &C,
     door: &D,
     journal: &mut J,
 ) -> Result<(), Failed>
     requires { J.is_sound journal.old }
-    ensures keeps { OnOk result (Keeps (J.deeds journal.old) (J.deeds journal.new) group.old.bytes (D.returned door.now)
-        (written D.Link.Channel queue.now.links.items)) }
+    ensures keeps { OnOk result (Keeps (J.deeds journal.old) (J.deeds journal.new) group.old.bytes (D.returned door.now) (C.held links.now)) }
     ensures none { OnErr result (J.deeds journal.new ≡ J.deeds journal.old) }
+    ensures some { OnErr result (group.old.bytes ≢ []) }
     ensures bytes { OnOk result (group.new.bytes ≡ []) }
     ensures room { OnOk result (HasRoom group.new) }
     ensures sum { group.new.sum ≡ group.old.sum }
     ensures sound { OnOk result (J.is_sound journal.new) }
     ensures cause { HasCause (J.faults journal.old) (J.faults journal.new) result }
 {
-    keep_bytes(group.bytes(), queue, door, journal)?;
+    keep_bytes(group.bytes(), links, door, journal)?;
     group.clear();
     Ok(())
 }

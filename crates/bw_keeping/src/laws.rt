@@ -1,7 +1,8 @@
-//! Laws of journals and worlds, and of links that are served beside a journal. A law is the contract of an empty function.
+//! Laws of journals and worlds, and of links that are served and streams that are answered beside a journal. A law is the contract of an empty function.
 ghost use Rattle.bw_keeping.specs.EntryLaws.{BringsByParts, BringsInParts, BringsKeepSound, BringsKeepWithin, BringsOnce, BringsReach};
 ghost use Rattle.bw_keeping.specs.Laws.{AnsweredBring, AnsweredFit, KeptInParts, PiecesAreGroups};
 ghost use Rattle.bw_keeping.specs.Restarts.{CutsLeaveEntries, HeadsAreBegun, RestartsGoOn};
+ghost use Rattle.bw_keeping.specs.StreamLaws.{HandledBring, HandledFit, KeptFirstInParts, StreamsKeepWithin, StreamsSurvive};
 ghost use Rattle.bw_keeping.specs.Surviving.{LinksSurvive};
 
 /// The same entries bring about one world.
@@ -55,4 +56,23 @@ pub fn pieces_are_groups()
 /// link was given back but these, and those of which nothing is kept. The world goes on from there as if there had been no crash.
 pub fn links_survive()
     ensures { LinksSurvive }
+{}
+
+/// What is kept of messages of a stream that were handled one after another brings about the world that they left.
+pub fn handled_bring()
+    ensures bring { HandledBring }
+    ensures fit { HandledFit }
+{}
+
+/// Whenever a crash comes in the course of a stream that is answered beside a journal, and whatever it leaves: the file is a journal
+/// of what is kept of the first messages, all pieces that were kept whole among it, and of at most one piece more. No byte of a
+/// reply was written but to these, and to those of which nothing is kept. The world goes on from there as if there had been no crash.
+pub fn streams_survive()
+    ensures parts { KeptFirstInParts }
+    ensures survive { StreamsSurvive }
+{}
+
+/// However a stream was answered beside a journal, what sessions stored stays within the formats.
+pub fn streams_keep_within()
+    ensures { StreamsKeepWithin }
 {}

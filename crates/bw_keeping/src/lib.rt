@@ -1,5 +1,5 @@
-//! A service beside a journal: its world is brought back (`recall`), and links are served so that what is kept of a message
-//! is in the journal before a byte of its reply is sent (`serve_kept`).
+//! A service beside a journal: its world is brought back (`recall`), and links are served (`serve_kept`), or the messages of one
+//! stream answered (`answer_kept`), so that what is kept of a message is in the journal before a byte of its reply is sent.
 //!
 //! **What is kept.** A journal keeps of each request that a page answered the bytes of its message and the key that was
 //! drawn for it. A request is one step of the world by its key, so these entries, one after another, bring about the world
@@ -9,9 +9,12 @@
 //! what is kept of all of them goes into the journal in one piece, and they are sent their replies in the order in which
 //! they came. So where many clients come at once, one wait for the disk serves many of them.
 //!
+//! **A stream** is answered message by message: the entry of each is kept in a piece of its own.
+//!
 //! **What is promised.** `serve_kept` says what each link that was given back got, by one run of the world over all of them,
 //! and that its entry stood in a piece that was kept while neither it nor a later link had been given back. Where the
-//! door or the journal fails, the links of which nothing was kept are given back without a byte.
+//! door or the journal fails, the links of which nothing was kept are given back without a byte. `answer_kept` says what each
+//! message of the stream got, and what had been written when its entry was kept: the replies in front, and nothing of its own.
 #![tactic(auto)]
 
 pub mod doors;
@@ -20,22 +23,26 @@ mod flushing;
 mod group;
 mod handling;
 pub mod laws;
+pub mod lent;
 mod notes;
 mod recalling;
 mod replying;
 mod room;
 mod serving;
+mod streaming;
 mod taken;
 mod taking;
 mod waiting;
 mod window;
 
 pub use doors::WideDoor;
-pub use ended::Ended;
+pub use ended::{Ended, StreamEnded};
 pub use group::Group;
+pub use lent::{Handler, StreamRoom};
 pub use notes::Notes;
 pub use recalling::{Recalled, recall};
 pub use room::Room;
 pub use serving::serve_kept;
+pub use streaming::answer_kept;
 pub use taken::Taken;
 pub use taking::take_kept;

@@ -14,7 +14,7 @@ use bw_out::{Channel, Failed, Source};
 use std::alloc::Global;
 use std::marker::Model;
 
-/// The bytes that were read of a link for one message, with the memory for the longest message. Contracts see the bytes.
+/// The bytes of a link from one message on, with the memory for the longest message. Contracts see the bytes.
 #[derive(Drop)]
 pub struct Notes {
     bytes: Vec<u8>,
@@ -53,6 +53,14 @@ impl Notes {
         ensures { self.new ≡ [] }
     {
         self.bytes.clear();
+    }
+
+    /// Notes these bytes alone, unless there is no room for them. It says whether they are noted.
+    fn begin(&mut self, bytes: &[u8]) -> bool
+        ensures { result ≡ true → self.new ≡ bytes.now }
+    {
+        self.clear();
+        self.note(bytes)
     }
 
     /// Notes bytes behind the others, unless there is no room for them. It says whether they are noted.
@@ -104,7 +112,8 @@ impl<C: Source> Source for Noting<'_, C> {
     }
 }
 
-/// Reads a request, and notes the bytes that were read. It says whether some were lost for want of room.
+/// Reads a request, and notes the bytes that the intake held and those that were read. It says whether some were lost for
+/// want of room.
 pub(crate) fn read_noted<C: Source>(
     alloc: Global,
     intake: &mut Intake,
@@ -113,15 +122,11 @@ pub(crate) fn read_noted<C: Source>(
 ) -> (Result<Request, ReadOutcome>, bool)
     ensures taken { ComesOf (C.left link.old) (C.left link.new) intake.old result.0 intake.new }
     ensures stream { Tells (C.left link.old) (C.left link.new) intake.old result.0 intake.new }
-    ensures noted { result.1 ≡ false → IsFilled (C.left link.old) (C.left link.new) [] notes.new }
+    ensures noted { result.1 ≡ false → IsFilled (C.left link.old) (C.left link.new) intake.old notes.new }
     ensures takes { Takes C.Channel link.old link.new (IsErrOf result.0 ReadOutcome.ReadFault) }
 {
-    notes.clear();
-    let mut noting = Noting {
-        link,
-        notes,
-        lost: false,
-    };
+    let lost = !notes.begin(intake.bytes());
+    let mut noting = Noting { link, notes, lost };
     let outcome = read_request(alloc, intake, &mut noting);
     let lost = noting.lost;
     (outcome, lost)

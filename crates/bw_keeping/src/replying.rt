@@ -3,6 +3,7 @@ ghost use Rattle.std.specs.Prelude.{◌≡◌, ◌≤◌, [], List, length};
 ghost use Rattle.std.specs.List.{AllByRecursion};
 ghost use Rattle.bw_keeping.specs.Taking.{AreFit};
 ghost use Rattle.bw_out.specs.Doors.{Returned};
+ghost use Rattle.bw_out.specs.Sends.{Sends};
 ghost use Rattle.bw_http.specs.Replies.{IsReply};
 ghost use Rattle.bw_world.specs.Stands.{fields_of};
 ghost use Rattle.bw_world.specs.Streams.Courses.{bytes_by};
@@ -12,7 +13,7 @@ use crate::doors::WideDoor;
 use crate::taken::Taken;
 use crate::waiting::{Queue, Waiting};
 use bw_http::{Reply, write_reply};
-use bw_out::{Sink, Source};
+use bw_out::{Sink, Source, WriteFault};
 use bw_world::World;
 
 /// Sends the reply that is due on a link, if one is, and gives the link. A fault ends this link alone.
@@ -27,12 +28,20 @@ fn reply_to<C: Source + Sink>(world: &World, waiting: Waiting<C>) -> C
     }
 }
 
+/// Sends a reply on a link. After a fault a first part of it is written.
+pub(crate) fn send<C: Sink>(world: &World, reply: Reply, link: &mut C) -> Result<(), WriteFault>
+    requires { IsReply (fields_of world.now.service) reply }
+    ensures { Sends C.Channel link.old link.new (bytes_by world.now.service reply) result }
+{
+    write_reply(reply, world.checked().typed().fields(), link)
+}
+
 /// Sends a reply on a link, and gives the link.
 fn send_on<C: Source + Sink>(world: &World, mut link: C, reply: Reply) -> C
     requires { IsReply (fields_of world.now.service) reply }
     ensures { IsSent C.Channel link result (bytes_by world.now.service reply) }
 {
-    let _ = write_reply(reply, world.checked().typed().fields(), &mut link);
+    let _ = send(world, reply, &mut link);
     link
 }
 

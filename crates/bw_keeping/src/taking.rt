@@ -1,5 +1,5 @@
 //! A message is taken, handled and put into a group.
-ghost use Rattle.std.specs.Prelude.{◌≡◌, ◌≤◌, ◌-◌, [], length, take};
+ghost use Rattle.std.specs.Prelude.{◌≡◌, ◌≤◌, ◌-◌, length, take};
 ghost use Rattle.bw_http.specs.Replies.{IsReply};
 ghost use Rattle.bw_model.specs.Laws.{is_page as is_page_of};
 ghost use Rattle.bw_out.specs.Sends as sends;
@@ -8,7 +8,7 @@ ghost use Rattle.bw_world.specs.Stands.{fields_of};
 ghost use Rattle.bw_world.specs.Streams.Answers.{place};
 ghost use Rattle.bw_world.specs.Streams.Good.{RepliesAreGood};
 ghost use Rattle.bw_keeping.specs.Groups.{HasRoom, IsKept};
-ghost use Rattle.bw_keeping.specs.Taking.{AreFit, Takes};
+ghost use Rattle.bw_keeping.specs.Taking.{AreFit, Leaves, Takes};
 
 use crate::group::Group;
 use crate::notes::{Notes, read_noted};
@@ -60,7 +60,7 @@ fn handle_kept<L: Ledger>(
     reply
 }
 
-/// Takes a message of the link, whose intake is empty, and handles it with the next key. Where its reply is a page, its
+/// Takes the next message of the link and handles it with the next key. Where its reply is a page, its
 /// entry is put behind the others of the group. Nothing is written.
 ///
 /// Where the message couldn't be noted, no key is drawn and the reply is `Memory`.
@@ -75,11 +75,11 @@ pub fn take_kept<C: Source + Sink, K: Keys, L: Ledger>(
     steps: &mut Steps<L>,
     group: &mut Group,
 ) -> Taken
-    requires none { intake.old ≡ [] }
     requires room { HasRoom group.old }
     ensures takes { Takes formats.now world.old.service (place C.Channel world.old intake.old link.old (K.coming keys.old) steps.old)
         (place C.Channel world.new intake.new link.new (K.coming keys.new) steps.new) group.old group.new result }
     ensures fit { AreFit world.old.service result }
+    ensures others { Leaves group.old group.new result }
     ensures reads { sends.Takes C.Channel link.old link.new (result ≡ Taken.ReadFault) }
     ensures service { world.new.service ≡ world.old.service }
     ensures pages { RepliesAreGood formats.now world.old.service (place C.Channel world.old intake.old link.old (K.coming keys.old) steps.old) }

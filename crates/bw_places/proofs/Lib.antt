@@ -1,6 +1,7 @@
 pub mod Dropping
 pub mod Skips
-pub mod Spelled
+pub mod Past
+pub mod Picks
 pub mod TagLaws
 pub mod Right
 pub mod Rests

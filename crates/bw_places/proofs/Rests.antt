@@ -1,20 +1,17 @@
 -- What is left of a list, one after the other.
-use Rattle.std.proofs.Common.{◌≡◌, ◌≢◌, ◌<◌, ℕ, suc, ◌+◌, ◌-◌, ◌==◌, true, false, if◌then◌else◌, List, [], ◌∷◌, length, get_or, drop, refl, ap, sym, ◌∙◌}
-use Rattle.std.proofs.Common.{arith, Some, None}
+use Rattle.std.proofs.Common.{◌≡◌, ◌≢◌, ◌<◌, ℕ, suc, ◌+◌, ◌-◌, ◌==◌, true, false, if◌then◌else◌, List, [], ◌∷◌, ◌++◌, length, get_or, drop, refl, ap, sym, ◌∙◌}
+use Rattle.std.proofs.Common.{arith, Some, None, append_assoc, append-nil}
 use Rattle.std.proofs.lemmas.Bool.{ne_eqb}
 use Rattle.std.proofs.lemmas.List.{at_drop_more, drop_more}
 use Rattle.bw_places.specs.Tags.{begins_tag, tag_place}
-use Rattle.bw_lang.specs.declared.declaration.Draft.{Draft}
 use Rattle.bw_lang.specs.declared.expr.Pair.{Pair}
 use Rattle.bw_lang.specs.declared.stmt.Stmt.{Stmt}
 use Rattle.bw_lang.specs.declared.stmt.Stmt.TheVariants.{Declare, Assign, If, While, Each, Block, Show, Exit}
 use Rattle.bw_lang.specs.Service.Code.{Code, done}
 use Rattle.bw_lang.specs.Service.CodeView.{before, code}
 use Rattle.bw_lang.specs.Service.TermView.{term, fillings}
-use Rattle.bw_places.specs.Counts.{term_tokens, pair_tokens, receive_tokens, code_tokens, draft_tokens, drafts_tokens}
-use Rattle.bw_places.specs.Seeking.{past, here, seek, seek_in, seek_all, declared_at}
-use Rattle.bw_places.specs.declared.span.Sought.{Sought}
-use Rattle.bw_places.specs.declared.span.Sought.TheVariants.{Found, Behind}
+use Rattle.bw_places.specs.Counts.{term_tokens, pair_tokens, receive_tokens, code_tokens}
+use Rattle.bw_places.specs.Seeking.{run, spans}
 
 pub pairs_at : (xs : List Pair) (i : ℕ) (x : Pair) → x ≡ get_or xs i x → i < length xs
     → pair_tokens (fillings (drop i xs)) ≡ 3 + term_tokens (term x.value) + pair_tokens (fillings (drop (i + 1) xs))
@@ -38,56 +35,46 @@ pub block_at : (xs : List Stmt) (i : ℕ) (x : Stmt) → x ≡ get_or xs i x →
 block_at xs i x e h = at_drop_more (λ l. code_tokens (code l)) xs i x h
     ∙ ap (λ (y : Stmt). code_tokens (before y (code (drop (i + 1) xs)))) (sym e) ∙ tokens_before x (code (drop (i + 1) xs))
 
--- seeking goes on behind what it didn't find
-one_past : (s : Sought) (d : ℕ) (g : ℕ → ℕ → Sought) → past (past s (λ j q. Behind j (q + d))) g ≡ past s (λ j q. g j (q + d))
-one_past (Found span) d g = refl
-one_past (Behind m p) d g = refl
+-- a statement without blocks, of so many tokens, and code behind it
+one_statement : (c : Code) (at count own : ℕ) → own ≡ count → run at count ∷ spans c (at + count) ≡ (run at count ∷ []) ++ spans c (at + own)
+one_statement c at count own e = ap (λ n. run at count ∷ spans c (at + n)) (sym e)
 
-past_done : (s : Sought) (g : ℕ → ℕ → Sought) → past (past s Behind) g ≡ past s g
-past_done (Found span) g = refl
-past_done (Behind m p) g = refl
+-- a block, a brace, and code behind that
+one_block : (b c : Code) (at end : ℕ) → at + code_tokens b + 1 ≡ end → spans b at ++ spans c (at + code_tokens b + 1) ≡ (spans b at ++ []) ++ spans c end
+one_block b c at end e = ap (λ n. spans b at ++ spans c n) e ∙ ap (λ l. l ++ spans c end) (sym (append-nil (spans b at)))
 
-two_past : (s : Sought) (f g : ℕ → ℕ → Sought) → past (past s (λ m p. past (f m p) (λ j q. Behind j (q + 1)))) g
-    ≡ past s (λ m p. past (f m p) (λ j q. g j (q + 1)))
-two_past (Found span) f g = refl
-two_past (Behind m p) f g = one_past (f m p) 1 g
+-- the statements of a statement, and then those behind it
+spans_before : (s : Stmt) (c : Code) (at : ℕ) → spans (before s c) at ≡ spans (before s done) at ++ spans c (at + code_tokens (before s done))
+spans_before (Declare k w e) c at =
+    let count = 4 + term_tokens (term e) in one_statement c at count (code_tokens (before (Declare k w e) done)) (omega arith)
+spans_before (Assign w e) c at =
+    let count = 3 + term_tokens (term e) in one_statement c at count (code_tokens (before (Assign w e) done)) (omega arith)
+spans_before (Show p rs) c at =
+    let count = 2 + term_tokens (term p) + receive_tokens rs in one_statement c at count (code_tokens (before (Show p rs) done)) (omega arith)
+spans_before (Exit p) c at =
+    let count = 2 + term_tokens (term p) in one_statement c at count (code_tokens (before (Exit p) done)) (omega arith)
+spans_before (Block b) c at = one_block b c (at + 1) (at + code_tokens (before (Block b) done)) (omega arith)
+spans_before (While t b) c at =
+    let count = 3 + term_tokens (term t) in
+    ap (λ l. run at count ∷ l) (one_block b c (at + count + 1) (at + code_tokens (before (While t b) done)) (omega arith))
+spans_before (Each w e b) c at =
+    let count = 5 + term_tokens (term e) in
+    ap (λ l. run at count ∷ l) (one_block b c (at + count + 1) (at + code_tokens (before (Each w e b) done)) (omega arith))
+spans_before (If t y None) c at =
+    let count = 3 + term_tokens (term t) in
+    ap (λ l. run at count ∷ l) (one_block y c (at + count + 1) (at + code_tokens (before (If t y None) done)) (omega arith))
+spans_before (If t y (Some z)) c at =
+    let count = 3 + term_tokens (term t) in
+    let mid = at + count + 1 + code_tokens y + 3 in
+    let first = spans y (at + count + 1) in
+    ap (λ l. run at count ∷ l)
+    (ap (λ l. first ++ l) (one_block z c mid (at + code_tokens (before (If t y (Some z)) done)) (omega arith))
+    ∙ sym (append_assoc first (spans z mid ++ []) (spans c (at + code_tokens (before (If t y (Some z)) done)))))
 
-three_past : (s : Sought) (f h g : ℕ → ℕ → Sought)
-    → past (past s (λ m p. past (f m p) (λ j q. past (h j q) (λ i r. Behind i (r + 1))))) g
-    ≡ past s (λ m p. past (f m p) (λ j q. past (h j q) (λ i r. g i (r + 1))))
-three_past (Found span) f h g = refl
-three_past (Behind m p) f h g = two_past (f m p) h g
-
-pub seek_before : (s : Stmt) (c : Code) (n at : ℕ) → seek (before s c) n at ≡ past (seek (before s done) n at) (seek c)
-seek_before (Declare k w e) c n at = sym (past_done (here n at (4 + term_tokens (term e))) (seek c))
-seek_before (Assign w e) c n at = sym (past_done (here n at (3 + term_tokens (term e))) (seek c))
-seek_before (If t y None) c n at = sym (two_past (here n at (3 + term_tokens (term t))) (λ m p. seek y m (p + 1)) (seek c))
-seek_before (If t y (Some z)) c n at =
-    sym (three_past (here n at (3 + term_tokens (term t))) (λ m p. seek y m (p + 1)) (λ j q. seek z j (q + 3)) (seek c))
-seek_before (While t b) c n at = sym (two_past (here n at (3 + term_tokens (term t))) (λ m p. seek b m (p + 1)) (seek c))
-seek_before (Each w e b) c n at = sym (two_past (here n at (5 + term_tokens (term e))) (λ m p. seek b m (p + 1)) (seek c))
-seek_before (Block b) c n at = sym (one_past (seek b n (at + 1)) 1 (seek c))
-seek_before (Show p rs) c n at = sym (past_done (here n at (2 + term_tokens (term p) + receive_tokens rs)) (seek c))
-seek_before (Exit p) c n at = sym (past_done (here n at (2 + term_tokens (term p))) (seek c))
-
-pub seek_at : (xs : List Stmt) (i : ℕ) (x : Stmt) (n at : ℕ) → x ≡ get_or xs i x → i < length xs
-    → seek (code (drop i xs)) n at ≡ past (seek (before x done) n at) (seek (code (drop (i + 1) xs)))
-seek_at xs i x n at e h = at_drop_more (λ l. seek (code l) n at) xs i x h
-    ∙ ap (λ (y : Stmt). seek (before y (code (drop (i + 1) xs))) n at) (sym e) ∙ seek_before x (code (drop (i + 1) xs)) n at
-
-pub drafts_at : (xs : List Draft) (i : ℕ) (x : Draft) → x ≡ get_or xs i x → i < length xs
-    → drafts_tokens (drop i xs) ≡ draft_tokens x + drafts_tokens (drop (i + 1) xs)
-drafts_at xs i x e h = at_drop_more drafts_tokens xs i x h ∙ ap (λ (y : Draft). draft_tokens y + drafts_tokens (drop (i + 1) xs)) (sym e)
-
-pub seek_all_at : (xs : List Draft) (i : ℕ) (x : Draft) (n at : ℕ) → x ≡ get_or xs i x → i < length xs
-    → seek_all (drop i xs) n at ≡ past (seek_in x n at) (seek_all (drop (i + 1) xs))
-seek_all_at xs i x n at e h = at_drop_more (λ l. seek_all l n at) xs i x h
-    ∙ ap (λ (y : Draft). past (seek_in y n at) (seek_all (drop (i + 1) xs))) (sym e)
-
-pub declared_here : (xs : List Draft) (i : ℕ) (x : Draft) (n at : ℕ) → x ≡ get_or xs i x → i < length xs
-    → declared_at (drop i xs) n at ≡ declared_at (x ∷ drop (i + 1) xs) n at
-declared_here xs i x n at e h = at_drop_more (λ l. declared_at l n at) xs i x h
-    ∙ ap (λ (y : Draft). declared_at (y ∷ drop (i + 1) xs) n at) (sym e)
+pub spans_at : (xs : List Stmt) (i : ℕ) (x : Stmt) (at : ℕ) → x ≡ get_or xs i x → i < length xs
+    → spans (code (drop i xs)) at ≡ spans (before x done) at ++ spans (code (drop (i + 1) xs)) (at + code_tokens (before x done))
+spans_at xs i x at e h = at_drop_more (λ l. spans (code l) at) xs i x h
+    ∙ ap (λ (y : Stmt). spans (before y (code (drop (i + 1) xs))) at) (sym e) ∙ spans_before x (code (drop (i + 1) xs)) at
 
 pub tag_step : (xs : List ℕ) (i n at : ℕ) → i < length xs → tag_place (drop i xs) n at
     ≡ (if begins_tag (drop i xs) then (if n == 0 then Some at else tag_place (drop (i + 1) xs) (n - 1) (at + 1))

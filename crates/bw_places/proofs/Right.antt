@@ -3,10 +3,8 @@ use Rattle.std.proofs.Common.{◌≡◌, ◌<◌, ◌≤◌, ℕ, zero, suc, ◌
 use Rattle.std.specs.List.{slice_get}
 use Rattle.bw_lang.specs.declared.token.Lexeme.{Lexeme}
 use Rattle.bw_places.specs.Heads.{Head, spell_head}
-use Rattle.bw_places.specs.Seeking.{run, past, here}
+use Rattle.bw_places.specs.Seeking.{Sought, Found, Behind, run, past, here}
 use Rattle.bw_places.specs.Standing.{Stands}
-use Rattle.bw_places.specs.declared.span.Sought.{Sought}
-use Rattle.bw_places.specs.declared.span.Sought.TheVariants.{Found, Behind}
 use Rattle.bw_places.proofs.Dropping.{some_less}
 
 -- the statement n of these, which end in front of this token, was found where it stands; or it isn't among them

@@ -12,14 +12,12 @@ use Rattle.bw_lang.specs.Text.Spelling.{spell_code}
 use Rattle.bw_places.specs.Counts.{term_tokens, receive_tokens, code_tokens, draft_tokens, drafts_tokens}
 use Rattle.bw_places.specs.Heads.{Head, declares, assigns, tests, repeats, goes_over, shows, exits, spell_head, head_tokens, heads, heads_in, heads_of}
 use Rattle.bw_places.specs.Laws.{StatementsStand, DeclarationsStand}
-use Rattle.bw_places.specs.Seeking.{run, past, here, seek, seek_in, seek_all, declared_at}
+use Rattle.bw_places.specs.Seeking.{Sought, Found, Behind, run, past, here, seek, seek_in, seek_all, declared_at}
 use Rattle.bw_places.specs.Standing.{Stands}
 use Rattle.bw_places.specs.declared.span.Span.{Span}
-use Rattle.bw_places.specs.declared.span.Sought.{Sought}
-use Rattle.bw_places.specs.declared.span.Sought.TheVariants.{Found, Behind}
 use Rattle.bw_places.proofs.Dropping.{one_less, some_less}
 use Rattle.bw_places.proofs.Right.{Right, past_right, first_right}
-use Rattle.bw_places.proofs.Spelled.{past_head, past_code, past_draft, past_drafts}
+use Rattle.bw_places.proofs.Past.{past_head, past_code, past_draft, past_drafts}
 
 -- so many tokens later
 behind : (ls : List Lexeme) (at count : ℕ) (x k : List Lexeme) → drop at ls ≡ x → drop count x ≡ k → drop (at + count) ls ≡ k

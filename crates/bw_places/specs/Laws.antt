@@ -3,10 +3,9 @@ use Rattle.std.specs.Prelude.{◌≡◌, ◌<◌, ℕ, ◌-◌, List, ◌++◌, 
 use Rattle.bw_lang.specs.declared.declaration.Draft.{Draft}
 use Rattle.bw_lang.specs.Service.Drafts.{spell_draft, spell_service}
 use Rattle.bw_places.specs.Heads.{Head, heads_of, spell_head}
-use Rattle.bw_places.specs.Seeking.{seek_all, declared_at}
+use Rattle.bw_places.specs.Seeking.{Found, seek_all, declared_at}
 use Rattle.bw_places.specs.Standing.{Stands}
 use Rattle.bw_places.specs.declared.span.Span.{Span}
-use Rattle.bw_places.specs.declared.span.Sought.TheVariants.{Found}
 
 -- of each statement of a service the place is found, and there stands that statement, as it is written
 abbrev pub StatementsStand : Type 0

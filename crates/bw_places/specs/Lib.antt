@@ -1,4 +1,5 @@
 pub mod Counts
+pub mod Drafted
 pub mod Heads
 pub mod Laws
 pub mod Parts

@@ -4,8 +4,10 @@ ghost use Rattle.bw_lang.specs.Service.Code.{done};
 ghost use Rattle.bw_lang.specs.Service.CodeView.{before};
 ghost use Rattle.bw_lang.specs.Service.TermView.{term};
 ghost use Rattle.bw_places.specs.Counts as spec;
+ghost use Rattle.bw_places.specs.Drafted.{draft_of, written_as};
 
-use bw_lang::{Block, Draft, Expr, Pairs, Part, Receive, Stmt, Written};
+use crate::spelled::Spelled;
+use bw_lang::{Block, Expr, Literal, Pairs, Part, Receive, Stmt};
 
 /// The tokens of an expression.
 #[cycle(expr)]
@@ -95,24 +97,24 @@ pub fn stmt_tokens(stmt: &Stmt) -> usize
     }
 }
 
-/// The tokens of a literal.
-fn literal_tokens(literal: &Written) -> usize
-    ensures { result ≡ spec.literal_tokens literal.now }
+/// The tokens of a literal; of a number one more where `-` stands in front of it.
+fn literal_tokens(literal: &Literal, minus: bool) -> usize
+    ensures { result ≡ spec.literal_tokens (written_as minus literal.now) }
 {
     match literal {
-        Written::Minus(_) => 2,
-        Written::Plus(_) | Written::Bool(_) | Written::Str(_) | Written::Name(_) => 1,
+        Literal::Int(_) => { if minus { 2 } else { 1 } }
+        Literal::Bool(_) | Literal::Str(_) | Literal::Tmpl(_) => 1,
     }
 }
 
 /// The tokens of a declaration.
-pub fn draft_tokens(draft: &Draft) -> usize
-    requires { spec.draft_tokens draft.now < 2 ^ 63 }
-    ensures { result ≡ spec.draft_tokens draft.now }
+pub fn declaration_tokens(declaration: &Spelled<'_>) -> usize
+    requires { spec.draft_tokens (draft_of declaration.now) < 2 ^ 63 }
+    ensures { result ≡ spec.draft_tokens (draft_of declaration.now) }
 {
-    match draft {
-        Draft::Template { .. } => 5,
-        Draft::Shared { init, .. } => 5 + literal_tokens(init),
-        Draft::Session(session) => 6 + block_tokens(&session.body),
+    match declaration {
+        Spelled::Template { .. } => 5,
+        Spelled::Shared { variable, minus } => 5 + literal_tokens(&variable.init, *minus),
+        Spelled::Session(session) => 6 + block_tokens(&session.body),
     }
 }

@@ -6,9 +6,12 @@ pub mod laws;
 mod scopes;
 mod seeking;
 pub mod span;
+pub mod spelled;
 mod tags;
 
+pub use counting::declaration_tokens;
 pub use scopes::locals_at;
-pub use seeking::{declaration, statement};
-pub use span::{Sought, Span};
+pub use seeking::{declaration, statements};
+pub use span::Span;
+pub use spelled::Spelled;
 pub use tags::tag_place;

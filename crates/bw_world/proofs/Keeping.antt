@@ -118,7 +118,7 @@ looked service number next (x ∷ xs) a f s e = by (test x.0 number) (looked ser
           fewer = ap (λ b. length (cond b xs (x ∷ remove_entry (nat_eq number) xs)) + 1) h.1 ∙ omega (arith, k.fewer);
         }
 
-no_entry : (number : ℕ) (live : Sessions) → All (λ y. y.0 ≢ number) live → lookup_entry (nat_eq number) live ≡ None
+pub no_entry : (number : ℕ) (live : Sessions) → All (λ y. y.0 ≢ number) live → lookup_entry (nat_eq number) live ≡ None
 no_entry number [] h = refl
 no_entry number (x ∷ xs) h =
     ap (λ b. cond b (Some x) (lookup_entry (nat_eq number) xs)) (ne_eqb number x.0 (λ e. All-head (λ y. y.0 ≢ number) x xs h (sym e)))

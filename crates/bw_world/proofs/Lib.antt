@@ -13,5 +13,6 @@ pub mod Own
 pub mod Posted
 pub mod Refusals
 pub mod Refused
+pub mod Restored
 pub mod Standing
 pub mod Streams

@@ -4,6 +4,7 @@ pub mod Good
 pub mod Handled
 pub mod Kept
 pub mod Plain
+pub mod Restored
 pub mod Seen
 pub mod Stands
 pub mod Streams

@@ -8,6 +8,7 @@ pub mod laws;
 mod outcomes;
 mod pages;
 mod requests;
+pub mod restoring;
 mod state;
 mod steps;
 mod stream;
@@ -17,6 +18,7 @@ pub mod world;
 
 pub use ends::StreamEnd;
 pub use requests::guarded;
+pub use restoring::Parts;
 pub use stream::answer;
-pub use suspended::Suspended;
+pub use suspended::{Suspended, Suspendeds};
 pub use world::World;

@@ -4,13 +4,15 @@ ghost use Rattle.bw_http.specs.Replies.{IsReply};
 ghost use Rattle.bw_model.specs.Sessions.{empty};
 ghost use Rattle.bw_model.specs.Steps as model;
 ghost use Rattle.bw_sound.specs.Worlds.{BeginsSound};
-ghost use Rattle.bw_world.specs.Good.{IsGoodReply, HasGoodReply};
+ghost use Rattle.bw_world.specs.Good.{IsSound, IsGoodReply, HasGoodReply};
 ghost use Rattle.bw_world.specs.Kept.{IsKept, IsSuspended};
 ghost use Rattle.bw_world.specs.Plain.{is_plain};
+ghost use Rattle.bw_world.specs.Restored.{seen_of, loaded_world};
 ghost use Rattle.bw_world.specs.Seen.{found};
 ghost use Rattle.bw_world.specs.Stands.{StandsFor, Handles, Rises, fields_of};
 ghost use Rattle.bw_model.specs.declared.limits.TheConstants.{MAX_LIVE};
 
+use crate::restoring::Parts;
 use crate::state::State;
 use crate::suspended::Suspended;
 use bw_check::Checked;
@@ -73,6 +75,30 @@ impl World {
     {
         let state = State::new_at(alloc, checked, next, first)?;
         Ok(World { state })
+    }
+
+    /// The world of these parts, which goes on from their sessions. Among others it stands for the world of the meaning in
+    /// which each of them was loaded where it waits, and was sent nothing since.
+    pub fn restore(alloc: Global, parts: Parts) -> Result<World, Memory>
+        requires kept { IsKept (seen_of parts) }
+        requires sound { ∥ IsSound (seen_of parts) ∥₁ }
+        ensures same { IfOk result (λ w. w ≡ seen_of parts) }
+        ensures stands { IfOk result (λ w. StandsFor w (loaded_world parts)) }
+    {
+        let state = State::restore(alloc, parts)?;
+        Ok(World { state })
+    }
+
+    /// The parts of the world, which is given up, also where there is no memory. They are fit for `restore`, which makes the
+    /// same world of them.
+    pub fn dismantle(self, alloc: Global) -> Result<Parts, Memory>
+        ensures same { IfOk result (λ p. seen_of p ≡ self) }
+        ensures kept { IfOk result (λ p. IsKept (seen_of p)) }
+        ensures sound { IfOk result (λ p. ∥ IsSound (seen_of p) ∥₁) }
+    {
+        let World { state } = self;
+        let parts = state.dismantle(alloc)?;
+        Ok(parts)
     }
 
     /// The live session of this number and key, which waits at a show of its own with a fit frame. It takes no memory, and

@@ -1,17 +1,18 @@
 use Rattle.std.proofs.Common.{refl}
+use Rattle.bw_questions.specs.Asked.Task.{to_serve}
 use Rattle.bigwig.specs.Keeping.IsKept.{failed}
 use Rattle.bigwig.specs.Lent.{seen_of}
 use Rattle.bigwig.proofs.Beside.{begun_kept}
 use Rattle.bigwig.proofs.beginning.keep_begun.Goals as goal
 
 pub returns-in-Ok-clause-keeps : goal.returns-in-Ok-clause-keeps
-returns-in-Ok-clause-keeps g c ruled text content is found head sum =
-    begun_kept ruled text content c.args.opening.now.head.items c.args.place.port c.args.place.most c.args.room.now.group.sum c.args.server.now.world
-    c.args.opening.now.found
+returns-in-Ok-clause-keeps g c ruled text content is read =
+    begun_kept ruled text content c.args.opening.now.head.items (to_serve c.args.place.port c.args.place.most) c.args.room.now.group.sum
+    c.args.server.now.world c.args.opening.now.found
     (record (seen_of g.F.Files g.J.Journals g.D.Door g.K.Keys g.W.Channel c.args.lent.now) { deeds = g.I.Journal.deeds c.args.journal.now })
     (record (seen_of g.F.Files g.J.Journals g.D.Door g.K.Keys g.W.Channel c.args.lent.now) { deeds = g.I.Journal.deeds c.begin.new.journal })
     (record (seen_of g.F.Files g.J.Journals g.D.Door g.K.Keys g.W.Channel c.keep_port.new.lent) { deeds = g.I.Journal.deeds c.keep_port.new.journal })
-    c.keep_port.result found head c.requires.fresh c.in-Ok.ensures.begun refl sum (λ m stands fit. c.keep_port.ensures.serves ruled m is stands fit)
+    c.keep_port.result read c.requires.none c.in-Ok.ensures.begun refl (λ m stands fit. c.keep_port.ensures.serves ruled m is stands fit)
 
 pub returns-in-Err-clause-keeps : goal.returns-in-Err-clause-keeps
-returns-in-Err-clause-keeps g c ruled text content is found head sum = failed (record { prints = c.tell_fault.ensures.prints; kept = refl })
+returns-in-Err-clause-keeps g c ruled text content is read = failed (record { prints = c.tell_fault.ensures.prints; kept = refl })

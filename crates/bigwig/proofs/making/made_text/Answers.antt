@@ -1,9 +1,9 @@
 use Rattle.std.proofs.Common.{Vec, Global, ℕ, length, ap, sym, ◌∙◌}
-use Rattle.bigwig.specs.Asked.{made_work}
-use Rattle.bigwig.specs.Asked.Work.{prints}
-use Rattle.bigwig.specs.Checks.{ruled_by}
+use Rattle.bw_questions.specs.Asked.{made_work}
+use Rattle.bw_questions.specs.Asked.Work.{prints}
+use Rattle.bw_questions.specs.Checks.{ruled_by}
 use Rattle.bigwig.proofs.Sending.{made_gives, made_stops}
-use Rattle.bigwig.proofs.Stops.{stops_handed}
+use Rattle.bw_questions.proofs.Stops.{stops_handed}
 use Rattle.bigwig.proofs.making.made_text.Goals as goal
 
 pub returns-in_err-served-clause-answers : goal.returns-in_err-served-clause-answers

@@ -1,6 +1,6 @@
 use Rattle.std.proofs.Common.{sym, subst}
-use Rattle.bigwig.specs.Asked.{made_work}
-use Rattle.bigwig.specs.Asked.Work.{prints}
+use Rattle.bw_questions.specs.Asked.{made_work}
+use Rattle.bw_questions.specs.Asked.Work.{prints}
 use Rattle.bigwig.proofs.Endings.{stopped_so, text_so}
 use Rattle.bigwig.proofs.making.make_command.Goals as goal
 

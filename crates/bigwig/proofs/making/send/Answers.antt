@@ -1,5 +1,5 @@
 use Rattle.std.proofs.Common.{◌∙◌, arith, sym, subst}
-use Rattle.bigwig.specs.Making.{IsSent}
+use Rattle.bigwig.specs.Sending.{IsSent}
 use Rattle.bigwig.proofs.Sending.{way_begins, way_goes_on, way_ends}
 use Rattle.bigwig.proofs.making.send.Goals as goal
 

@@ -1,7 +1,8 @@
-use Rattle.bigwig.specs.Asked.{accepted_file, replayed, work}
-use Rattle.bigwig.specs.Checks.{ruled_by}
-use Rattle.bigwig.specs.declared.command.Command.TheVariants.{Replay}
-use Rattle.bigwig.proofs.Answering.{told_first}
+use Rattle.bw_questions.specs.Asked.{accepted_file}
+use Rattle.bigwig.specs.Asked.{replayed, work}
+use Rattle.bw_questions.specs.Checks.{ruled_by}
+use Rattle.bw_command.specs.declared.command.Command.TheVariants.{Replay}
+use Rattle.bw_questions.proofs.Answering.{told_first}
 use Rattle.bigwig.proofs.Endings.{stopped_speaks, speaks_replies}
 use Rattle.bigwig.proofs.Replies.{replies_found}
 use Rattle.bigwig.proofs.replaying.replay_command.Goals as goal

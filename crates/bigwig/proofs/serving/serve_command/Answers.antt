@@ -1,10 +1,11 @@
 use Rattle.bw_out.specs.Told.{Disk}
-use Rattle.bigwig.specs.Asked.{accepted_file, at_port, work, Work}
-use Rattle.bigwig.specs.Checks.{ruled_by}
+use Rattle.bw_questions.specs.Asked.{accepted_file, Work}
+use Rattle.bigwig.specs.Asked.{at_port, work}
+use Rattle.bw_questions.specs.Checks.{ruled_by}
 use Rattle.bigwig.specs.Lent.{seen_of}
-use Rattle.bigwig.specs.Questions.{Question}
-use Rattle.bigwig.specs.declared.command.Command.TheVariants.{Serve}
-use Rattle.bigwig.proofs.Answering.{told_first}
+use Rattle.bw_questions.specs.Questions.{Question}
+use Rattle.bw_command.specs.declared.command.Command.TheVariants.{Serve}
+use Rattle.bw_questions.proofs.Answering.{told_first}
 use Rattle.bigwig.proofs.Endings.{stopped_speaks, speaks_comes}
 use Rattle.bigwig.proofs.Replies.{port_comes}
 use Rattle.bigwig.proofs.serving.serve_command.Goals as goal

@@ -1,6 +1,4 @@
-use Rattle.std.proofs.Common.{◌≡◌, ◌+◌, ◌∷◌, [], length, refl, sym, ap, ◌∙◌, subst, arith, length-append}
-use Rattle.std.specs.List.{AllByRecursion}
-use Rattle.bw_keeping.specs.Taking.{AreFit}
+use Rattle.std.proofs.Common.{◌≡◌, length, refl, ap, ◌∙◌, subst, arith}
 use Rattle.bw_keeping.specs.Served.{view}
 use Rattle.bw_keeping.specs.Steps.{GivesBackAll, desk, unanswered}
 use Rattle.bw_keeping.proofs.Counting.{none_out, one_longer, one_out}

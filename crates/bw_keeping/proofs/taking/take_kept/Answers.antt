@@ -1,4 +1,4 @@
-use Rattle.std.proofs.Common.{◌≡◌, ◌≤◌, ℕ, List, ◌++◌, Some, Ok, length, sym, subst}
+use Rattle.std.proofs.Common.{◌≡◌, ◌≤◌, ℕ, List, ◌++◌, Some, length, sym, subst}
 use Rattle.bw_http.specs.Cuts.{Tells}
 use Rattle.bw_http.specs.Messages.{ComesOf}
 use Rattle.bw_journal.specs.declared.limits.TheConstants.{MAX_MESSAGE_BYTES}
@@ -22,12 +22,10 @@ returns-else-lost-clause-takes g c =
     let now = c.read_noted-outcome.new.intake in
     let r = c.in-Ok.request in
     let tells = subst (λ o. Tells told after c.args.intake.now o now) c.in-Ok.is c.read_noted-outcome.ensures.stream in
-    let from_start = subst (λ (held : List ℕ). Tells told after held (Ok r) now) c.requires.none tells in
     let message = c.front_of-message.result.now in
     let noted : (bytes : List ℕ) → told ≡ Some bytes → IsNoted (c.args.intake.now ++ bytes) message r =
-    λ bytes is. subst (λ (held : List ℕ). IsNoted (held ++ bytes) message r) (sym c.requires.none)
-    (noted_as told after bytes c.read_noted-outcome.new.notes now c.bytes.result.now c.bytes-in-Ok.result.now message r is from_start
-    (c.read_noted-outcome.ensures.noted c.if-lost.false) c.bytes.ensures.value c.bytes-in-Ok.ensures.value c.front_of-message.ensures) in
+    λ bytes is. noted_as told after bytes c.args.intake.now c.read_noted-outcome.new.notes now c.bytes.result.now c.bytes-in-Ok.result.now message r is
+    tells (c.read_noted-outcome.ensures.noted c.if-lost.false) c.bytes.ensures.value c.bytes-in-Ok.ensures.value c.front_of-message.ensures in
     let few = subst (λ (x : List ℕ). length x ≤ MAX_MESSAGE_BYTES) (sym c.bytes.ensures.value) c.bytes.ensures.few in
     request_kept c.args.formats.now _ _ c.args.group.now c.handle_kept.new.group r c.draw-key.result c.handle_kept.result message tells c.draw-key.ensures
     c.handle_kept.ensures.step c.handle_kept.ensures.service c.handle_kept.ensures.kept (g.met.K.Keys.fit c.args.keys.now)

@@ -1,5 +1,0 @@
-use Rattle.std.proofs.Common.{◌≡◌, map, take}
-use Rattle.bigwig.proofs.checking.page_names.Given as goal
-
-abbrev pub invariant-loop-template : goal.invariant-loop-template
-invariant-loop-template l = l.names ≡ map (λ t. t.name) (take l.template-index l.template-items)

@@ -1,8 +1,0 @@
-use Rattle.bigwig.specs.Behind.{shown_of}
-use Rattle.bigwig.proofs.Loads.{ill_typed}
-use Rattle.bigwig.proofs.loading.resolved.Goals as goal
-
-pub returns-in-Err-clause-answers : goal.returns-in-Err-clause-answers
-returns-in-Err-clause-answers c =
-    ill_typed (shown_of c.args.how) c.args.service _ c.in-Err.fault c.type_text.result c.refused_text.result c.refused_text.ensures.text
-    c.refused_text.ensures.memory c.type_text.ensures.text c.type_text.ensures.reason c.in-Ok.ensures c.in-Err.ensures.fault

@@ -1,0 +1,267 @@
+//! The words of the command line are read.
+ghost use Rattle.std.specs.Prelude.{◌≡◌, None, Some, IfOk, IfErr, IsErrOf};
+ghost use Rattle.bw_command.specs.Commands as spec;
+ghost use Rattle.bw_command.specs.Numbers.{number_or};
+ghost use Rattle.bw_command.specs.Words as words;
+ghost use Rattle.bw_command.specs.declared.command.TheConstants.{DEFAULT_PORT, MAX_PORT};
+
+use crate::command::{
+    Command, DEFAULT_PORT, Judging, MAX_LINKS, MAX_PORT, MAX_REQUESTS, MAX_WORKERS,
+};
+use crate::numbers::{number_in, number_or};
+use crate::words::{Line, WordsFault, read_line, texts_of};
+use bw_lang::{Memory, Text, Words};
+use bw_make::MAX_PAGES;
+use std::alloc::Global;
+
+/// The command that the words give. `Refused` comes exactly where they are refused, and `Memory` for want of memory
+/// alone.
+pub fn read_words(alloc: Global, words: &Words) -> Result<Command, WordsFault>
+    ensures ok { IfOk result (λ c. (spec.command_of words.now ≡ Some c) × spec.IsInRange c) }
+    ensures refused { IsErrOf result WordsFault.Refused → spec.command_of words.now ≡ None }
+{
+    match texts_of(alloc, words) {
+        Ok(texts) => match read_line(alloc, &texts) {
+            Ok(line) => command_by(alloc, &line),
+            Err(fault) => Err(fault),
+        },
+        Err(Memory) => Err(WordsFault::Memory),
+    }
+}
+
+/// The command that is written so.
+fn command_by(alloc: Global, line: &Line<'_>) -> Result<Command, WordsFault>
+    ensures ok { IfOk result (λ c. (spec.command_by (words.line_of line.now) ≡ Some c) × spec.IsInRange c) }
+    ensures refused { IsErrOf result WordsFault.Refused → spec.command_by (words.line_of line.now) ≡ None }
+{
+    let name = line.command.ok_or(WordsFault::Refused)?;
+    if name == "check" {
+        check_by(alloc, line)
+    } else if name == "replay" {
+        replay_by(alloc, line)
+    } else if name == "serve" {
+        serve_by(alloc, line)
+    } else if name == "valid" {
+        valid_by(alloc, line)
+    } else if name == "make" {
+        make_by(line)
+    } else if name == "light" {
+        light_by(alloc, line)
+    } else {
+        Err(WordsFault::Refused)
+    }
+}
+
+/// A text of its own.
+fn owned(alloc: Global, text: &str) -> Result<Text, WordsFault>
+    ensures ok { IfOk result (λ own. own ≡ text.now) }
+    ensures memory { IfErr result (λ e. e ≡ WordsFault.Memory) }
+{
+    match Text::of(alloc, text) {
+        Ok(own) => Ok(own),
+        Err(Memory) => Err(WordsFault::Memory),
+    }
+}
+
+/// The same, where there is one.
+fn owned_option(alloc: Global, text: Option<&str>) -> Result<Option<Text>, WordsFault>
+    ensures ok { IfOk result (λ own. own ≡ words.text_of text.entry) }
+    ensures memory { IfErr result (λ e. e ≡ WordsFault.Memory) }
+{
+    match text {
+        Some(text) => Ok(Some(owned(alloc, text)?)),
+        None => Ok(None),
+    }
+}
+
+/// Whether a flag is written.
+fn is_written(text: Option<&str>) -> bool
+    ensures { result ≡ spec.is_written (words.text_of text.entry) }
+{
+    match text {
+        Some(text) => text == "true",
+        None => false,
+    }
+}
+
+/// What a service is judged by: the schema that is named, if one is, and by 1 worker where no number is named; and whether
+/// its source is shown where it is refused.
+fn judging_by(alloc: Global, line: &Line<'_>) -> Result<Judging, WordsFault>
+    ensures ok { IfOk result (λ j. (spec.judging_by (words.line_of line.now) ≡ Some j) × spec.AreWorkers j.workers) }
+    ensures refused { IsErrOf result WordsFault.Refused → spec.judging_by (words.line_of line.now) ≡ None }
+{
+    let workers = number_or(1, MAX_WORKERS, 1, line.workers).ok_or(WordsFault::Refused)?;
+    let schema = owned_option(alloc, line.schema)?;
+    Ok(Judging {
+        schema,
+        workers,
+        source: is_written(line.source),
+    })
+}
+
+/// `check SERVICE`.
+fn check_by(alloc: Global, line: &Line<'_>) -> Result<Command, WordsFault>
+    ensures ok { IfOk result (λ c. (spec.check_by (words.line_of line.now) ≡ Some c) × spec.IsInRange c) }
+    ensures refused { IsErrOf result WordsFault.Refused → spec.check_by (words.line_of line.now) ≡ None }
+{
+    if line.limit.is_some()
+        || line.port.is_some()
+        || line.formats.is_some()
+        || line.journal.is_some()
+        || line.second.is_some()
+    {
+        return Err(WordsFault::Refused);
+    }
+    let service = line.first.ok_or(WordsFault::Refused)?;
+    let judging = judging_by(alloc, line)?;
+    Ok(Command::Check {
+        service: owned(alloc, service)?,
+        judging,
+    })
+}
+
+/// `replay SERVICE REQUESTS`, beside a journal where one is named.
+fn replay_by(alloc: Global, line: &Line<'_>) -> Result<Command, WordsFault>
+    ensures ok { IfOk result (λ c. (spec.replay_by (words.line_of line.now) ≡ Some c) × spec.IsInRange c) }
+    ensures refused { IsErrOf result WordsFault.Refused → spec.replay_by (words.line_of line.now) ≡ None }
+{
+    if line.port.is_some() {
+        return Err(WordsFault::Refused);
+    }
+    let service = line.first.ok_or(WordsFault::Refused)?;
+    let requests = line.second.ok_or(WordsFault::Refused)?;
+    let most = number_or(1, MAX_REQUESTS, MAX_REQUESTS, line.limit).ok_or(WordsFault::Refused)?;
+    let judging = judging_by(alloc, line)?;
+    let service = owned(alloc, service)?;
+    let requests = owned(alloc, requests)?;
+    let formats = owned_option(alloc, line.formats)?;
+    match line.journal {
+        None => Ok(Command::Replay {
+            service,
+            requests,
+            judging,
+            formats,
+            most,
+        }),
+        Some(journal) => Ok(Command::Resume {
+            service,
+            requests,
+            judging,
+            formats,
+            journal: owned(alloc, journal)?,
+            most,
+        }),
+    }
+}
+
+/// `serve SERVICE`, beside a journal where one is named.
+fn serve_by(alloc: Global, line: &Line<'_>) -> Result<Command, WordsFault>
+    ensures ok { IfOk result (λ c. (spec.serve_by (words.line_of line.now) ≡ Some c) × spec.IsInRange c) }
+    ensures refused { IsErrOf result WordsFault.Refused → spec.serve_by (words.line_of line.now) ≡ None }
+{
+    if line.second.is_some() {
+        return Err(WordsFault::Refused);
+    }
+    let service = line.first.ok_or(WordsFault::Refused)?;
+    let port = port_of(line.port).ok_or(WordsFault::Refused)?;
+    let most = number_or(1, MAX_LINKS, MAX_LINKS, line.limit).ok_or(WordsFault::Refused)?;
+    let judging = judging_by(alloc, line)?;
+    let service = owned(alloc, service)?;
+    let formats = owned_option(alloc, line.formats)?;
+    match line.journal {
+        None => Ok(Command::Serve {
+            service,
+            judging,
+            formats,
+            port,
+            most,
+        }),
+        Some(journal) => Ok(Command::Keep {
+            service,
+            judging,
+            formats,
+            journal: owned(alloc, journal)?,
+            port,
+            most,
+        }),
+    }
+}
+
+/// The port that is named, and 8080 where none is.
+fn port_of(text: Option<&str>) -> Option<u16>
+    ensures { result ≡ number_or 1 MAX_PORT DEFAULT_PORT (words.text_of text.entry) }
+{
+    match text {
+        None => Some(DEFAULT_PORT),
+        Some(text) => match number_in(1, MAX_PORT, text) {
+            Some(port) => Some(port as u16),
+            None => None,
+        },
+    }
+}
+
+/// `valid PAGE`.
+fn valid_by(alloc: Global, line: &Line<'_>) -> Result<Command, WordsFault>
+    ensures ok { IfOk result (λ c. (spec.valid_by (words.line_of line.now) ≡ Some c) × spec.IsInRange c) }
+    ensures refused { IsErrOf result WordsFault.Refused → spec.valid_by (words.line_of line.now) ≡ None }
+{
+    if line.workers.is_some()
+        || line.limit.is_some()
+        || line.port.is_some()
+        || line.formats.is_some()
+        || line.journal.is_some()
+        || is_written(line.source)
+        || line.second.is_some()
+    {
+        return Err(WordsFault::Refused);
+    }
+    let page = line.first.ok_or(WordsFault::Refused)?;
+    Ok(Command::Valid {
+        page: owned(alloc, page)?,
+        schema: owned_option(alloc, line.schema)?,
+    })
+}
+
+/// `make N`.
+fn make_by(line: &Line<'_>) -> Result<Command, WordsFault>
+    ensures ok { IfOk result (λ c. (spec.make_by (words.line_of line.now) ≡ Some c) × spec.IsInRange c) }
+    ensures refused { IfErr result (λ e. (e ≡ WordsFault.Refused) × (spec.make_by (words.line_of line.now) ≡ None)) }
+{
+    if line.schema.is_some()
+        || line.limit.is_some()
+        || line.port.is_some()
+        || line.formats.is_some()
+        || line.journal.is_some()
+        || is_written(line.source)
+        || line.second.is_some()
+    {
+        return Err(WordsFault::Refused);
+    }
+    let count = line.first.ok_or(WordsFault::Refused)?;
+    let count = number_in(1, MAX_PAGES, count).ok_or(WordsFault::Refused)?;
+    let workers = number_or(1, MAX_WORKERS, 1, line.workers).ok_or(WordsFault::Refused)?;
+    Ok(Command::Make { count, workers })
+}
+
+/// `light FORMATS TEXTS`.
+fn light_by(alloc: Global, line: &Line<'_>) -> Result<Command, WordsFault>
+    ensures ok { IfOk result (λ c. (spec.light_by (words.line_of line.now) ≡ Some c) × spec.IsInRange c) }
+    ensures refused { IsErrOf result WordsFault.Refused → spec.light_by (words.line_of line.now) ≡ None }
+{
+    if line.schema.is_some()
+        || line.workers.is_some()
+        || line.limit.is_some()
+        || line.port.is_some()
+        || line.formats.is_some()
+        || line.journal.is_some()
+        || is_written(line.source)
+    {
+        return Err(WordsFault::Refused);
+    }
+    let formats = line.first.ok_or(WordsFault::Refused)?;
+    let texts = line.second.ok_or(WordsFault::Refused)?;
+    Ok(Command::Light {
+        formats: owned(alloc, formats)?,
+        texts: owned(alloc, texts)?,
+    })
+}

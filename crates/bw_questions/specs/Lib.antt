@@ -1,0 +1,9 @@
+pub mod Asked
+pub mod Behind
+pub mod Checks
+pub mod Codes
+pub mod FaultLines
+pub mod Lines
+pub mod Making
+pub mod Questions
+pub mod Reports
