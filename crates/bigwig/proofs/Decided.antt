@@ -8,6 +8,7 @@ use Rattle.bw_format.proofs.OneAnswer.{one_answer}
 use Rattle.bw_lang.specs.Document.Forest.{Forest}
 use Rattle.bw_lang.specs.declared.service.Service.{Service}
 use Rattle.bw_lights.proofs.OneLights.{lights_once}
+use Rattle.bw_load.specs.Loaded.{world_of}
 use Rattle.bw_make.specs.Made.{made}
 use Rattle.bw_out.specs.Told.{Disk}
 use Rattle.bw_read.proofs.Decided.{one_page}
@@ -17,24 +18,31 @@ use Rattle.bw_schema.proofs.SchemaLaws.{one_schema, not_both as not_both_schema}
 use Rattle.bw_syntax.proofs.OneAnswer.{reads_once, read_or_refused}
 use Rattle.bw_types.specs.Faults.{faults_of, first_member}
 use Rattle.bw_types.specs.declared.fault.TypeFault.{TypeFault}
+use Rattle.bw_types.specs.declared.typed.Typed.{Typed}
 use Rattle.bw_valid.specs.Breaches.{breach}
 use Rattle.bw_valid.proofs.BreachLaws.{valid_decided}
+use Rattle.bw_visit.proofs.Scripts.{scripts_are_one}
 use Rattle.bw_questions.specs.Asked.{page, page_file, rules, schema, built_in, judged, ruled, formats_in, formats_file, formats, lit, lit_file}
 use Rattle.bw_questions.specs.Asked.{command, file, read, typed, service_file, checked, checked_with, checked_by, accepted_file, accepted_text}
 use Rattle.bw_questions.specs.Asked.Work.{prints}
-use Rattle.bw_questions.specs.Asked.{accepted, turned, usage_line}
-use Rattle.bigwig.specs.Asked.{replayed, resumed, at_port, beside, work, asked}
+use Rattle.bw_questions.specs.Asked.{accepted, turned}
+use Rattle.bigwig.specs.Asked.{start, replayed, replayed_from, resumed, at_port, served_from, frozen, frozen_from, beside, work, asked, followed, visited}
+use Rattle.bw_questions.specs.Asked.{usage_line}
 use Rattle.bw_questions.specs.Asked.Task.{to_serve}
 use Rattle.bw_questions.specs.Behind.{Shown, shown_file}
 use Rattle.bw_command.specs.Commands.{command_of}
 use Rattle.bw_questions.specs.Lines.{no_file_line}
+use Rattle.bigwig.specs.Loading.{loads}
 use Rattle.bw_questions.specs.Questions.{Said, Question, ◌>>=◌, found, line}
+use Rattle.bigwig.specs.Scripts.{script}
+use Rattle.bw_questions.specs.Asked.{Ruled, Script}
 use Rattle.bw_command.specs.declared.command.Command.{Command}
-use Rattle.bw_command.specs.declared.command.Command.TheVariants.{Check, Replay, Resume, Serve, Keep, Valid, Make, Light}
+use Rattle.bw_command.specs.declared.command.Command.TheVariants.{Check, Replay, Resume, Serve, Keep, Valid, Make, Light, Freeze, Visit}
 use Rattle.bw_command.specs.declared.command.Judging.{Judging}
 use Rattle.bw_questions.specs.declared.status.Status.{Status}
-use Rattle.bw_questions.specs.declared.status.Status.TheVariants.{Usage, NoFile, ServiceRefused, SchemaRefused, PageRefused, FormatsRefused}
+use Rattle.bw_questions.specs.declared.status.Status.TheVariants.{Usage, NoFile, ServiceRefused, SchemaRefused, PageRefused, FormatsRefused, LoadRefused, ScriptRefused}
 use Rattle.bw_questions.proofs.Checks.{IsTyped, typed_of, typed_given, not_refused}
+use Rattle.bigwig.proofs.OneLoad.{loaded_once, not_loaded}
 
 -- The question is answered in one way: it gives one value, or something is said, with one status.
 pub record IsDecided {A : Type 0} (question : Question A) : Type 0 where
@@ -196,15 +204,58 @@ accepted_text_decided text =
     (λ tree g. then built_in (λ by. checked None tree by []) (rules_decided _)
     (λ by _. checked_decided None tree by [] (typed_given None text g.0 tree g.1 g.2)))
 
+-- what a file that is loaded gives for a service is one
+pub loads_decided : (t : Typed) (text bytes : List ℕ) → IsDecided (loads t.service text bytes)
+loads_decided t text bytes = record {
+  once = λ a b p r. p.2 ∙ ap (world_of t.service) (loaded_once t text bytes p.0 r.0 p.1 r.1) ∙ sym r.2;
+  not_both = λ a s p r. not_loaded t text bytes p.0 r.0 p.1 r.1;
+  one_status = λ s u p r. one_said LoadRefused s u _ _ p.3 r.3;
+}
+
+pub start_decided : (disk : Disk) (name : List ℕ) (load : Option (List ℕ)) (service : Service) → IsTyped service → IsDecided (start disk name load service)
+start_decided disk name None service w = found_decided _
+start_decided disk name (Some load) service w =
+    let t = typed_of service w in
+    then (file disk name) (λ text. file disk load >>= loads service text) (file_decided disk name)
+    (λ text _. then (file disk load) (loads service text) (file_decided disk load)
+    (λ bytes _. loads_decided t text bytes))
+
+-- the service of a file that is accepted is well typed
+pub file_typed : (disk : Disk) (name : List ℕ) (judging : Judging) (form : Option (List ℕ)) (ruled : Ruled) → (accepted_file disk name judging form).gives ruled
+    → IsTyped ruled.service
+file_typed disk name judging form ruled g =
+    subst IsTyped (sym (ap (λ (r : Ruled). r.service) g.2.2.2.0))
+    (typed_given (shown_file judging.source disk name) g.1.1.0 g.1.0 g.0 g.1.1.2 g.1.2)
+
+-- a script is known by its name and its lines
+same_script : (a b : Script) → a.name ≡ b.name → a.lines ≡ b.lines → a ≡ b
+same_script a b e f = λ i. record { name = e i; lines = f i }
+
+pub script_decided : (content : List ℕ) → IsDecided (script content)
+script_decided content = record {
+  once = λ a b p r. let same = scripts_are_one content a.name a.lines b.name b.lines p r in same_script a b same.0 same.1;
+  not_both = λ a s p r. r.0 a.name a.lines p;
+  one_status = λ s t p r. one_said ScriptRefused s t _ _ p.1 r.1;
+}
+
 pub work_decided : (disk : Disk) (c : Command) → IsDecided (work disk c)
 work_decided disk (Check service judging) =
     then (accepted_file disk service judging None) accepted (accepted_file_decided disk service judging None) (λ ruled _. found_decided _)
-work_decided disk (Replay service requests judging form most) =
-    then (accepted_file disk service judging form) (replayed disk requests most) (accepted_file_decided disk service judging form)
-    (λ ruled _. then (file disk requests) _ (file_decided disk requests) (λ stream _. found_decided _))
-work_decided disk (Serve service judging form port most) =
-    then (accepted_file disk service judging form) (at_port port most) (accepted_file_decided disk service judging form)
-    (λ ruled _. found_decided _)
+work_decided disk (Replay service requests judging form load most) =
+    then (accepted_file disk service judging form) (replayed_from disk service load requests most) (accepted_file_decided disk service judging form)
+    (λ ruled g. then (start disk service load ruled.service) (replayed disk requests most ruled)
+    (start_decided disk service load ruled.service (file_typed disk service judging form ruled g))
+    (λ from _. then (file disk requests) _ (file_decided disk requests) (λ stream _. found_decided _)))
+work_decided disk (Serve service judging form load port most) =
+    then (accepted_file disk service judging form) (served_from disk service load port most) (accepted_file_decided disk service judging form)
+    (λ ruled g. then (start disk service load ruled.service) (at_port port most ruled)
+    (start_decided disk service load ruled.service (file_typed disk service judging form ruled g)) (λ from _. found_decided _))
+work_decided disk (Freeze service requests judging form load most) =
+    then (accepted_file disk service judging form) (frozen_from disk service load requests most) (accepted_file_decided disk service judging form)
+    (λ ruled g. then (start disk service load ruled.service) (frozen disk service requests most ruled)
+    (start_decided disk service load ruled.service (file_typed disk service judging form ruled g))
+    (λ from _. then (file disk service) _ (file_decided disk service)
+    (λ text _. then (file disk requests) _ (file_decided disk requests) (λ stream _. found_decided _))))
 work_decided disk (Resume service from judging form journal most) =
     then (accepted_file disk service judging form) (resumed disk service from journal most) (accepted_file_decided disk service judging form)
     (λ ruled _. then (file disk from) _ (file_decided disk from)
@@ -219,6 +270,10 @@ work_decided disk (Make count workers) = then (accepted_text (made count)) (turn
 work_decided disk (Light form texts) =
     then (formats_file disk form) (lit_file disk texts) (formats_file_decided disk form)
     (λ given _. then (file disk texts) (lit given) (file_decided disk texts) (λ content _. lit_decided given content))
+work_decided disk (Visit service by judging form) =
+    then (accepted_file disk service judging form) (visited disk by) (accepted_file_decided disk service judging form)
+    (λ ruled _. then (file disk by) (followed ruled) (file_decided disk by)
+    (λ content _. then (script content) _ (script_decided content) (λ s _. found_decided _)))
 
 -- all that the program asks is decided
 pub asked_decided : (words : List (List ℕ)) (disk : Disk) → IsDecided (asked words disk)

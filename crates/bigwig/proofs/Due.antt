@@ -1,5 +1,5 @@
 -- Some status is due, and one only.
-use Rattle.std.proofs.Common.{◌≡◌, ◌⊎◌, ℕ, Bool, true, false, List, [], Option, Some, codes, refl, sym, ◌∙◌, ap, subst, inl, inr}
+use Rattle.std.proofs.Common.{◌≡◌, ◌⊎◌, ℕ, zero, suc, Bool, true, false, List, [], Option, Some, codes, refl, sym, ◌∙◌, ap, subst, inl, inr}
 use Rattle.bw_check.specs.Accepts.{Accepts}
 use Rattle.bw_out.specs.Told.{Disk}
 use Rattle.bw_keeping.specs.declared.ended.StreamEnded.{StreamEnded}
@@ -8,7 +8,10 @@ use Rattle.bw_model.specs.Sessions.{World}
 use Rattle.bw_questions.specs.Asked.{Ruled, Task, Work}
 use Rattle.bigwig.specs.Asked.{asked, work}
 use Rattle.bw_questions.specs.Asked.Task.{to_answer, to_serve}
-use Rattle.bw_questions.specs.Asked.Work.{prints, replays, serves, keeps}
+use Rattle.bw_questions.specs.Asked.Work.{prints, replays, serves, keeps, freezes, visits}
+use Rattle.bw_world.specs.Seen.{Seen}
+use Rattle.bigwig.specs.Freezing.{FreezesAt, IsFrozen}
+use Rattle.bigwig.specs.Freezing.IsFrozen.{saved, too_long, no_memory as no_room}
 use Rattle.bigwig.specs.Keeping.{AnswersEndWith, EndsWith, Follows, IsKept, Keeps, sum_behind}
 use Rattle.bigwig.specs.Keeping.IsKept.{stopped, refused, failed, begun}
 use Rattle.bigwig.specs.Keeping.Keeps.{no_port as keep_no_port, no_line as keep_no_line, links_served as keep_links_served}
@@ -16,7 +19,7 @@ use Rattle.bw_keeping.specs.declared.ended.Ended.{Ended}
 use Rattle.bw_keeping.specs.declared.ended.Ended.TheVariants as ended
 use Rattle.bw_command.specs.Commands.{command_of}
 use Rattle.bigwig.specs.Laws.{IsAcceptedFile, CheckIsDone, IsValidFile, ValidIsDone, Due, IsFree}
-use Rattle.bigwig.specs.Laws.{SomeStatusIsDue, OneStatusIsDue, ComesWhereDue, DoesItsWork, ServesLinks, DoorFaultsServe, JournalsAreKept}
+use Rattle.bigwig.specs.Laws.{SomeStatusIsDue, OneStatusIsDue, ComesWhereDue, DoesItsWork, ServesLinks, DoorFaultsServe, JournalsAreKept, IsUnanswered}
 use Rattle.bigwig.specs.Laws.ServesLinks.{alone, kept}
 use Rattle.bw_world.specs.declared.ends.StreamEnd.{StreamEnd}
 use Rattle.bw_world.specs.declared.ends.StreamEnd.TheVariants as ends
@@ -29,10 +32,12 @@ use Rattle.bw_command.specs.declared.command.Command.{Command}
 use Rattle.bw_command.specs.declared.command.Command.TheVariants.{Check, Valid}
 use Rattle.bw_command.specs.declared.command.Judging.{Judging}
 use Rattle.bw_questions.specs.declared.status.Status.{Status}
-use Rattle.bw_questions.specs.declared.status.Status.TheVariants.{Done, ReadFault, WriteFault, DoorFault, Memory, JournalRefused, JournalFault}
+use Rattle.bw_questions.specs.declared.status.Status.TheVariants.{Done, ReadFault, WriteFault, DoorFault, Memory, SaveRefused, JournalRefused, JournalFault, ScriptRefused}
 use Rattle.bigwig.proofs.Decided.{asked_decided}
 use Rattle.bigwig.proofs.Refusals.{never_said}
 use Rattle.bigwig.proofs.SomeAnswer.{asked_some}
+use Rattle.bigwig.proofs.TooMuch.{IsNone, freezes_not}
+use Rattle.bigwig.proofs.VisitEnds.{IsEnd, IsUnknown, no_visit, visit_end, visit_no_door, visit_status}
 
 pub some_status : SomeStatusIsDue
 some_status words disk verdicts = elim (asked_some words disk verdicts) as (λ _. (status : Status) × Due words disk status) [
@@ -55,18 +60,34 @@ ended_or_fault (ends.Ended n) = inl refl
 ended_or_fault ends.ReadFault = inr (inl refl)
 ended_or_fault ends.WriteFault = inr (inr (inl refl))
 
-serving_or_fault : (ruled : Ruled) (port most : ℕ) (before after : Outside) (status : Status) → IsServing ruled port most before after status
+serving_or_fault : (ruled : Ruled) (from : World) (port most : ℕ) (before after : Outside) (status : Status)
+    → IsServing ruled from port most before after status → (status ≡ Done) ⊎ IsFree status
+serving_or_fault ruled from port most before after status (no_port e m k) = inr (inr (inr (inl e)))
+serving_or_fault ruled from port most before after status (no_line e a p k) = inr (inr (inl e))
+serving_or_fault ruled from port most before after status (links_served (inl e) a p l) = inl e
+serving_or_fault ruled from port most before after status (links_served (inr e) a p l) = inr (inr (inr (inl e)))
+
+-- what waits was printed; or it was too much, or the lines couldn't be written; or there was no memory
+frozen_or_fault : (text : List ℕ) (seen : Seen) (held now : Option (List ℕ)) (status : Status) → IsFrozen text seen held now status
     → (status ≡ Done) ⊎ IsFree status
-serving_or_fault ruled port most before after status (no_port e m k) = inr (inr (inr (inl e)))
-serving_or_fault ruled port most before after status (no_line e a p k) = inr (inr (inl e))
-serving_or_fault ruled port most before after status (links_served (inl e) a p l) = inl e
-serving_or_fault ruled port most before after status (links_served (inr e) a p l) = inr (inr (inr (inl e)))
+frozen_or_fault text seen held now status (saved fits (inl p)) = inl p.0
+frozen_or_fault text seen held now status (saved fits (inr p)) = inr (inr (inl p.0))
+frozen_or_fault text seen held now status (too_long filled more (inl p)) = inr (inr (inr (inr (inr (inr (inr p.0))))))
+frozen_or_fault text seen held now status (too_long filled more (inr p)) = inr (inr (inl p.0))
+frozen_or_fault text seen held now status (no_room e k) = inr (inr (inr (inr (inl e))))
+
+freezes_or_fault : (text : List ℕ) (seen : Seen) (end : StreamEnd) (held now : Option (List ℕ)) (status : Status)
+    → FreezesAt text seen end held now status → (status ≡ Done) ⊎ IsFree status
+freezes_or_fault text seen (ends.Ended zero) held now status f = frozen_or_fault text seen held now status f
+freezes_or_fault text seen (ends.Ended (suc n)) held now status f = inr (inr (inr (inr (inl f.0))))
+freezes_or_fault text seen ends.ReadFault held now status f = inr (inl f.0)
+freezes_or_fault text seen ends.WriteFault held now status f = absurd f
 
 -- the journal was refused, or it failed, or the line that says so couldn't be written
 journal_said : (x : Said) (before after : Outside) (status : Status) → IsSaid x before after status → (x.status ≡ JournalRefused) ⊎ (x.status ≡ JournalFault)
     → IsFree status
 journal_said x before after status i (inl e) = elim i.prints [
-  | inl p ↦ inr (inr (inr (inr (inr (p.0 ∙ e)))))
+  | inl p ↦ inr (inr (inr (inr (inr (inl (p.0 ∙ e))))))
   | inr p ↦ inr (inl p.0)
 ]
 journal_said x before after status i (inr e) = elim i.prints [
@@ -107,35 +128,55 @@ kept_or_fault ruled text content task before after status (failed i) = inr (jour
 kept_or_fault ruled text content task before after status (begun f w mid h k o follows) =
     task_end ruled task w (sum_behind text f) mid after status follows
 
--- the work ends with Done, unless there was a fault
-done_or_fault : (work : Work) (before after : Outside) (status : Status) → IsDone work before after status → (status ≡ Done) ⊎ IsFree status
-done_or_fault (prints text) before after status d = said_or_fault _ before after status d
-done_or_fault (replays ruled stream most) before after status d =
-    subst (λ s. (s ≡ Done) ⊎ IsFree s) (sym d.0.status_is) (ended_or_fault d.0.end)
-done_or_fault (serves ruled port most) before after status d = serving_or_fault ruled port most before after status d.0
-done_or_fault (keeps ruled text content task) before after status d = kept_or_fault ruled text content task before after status d
+-- the work ends with Done, unless there was a fault, or a visit ended at an answer without a control
+pub done_or_fault : (work : Work) (before after : Outside) (status : Status) → IsDone work before after status → IsEnd work status
+done_or_fault (prints text) before after status d = no_visit _ status (said_or_fault _ before after status d)
+done_or_fault (replays ruled from stream most) before after status d =
+    no_visit _ status (subst (λ s. (s ≡ Done) ⊎ IsFree s) (sym d.0.status_is) (ended_or_fault d.0.end))
+done_or_fault (serves ruled from port most) before after status d = no_visit _ status (serving_or_fault ruled from port most before after status d.0)
+done_or_fault (keeps ruled text content task) before after status d =
+    no_visit _ status (kept_or_fault ruled text content task before after status d)
+done_or_fault (freezes ruled from text stream most) before after status d =
+    no_visit _ status (freezes_or_fault text d.0.seen d.0.end before.printed after.printed status d.0.freezes)
+done_or_fault (visits ruled script) before after status d = visit_end ruled script d.0.end status d.0.status_is
 
-or_fault : (s t u : Status) → (u ≡ t) ⊎ IsFree u → t ≡ s → (u ≡ s) ⊎ IsFree u
-or_fault s t u (inl x) e = inl (x ∙ e)
-or_fault s t u (inr x) e = inr x
+or_fault : (s t u : Status) (P : Type 0) → (u ≡ t) ⊎ IsFree u → t ≡ s → (u ≡ s) ⊎ (IsFree u ⊎ P)
+or_fault s t u P (inl x) e = inl (x ∙ e)
+or_fault s t u P (inr x) e = inr (inl x)
+
+-- the work that was asked for is a visit
+pub unanswered : (words : List (List ℕ)) (disk : Disk) (work : Work) (status : Status) → (asked words disk).gives work → IsUnknown work status
+    → IsUnanswered words disk status
+unanswered words disk work status g u = (u.0, u.1, u.2, subst (λ w. (asked words disk).gives w) u.3 g)
+
+work_where_due : (words : List (List ℕ)) (disk : Disk) (work : Work) (s t : Status) → (asked words disk).gives work → Due words disk s → IsEnd work t
+    → (t ≡ s) ⊎ (IsFree t ⊎ IsUnanswered words disk t)
+work_where_due words disk work s t g d (inl e) = inl (e ∙ one_status words disk Done s (inr (work, g, refl)) d)
+work_where_due words disk work s t g d (inr (inl f)) = inr (inl f)
+work_where_due words disk work s t g d (inr (inr u)) = inr (inr (unanswered words disk work t g u))
 
 pub comes_where_due : ComesWhereDue
 comes_where_due words disk before after s t d (said x p i) =
-    or_fault s x.status t (said_or_fault x before after t i) (one_status words disk x.status s (inl (x, p, refl)) d)
-comes_where_due words disk before after s t d (done w p i) =
-    or_fault s Done t (done_or_fault w before after t i) (one_status words disk Done s (inr (w, p, refl)) d)
-comes_where_due words disk before after s t d (read_fault e k) = inr (inl e)
-comes_where_due words disk before after s t d (no_memory e k) = inr (inr (inr (inr (inl e))))
+    or_fault s x.status t _ (said_or_fault x before after t i) (one_status words disk x.status s (inl (x, p, refl)) d)
+comes_where_due words disk before after s t d (done w p i) = work_where_due words disk w s t p d (done_or_fault w before after t i)
+comes_where_due words disk before after s t d (read_fault e k) = inr (inl (inl e))
+comes_where_due words disk before after s t d (no_memory e k) = inr (inl (inr (inr (inr (inl e)))))
+
+work_done : (words : List (List ℕ)) (disk : Disk) (work : Work) (before after : Outside) (status : Status) → (asked words disk).gives work
+    → IsDone work before after status → IsEnd work status
+    → ((status ≡ Done) × IsDone work before after status) ⊎ (IsFree status ⊎ (IsUnanswered words disk status × IsDone work before after status))
+work_done words disk work before after status g so (inl e) = inl (e, so)
+work_done words disk work before after status g so (inr (inl f)) = inr (inl f)
+work_done words disk work before after status g so (inr (inr u)) = inr (inr (unanswered words disk work status g u, so))
 
 pub does_its_work : DoesItsWork
 does_its_work words disk work before after status g (said x p i) = absurd ((asked_decided words disk).not_both work x g p)
 does_its_work words disk work before after status g (done w p d) =
     let same : w ≡ work = (asked_decided words disk).once w work p g in
     let so : IsDone work before after status = subst (λ x. IsDone x before after status) same d in
-    elim (done_or_fault work before after status so) as (λ _. ((status ≡ Done) × IsDone work before after status) ⊎ IsFree status)
-    [ inl e ↦ inl (e, so) | inr f ↦ inr f ]
-does_its_work words disk work before after status g (read_fault e k) = inr (inl e)
-does_its_work words disk work before after status g (no_memory e k) = inr (inr (inr (inr (inl e))))
+    work_done words disk work before after status g so (done_or_fault work before after status so)
+does_its_work words disk work before after status g (read_fault e k) = inr (inl (inl e))
+does_its_work words disk work before after status g (no_memory e k) = inr (inl (inr (inr (inr (inl e)))))
 
 -- ---- door faults
 
@@ -178,12 +219,22 @@ kept_links ruled text content (to_answer stream most) before after (failed i) = 
 kept_links ruled text content (to_answer stream most) before after (begun f w mid h k o r) =
     absurd (requests_status r.printed after.printed r.end DoorFault r.ends refl)
 
+abbrev is_of_door : Status → Bool
+is_of_door DoorFault = true
+is_of_door status = false
+
+none_of_door : IsNone is_of_door
+none_of_door = record { at_done = refl; at_read = refl; at_write = refl; at_memory = refl; at_save = refl }
+
 served_work : (work : Work) (before after : Outside) → IsDone work before after DoorFault → ServesLinks work
 served_work (prints text) before after d = absurd (elim d.prints
     [ inl x ↦ no_door_fault Done x.0 (inl refl) | inr x ↦ no_door_fault WriteFault x.0 (inr (inr (inl refl))) ])
-served_work (replays ruled stream most) before after d = absurd (no_door_fault (status_of d.0.end) d.0.status_is (stream_status d.0.end))
-served_work (serves ruled port most) before after d = alone ruled port most
+served_work (replays ruled from stream most) before after d = absurd (no_door_fault (status_of d.0.end) d.0.status_is (stream_status d.0.end))
+served_work (serves ruled from port most) before after d = alone ruled from port most
 served_work (keeps ruled text content task) before after d = kept_links ruled text content task before after d
+served_work (freezes ruled from text stream most) before after d =
+    absurd (freezes_not is_of_door text d.0.seen d.0.end before.printed after.printed DoorFault d.0.freezes none_of_door refl)
+served_work (visits ruled script) before after d = absurd (visit_no_door d.0.end DoorFault d.0.status_is refl)
 
 pub door_faults_serve : DoorFaultsServe
 door_faults_serve words disk before after (said s p i) =
@@ -210,24 +261,41 @@ not_journals : (s t : Status) → IsJournals s → s ≡ t → is_of_journal t �
 not_journals s t (inl e) same other = not_so (is_of_journal t) other (ap is_of_journal (sym same ∙ e))
 not_journals s t (inr e) same other = not_so (is_of_journal t) other (ap is_of_journal (sym same ∙ e))
 
-served_status : (ruled : Ruled) (port most : ℕ) (before after : Outside) (s : Status) → IsServing ruled port most before after s → IsJournals s → ⊥
-served_status ruled port most before after s (no_port e m k) j = not_journals s DoorFault j e refl
-served_status ruled port most before after s (no_line e a p k) j = not_journals s WriteFault j e refl
-served_status ruled port most before after s (links_served (inl e) a p l) j = not_journals s Done j e refl
-served_status ruled port most before after s (links_served (inr e) a p l) j = not_journals s DoorFault j e refl
+served_status : (ruled : Ruled) (from : World) (port most : ℕ) (before after : Outside) (s : Status) → IsServing ruled from port most before after s
+    → IsJournals s → ⊥
+served_status ruled from port most before after s (no_port e m k) j = not_journals s DoorFault j e refl
+served_status ruled from port most before after s (no_line e a p k) j = not_journals s WriteFault j e refl
+served_status ruled from port most before after s (links_served (inl e) a p l) j = not_journals s Done j e refl
+served_status ruled from port most before after s (links_served (inr e) a p l) j = not_journals s DoorFault j e refl
+
+none_of_journal : IsNone is_of_journal
+none_of_journal = record { at_done = refl; at_read = refl; at_write = refl; at_memory = refl; at_save = refl }
+
+is_journals : (s : Status) → IsJournals s → is_of_journal s ≡ true
+is_journals s (inl e) = ap is_of_journal e
+is_journals s (inr e) = ap is_of_journal e
 
 stream_is_none : (end : StreamEnd) → is_of_journal (status_of end) ≡ false
 stream_is_none (ends.Ended n) = refl
 stream_is_none ends.ReadFault = refl
 stream_is_none ends.WriteFault = refl
 
+visit_is_none : (s : Status) → (s ≡ Done) ⊎ ((s ≡ ScriptRefused) ⊎ ((s ≡ WriteFault) ⊎ (s ≡ Memory))) → IsJournals s → ⊥
+visit_is_none s (inl e) j = not_journals s Done j e refl
+visit_is_none s (inr (inl e)) j = not_journals s ScriptRefused j e refl
+visit_is_none s (inr (inr (inl e))) j = not_journals s WriteFault j e refl
+visit_is_none s (inr (inr (inr e))) j = not_journals s Memory j e refl
+
 kept_work : (work : Work) (before after : Outside) (s : Status) → IsDone work before after s → IsJournals s
     → (ruled : Ruled) × (text : List ℕ) × (content : List ℕ) × (task : Task) × (work ≡ keeps ruled text content task)
 kept_work (prints text) before after s d j = absurd (elim d.prints
     [ inl x ↦ not_journals s Done j x.0 refl | inr x ↦ not_journals s WriteFault j x.0 refl ])
-kept_work (replays ruled stream most) before after s d j = absurd (not_journals s (status_of d.0.end) j d.0.status_is (stream_is_none d.0.end))
-kept_work (serves ruled port most) before after s d j = absurd (served_status ruled port most before after s d.0 j)
+kept_work (replays ruled from stream most) before after s d j = absurd (not_journals s (status_of d.0.end) j d.0.status_is (stream_is_none d.0.end))
+kept_work (serves ruled from port most) before after s d j = absurd (served_status ruled from port most before after s d.0 j)
 kept_work (keeps ruled text content task) before after s d j = (ruled, text, content, task, refl)
+kept_work (freezes ruled from text stream most) before after s d j =
+    absurd (freezes_not is_of_journal text d.0.seen d.0.end before.printed after.printed s d.0.freezes none_of_journal (is_journals s j))
+kept_work (visits ruled script) before after s d j = absurd (visit_is_none s (visit_status d.0.end s d.0.status_is) j)
 
 said_journals : (words : List (List ℕ)) (disk : Disk) (x : Said) (s : Status) → (asked words disk).says x → s ≡ x.status → IsJournals s → ⊥
 said_journals words disk x s p e (inl j) = never_said words disk x JournalRefused refl p (sym j ∙ e)

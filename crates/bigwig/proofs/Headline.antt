@@ -12,12 +12,12 @@ use Rattle.bw_lang.specs.Service.Reads.{Reads}
 use Rattle.bw_lang.specs.declared.service.Service.{Service}
 use Rattle.bw_lang.proofs.Small.{readable_is_woven}
 use Rattle.bw_model.specs.Laws.{is_page}
-use Rattle.bw_model.specs.Runs.{At, Turn, Turns, Run, answer_of}
+use Rattle.bw_model.specs.Runs.{At, Turn, Turns, Run, answer_of, wants}
 use Rattle.bw_model.specs.Runs.Turn.{request, no_memory}
-use Rattle.bw_model.specs.Sessions.{empty}
+use Rattle.bw_model.specs.Sessions.{World, empty}
 use Rattle.bw_model.specs.Within.{AreWithin}
 use Rattle.bw_model.proofs.Cases.{others_change_nothing}
-use Rattle.bw_model.proofs.Storing.{empty_is_within, turn_within}
+use Rattle.bw_model.proofs.Storing.{turn_within}
 use Rattle.bw_out.specs.Causes.{Shows}
 use Rattle.bw_out.specs.Doors.{Returned}
 use Rattle.bw_out.specs.Told.{Coming, Disk}
@@ -27,21 +27,28 @@ use Rattle.bw_sound.specs.Good.{AreGood}
 use Rattle.bw_types.specs.Faults.{IsWellTyped}
 use Rattle.bw_types.specs.Typing.{IsTypedService}
 use Rattle.bw_types.proofs.WellTyped.{typed}
+use Rattle.bw_world.specs.Stands.{StandsFor}
 use Rattle.bw_questions.specs.Asked.{Ruled, Work, accepted_file, formats, schema}
-use Rattle.bigwig.specs.Asked.{asked, work}
+use Rattle.bigwig.specs.Asked.{asked, start, work}
 use Rattle.bw_command.specs.Commands.{command_of}
-use Rattle.bigwig.specs.Headline.{AreAnswered, AreFormatsOf, AreRight, Headline, IsAnswer, IsAnswered, IsLit, IsReplay, IsServe, IsServiceOf, rules_text}
+use Rattle.bigwig.specs.Freezing.{IsFreezing, file_of}
+use Rattle.bigwig.specs.Headline.{AreAnswered, AreFormatsOf, AreRight, Headline, IsAnswer, IsAnswered, IsLit, IsFreeze, IsReplay, IsServe, IsServiceOf, IsVisit}
+use Rattle.bigwig.specs.Headline.{StartsAt, rules_text}
+use Rattle.bw_visit.specs.Visits.{End}
 use Rattle.bigwig.specs.Headline.IsAnswered.{whole, broken, unread}
 use Rattle.bigwig.specs.Outcomes.{Comes, IsDone}
+use Rattle.bw_questions.specs.Asked.{Script}
+use Rattle.bigwig.specs.Visiting.{HasVisited, IsStatusOf, IsVisited}
 use Rattle.bigwig.specs.Works.{AreServed, Between, IsReplayed, IsSaid, IsServing, IsStreamed, Outside, begins, status_of}
 use Rattle.bigwig.specs.Outcomes.Comes.{said, done, read_fault, no_memory as no_room}
 use Rattle.bigwig.specs.Works.IsServing.{no_port, no_line, links_served}
 use Rattle.bw_command.specs.declared.command.Command.{Command}
-use Rattle.bw_command.specs.declared.command.Command.TheVariants.{Replay, Serve, Light}
+use Rattle.bw_command.specs.declared.command.Command.TheVariants.{Replay, Serve, Light, Freeze, Visit}
 use Rattle.bw_command.specs.declared.command.Judging.{Judging}
 use Rattle.bw_questions.specs.declared.status.Status.{Status}
 use Rattle.bw_questions.specs.declared.status.Status.TheVariants as status
 use Rattle.bigwig.proofs.Refusals.{never_said}
+use Rattle.bigwig.proofs.Starting.{start_within, starts_at, frozen_done}
 
 -- ---- messages
 
@@ -202,33 +209,104 @@ stream_answered ruled most from to bytes held now left (ends.Ended count) s with
 stream_answered ruled most from to bytes held now left ends.ReadFault s within is = absurd (let e : status.ReadFault ≡ status.Done = is in cc)
 stream_answered ruled most from to bytes held now left ends.WriteFault s within is = absurd (let e : status.WriteFault ≡ status.Done = is in cc)
 
-replay_done : (disk : Disk) (name requests : List ℕ) (judging : Judging) (form : Option (List ℕ)) (most : ℕ) (w : Work) (before after : Outside)
-    (s : Status) → (work disk (Replay name requests judging form most)).gives w → IsDone w before after s → s ≡ status.Done
-    → IsReplay disk name requests judging.schema form most before after
-replay_done disk name requests judging form most w before after s g d is =
+ended_with : (count : ℕ) → ends.Ended count ≡ ends.Ended 0 → count ≡ 0
+ended_with count e = cc
+
+same_text : (a b : List ℕ) → Some a ≡ Some b → a ≡ b
+same_text a b e = cc
+
+-- and where none of its replies is that there was no memory, none of those of the answer is
+all_handled : (ruled : Ruled) (most : ℕ) (from to : Between) (bytes : List ℕ) (held now left : Option (List ℕ)) (end : StreamEnd)
+    → IsStreamed most ruled from bytes to held now left end → AreWithin ruled.formats ruled.service from.world → end ≡ ends.Ended 0
+    → (answer : List ℕ) × (last : At) × (handled : IsAnswer ruled.formats ruled.service ruled.schema most (begins from bytes) answer last)
+    × (wants (handled.replies ++ handled.last) ≡ 0) × (last.world ≡ to.world)
+all_handled ruled most from to bytes held now left (ends.Ended count) s within is =
+    let c = s.course in
+    let run = c.1 in (
+      answer_of ruled.service c.0,
+      begins to s.rest,
+      record {
+        replies = run.first;
+        last = run.last;
+        mid = run.mid;
+        right = are_right ruled.formats ruled.service ruled.schema run.first s.cost (begins from bytes) run.mid run.turns (s.pages run.first) within;
+        ends = run.ends;
+        bytes = ap (answer_of ruled.service) run.all;
+      },
+      ap wants (sym run.all) ∙ sym c.3 ∙ ended_with count is,
+      refl,
+    )
+all_handled ruled most from to bytes held now left ends.ReadFault s within is = absurd (let e : ends.ReadFault ≡ ends.Ended 0 = is in cc)
+all_handled ruled most from to bytes held now left ends.WriteFault s within is = absurd (let e : ends.WriteFault ≡ ends.Ended 0 = is in cc)
+
+replay_done : (disk : Disk) (name requests : List ℕ) (judging : Judging) (form load : Option (List ℕ)) (most : ℕ) (w : Work) (before after : Outside)
+    (s : Status) → (work disk (Replay name requests judging form load most)).gives w → IsDone w before after s → s ≡ status.Done
+    → IsReplay disk name requests judging.schema form load most before after
+replay_done disk name requests judging form load most w before after s g d is =
     let ruled = g.0 in
-    let stream = g.2.0 in
-    let replayed : IsReplayed ruled stream most before after s = (subst (λ x. IsDone x before after s) g.2.2 d).0 in
+    let from = g.2.0 in
+    let stream = g.2.2.0 in
+    let replayed : IsReplayed ruled from stream most before after s = (subst (λ x. IsDone x before after s) g.2.2.2 d).0 in
+    let whose = service_of disk name judging form ruled g.1 in
     record {
       service = ruled.service;
       schema = ruled.schema;
       formats = ruled.formats;
       formats_are = formats_of disk name judging form ruled g.1;
-      is = service_of disk name judging form ruled g.1;
+      is = whose;
+      start = from;
+      starts = starts_at disk name load whose.content ruled.service from whose.found whose.reads g.2.1;
       stream = stream;
-      found = g.2.1;
+      found = g.2.2.1;
       answered = λ keys k.
           let x = replayed.streamed keys k in
-          stream_answered ruled most (record { world = empty ruled.service; keys = keys; steps = before.steps }) x.0 stream before.printed after.printed
-          after.unread replayed.end x.3 (empty_is_within ruled.formats ruled.service) (sym replayed.status_is ∙ is);
+          stream_answered ruled most (record { world = from; keys = keys; steps = before.steps }) x.0 stream before.printed after.printed
+          after.unread replayed.end x.3 (start_within disk name load ruled.formats ruled.service from g.2.1) (sym replayed.status_is ∙ is);
     }
 
-no_link : (ruled : Ruled) (most : ℕ) (before after : Outside) (s : Status) → s ≡ status.DoorFault → after.coming ≡ before.coming
+freeze_done : (disk : Disk) (name requests : List ℕ) (judging : Judging) (form load : Option (List ℕ)) (most : ℕ) (w : Work) (before after : Outside)
+    (s : Status) → (work disk (Freeze name requests judging form load most)).gives w → IsDone w before after s → s ≡ status.Done
+    → IsFreeze disk name requests judging.schema form load most before after
+freeze_done disk name requests judging form load most w before after s g d is =
+    let ruled = g.0 in
+    let from = g.2.0 in
+    let text = g.2.2.0 in
+    let stream = g.2.2.2.0 in
+    let frozen : IsFreezing ruled from text stream most before after s = (subst (λ x. IsDone x before after s) g.2.2.2.2 d).0 in
+    let whose = service_of disk name judging form ruled g.1 in
+    let same : text ≡ whose.content = same_text text whose.content (sym g.2.2.1 ∙ whose.found) in
+    record {
+      service = ruled.service;
+      schema = ruled.schema;
+      formats = ruled.formats;
+      formats_are = formats_of disk name judging form ruled g.1;
+      is = whose;
+      start = from;
+      starts = starts_at disk name load whose.content ruled.service from whose.found whose.reads g.2.1;
+      stream = stream;
+      found = g.2.2.2.1;
+      answered = λ keys k.
+          let x = frozen.streamed keys k in
+          let printed = frozen_done text frozen.seen frozen.end before.printed after.printed s frozen.freezes is in
+          let c = all_handled ruled most (record { world = from; keys = keys; steps = before.steps }) x.0 stream None None after.unread frozen.end x.4
+          (start_within disk name load ruled.formats ruled.service from g.2.1) printed.0 in (
+            c.0,
+            c.1,
+            c.2,
+            c.3,
+            frozen.seen,
+            frozen.service,
+            subst (StandsFor frozen.seen) (sym c.4) x.3,
+            subst (λ t. Appends before.printed after.printed (file_of t frozen.seen)) same printed.1,
+          );
+    }
+
+no_link : (ruled : Ruled) (world : World) (most : ℕ) (before after : Outside) (s : Status) → s ≡ status.DoorFault → after.coming ≡ before.coming
     → after.returned ≡ before.returned → (keys : Coming) → before.keys ≡ Some keys → (links : List (List ℕ)) → before.coming ≡ Some links
     → (given : List Returned) → before.returned ≡ Some given → (backs : List Returned) × (rest : List (List ℕ)) × (after.returned ≡ Some (given ++ backs))
-    × (after.coming ≡ Some rest) × AreAnswered ruled.formats ruled.service ruled.schema (empty ruled.service) keys links backs rest
+    × (after.coming ≡ Some rest) × AreAnswered ruled.formats ruled.service ruled.schema world keys links backs rest
     × (s ≡ status.Done → (rest ≡ []) ⊎ (length backs ≡ most))
-no_link ruled most before after s e c r keys k links l given g =
+no_link ruled world most before after s e c r keys k links l given g =
     ([], links, r ∙ g ∙ ap Some (sym (append-nil given)), c ∙ l, refl, λ is. absurd (let f : status.Done ≡ status.DoorFault = sym is ∙ e in cc))
 
 over_done : {A B : Type 0} (s : Status) → ((s ≡ status.Done) × A) ⊎ ((s ≡ status.DoorFault) × B) → s ≡ status.Done → A
@@ -239,45 +317,51 @@ no_write : (s : Status) → s ≡ status.WriteFault → (s ≡ status.Done) ⊎ 
 no_write s e (inl f) = let g : status.Done ≡ status.WriteFault = sym f ∙ e in cc
 no_write s e (inr f) = let g : status.DoorFault ≡ status.WriteFault = sym f ∙ e in cc
 
-serving_answers : (disk : Disk) (name : List ℕ) (named form : Option (List ℕ)) (ruled : Ruled) (port most : ℕ) (before after : Outside) (s : Status)
-    → IsServiceOf disk name named ruled.service ruled.schema → AreFormatsOf disk form ruled.formats → IsServing ruled port most before after s → (s ≡ status.Done) ⊎ (s ≡ status.DoorFault)
-    → IsServe disk name named form most before after s
-serving_answers disk name named form ruled port most before after s is are (no_port e m k) ends = record {
+serving_answers : (disk : Disk) (name : List ℕ) (named form load : Option (List ℕ)) (ruled : Ruled) (from : World) (port most : ℕ)
+    (before after : Outside) (s : Status) → (whose : IsServiceOf disk name named ruled.service ruled.schema) → AreFormatsOf disk form ruled.formats
+    → (start disk name load ruled.service).gives from → IsServing ruled from port most before after s → (s ≡ status.Done) ⊎ (s ≡ status.DoorFault)
+    → IsServe disk name named form load most before after s
+serving_answers disk name named form load ruled from port most before after s whose are g (no_port e m k) ends = record {
   service = ruled.service;
   schema = ruled.schema;
   formats = ruled.formats;
   formats_are = are;
-  is = is;
-  answered = no_link ruled most before after s e (ap (λ (o : Outside). o.coming) k) (ap (λ (o : Outside). o.returned) k);
+  is = whose;
+  start = from;
+  starts = starts_at disk name load whose.content ruled.service from whose.found whose.reads g;
+  answered = no_link ruled from most before after s e (ap (λ (o : Outside). o.coming) k) (ap (λ (o : Outside). o.returned) k);
 }
-serving_answers disk name named form ruled port most before after s is are (no_line e a p k) ends = absurd (no_write s e ends)
-serving_answers disk name named form ruled port most before after s is are (links_served e a line all) ends = record {
+serving_answers disk name named form load ruled from port most before after s whose are g (no_line e a p k) ends = absurd (no_write s e ends)
+serving_answers disk name named form load ruled from port most before after s whose are g (links_served e a line all) ends = record {
   service = ruled.service;
   schema = ruled.schema;
   formats = ruled.formats;
   formats_are = are;
-  is = is;
-  answered = λ keys k links l given g.
-      let x = all keys k links l given g in
+  is = whose;
+  start = from;
+  starts = starts_at disk name load whose.content ruled.service from whose.found whose.reads g;
+  answered = λ keys k links l given r.
+      let x = all keys k links l given r in
       let back = x.3 in (
         x.0,
         x.1,
         back.returned,
         back.coming,
-        links_answered ruled (record { world = empty ruled.service; keys = keys; steps = before.steps }) x.2 links x.1 x.0 back.served
-            (empty_is_within ruled.formats ruled.service),
+        links_answered ruled (record { world = from; keys = keys; steps = before.steps }) x.2 links x.1 x.0 back.served
+            (start_within disk name load ruled.formats ruled.service from g),
         over_done s x.5,
       );
 }
 
-serve_done : (disk : Disk) (name : List ℕ) (judging : Judging) (form : Option (List ℕ)) (port most : ℕ) (w : Work) (before after : Outside) (s : Status)
-    → (work disk (Serve name judging form port most)).gives w → IsDone w before after s → (s ≡ status.Done) ⊎ (s ≡ status.DoorFault)
-    → IsServe disk name judging.schema form most before after s
-serve_done disk name judging form port most w before after s g d ends =
+serve_done : (disk : Disk) (name : List ℕ) (judging : Judging) (form load : Option (List ℕ)) (port most : ℕ) (w : Work) (before after : Outside)
+    (s : Status) → (work disk (Serve name judging form load port most)).gives w → IsDone w before after s → (s ≡ status.Done) ⊎ (s ≡ status.DoorFault)
+    → IsServe disk name judging.schema form load most before after s
+serve_done disk name judging form load port most w before after s g d ends =
     let ruled = g.0 in
-    let serving : IsServing ruled port most before after s = (subst (λ x. IsDone x before after s) g.2 d).0 in
-    serving_answers disk name judging.schema form ruled port most before after s (service_of disk name judging form ruled g.1)
-    (formats_of disk name judging form ruled g.1) serving ends
+    let from = g.2.0 in
+    let serving : IsServing ruled from port most before after s = (subst (λ x. IsDone x before after s) g.2.2 d).0 in
+    serving_answers disk name judging.schema form load ruled from port most before after s (service_of disk name judging form ruled g.1)
+    (formats_of disk name judging form ruled g.1) g.2.1 serving ends
 
 light_done : (disk : Disk) (form texts : List ℕ) (w : Work) (before after : Outside) (s : Status) → (work disk (Light form texts)).gives w
     → IsDone w before after s → s ≡ status.Done → IsLit disk form texts before after
@@ -293,6 +377,38 @@ light_done disk form texts w before after s g d is =
       printed = lit.0;
       lights = lit.2;
       appended = elim so.prints [ inl x ↦ x.1 | inr x ↦ absurd (let f : status.Done ≡ status.WriteFault = sym is ∙ x.0 in cc) ];
+    }
+
+-- a visit that was done came to its end
+visit_ended : (end : End) (s : Status) → IsStatusOf end s → s ≡ status.Done → end ≡ End.Done
+visit_ended End.Done s e is = refl
+visit_ended (End.Unknown name) s (inl e) is = absurd (let f : status.Done ≡ status.ScriptRefused = sym is ∙ e in cc)
+visit_ended (End.Unknown name) s (inr (inl e)) is = absurd (let f : status.Done ≡ status.WriteFault = sym is ∙ e in cc)
+visit_ended (End.Unknown name) s (inr (inr e)) is = absurd (let f : status.Done ≡ status.Memory = sym is ∙ e in cc)
+visit_ended End.Wanted s e is = absurd (let f : status.Done ≡ status.Memory = sym is ∙ e in cc)
+visit_ended End.Broken s e is = absurd (let f : status.Done ≡ status.WriteFault = sym is ∙ e in cc)
+
+visit_done : (disk : Disk) (name by : List ℕ) (judging : Judging) (form : Option (List ℕ)) (w : Work) (before after : Outside) (s : Status)
+    → (work disk (Visit name by judging form)).gives w → IsDone w before after s → s ≡ status.Done → IsVisit disk name by judging.schema form before after
+visit_done disk name by judging form w before after s g d is =
+    let ruled = g.0 in
+    let script : Script = g.2.2.0 in
+    let visit : IsVisited ruled script before after s = (subst (λ x. IsDone x before after s) g.2.2.2 d).0 in
+    record {
+      service = ruled.service;
+      schema = ruled.schema;
+      formats = ruled.formats;
+      formats_are = formats_of disk name judging form ruled g.1;
+      is = service_of disk name judging form ruled g.1;
+      content = g.2.0;
+      found = g.2.1;
+      start = script.name;
+      answers = script.lines;
+      is_script = g.2.2.1;
+      answered = λ keys k.
+          let v = subst (λ (end : End). HasVisited ruled script (record { world = empty ruled.service; keys = keys; steps = before.steps }) before.printed
+          after.printed after.keys after.steps end s) (visit_ended visit.end s visit.status_is is) (visit.visited keys k) in
+          (v.to, v.replies, v.visits, v.taken, v.prints);
     }
 
 -- neither what is said nor a read fault nor want of memory is this status
@@ -317,15 +433,24 @@ no_other words disk before after s (no_room f k) (inr e) = absurd (let g : statu
 pub headline : (words : List (List ℕ)) (disk : Disk) (before after : Outside) (s : Status) → Comes (asked words disk) before after s
     → Headline words disk before after s
 headline words disk before after s c = record {
-  replay = λ name requests judging form most is e.
+  replay = λ name requests judging form load most is e.
       let x = no_other words disk before after s c (inl e) in
-      replay_done disk name requests judging form most x.0 before after s (work_of words disk (Replay name requests judging form most) x.0 is x.1) x.2 e;
-  serve = λ name judging form port most is ends.
+      replay_done disk name requests judging form load most x.0 before after s
+      (work_of words disk (Replay name requests judging form load most) x.0 is x.1) x.2 e;
+  serve = λ name judging form load port most is ends.
       let x = no_other words disk before after s c ends in
-      serve_done disk name judging form port most x.0 before after s (work_of words disk (Serve name judging form port most) x.0 is x.1) x.2 ends;
+      serve_done disk name judging form load port most x.0 before after s
+      (work_of words disk (Serve name judging form load port most) x.0 is x.1) x.2 ends;
   light = λ form texts is e.
       let x = no_other words disk before after s c (inl e) in
       light_done disk form texts x.0 before after s (work_of words disk (Light form texts) x.0 is x.1) x.2 e;
+  freeze = λ name requests judging form load most is e.
+      let x = no_other words disk before after s c (inl e) in
+      freeze_done disk name requests judging form load most x.0 before after s
+      (work_of words disk (Freeze name requests judging form load most) x.0 is x.1) x.2 e;
+  visit = λ name by judging form is e.
+      let x = no_other words disk before after s c (inl e) in
+      visit_done disk name by judging form x.0 before after s (work_of words disk (Visit name by judging form) x.0 is x.1) x.2 e;
 }
 
 -- where the files tell

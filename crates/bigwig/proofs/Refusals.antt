@@ -6,21 +6,23 @@ use Rattle.bw_make.specs.Made.{made}
 use Rattle.bw_out.specs.Told.{Disk}
 use Rattle.bw_schema.specs.declared.schema.Schema.{Schema}
 use Rattle.bw_questions.specs.Asked.{command, file, read, typed, service_file, checked, checked_with, checked_by, accepted_file, accepted_text, accepted}
-use Rattle.bigwig.specs.Asked.{replayed}
+use Rattle.bigwig.specs.Asked.{replayed, replayed_from, followed, visited}
 use Rattle.bw_questions.specs.Asked.{turned, page, page_file, rules, schema, built_in, formats_in, formats_file, formats, judged, ruled}
-use Rattle.bigwig.specs.Asked.{at_port, beside}
+use Rattle.bigwig.specs.Asked.{start, at_port, served_from, frozen, frozen_from, beside}
 use Rattle.bw_questions.specs.Asked.{Ruled, Task, lit, lit_file}
 use Rattle.bigwig.specs.Asked.{resumed, work, asked}
 use Rattle.bw_questions.specs.Asked.Task.{to_answer, to_serve}
-use Rattle.bw_questions.specs.Asked.Work.{replays, keeps}
+use Rattle.bw_questions.specs.Asked.Work.{replays, keeps, freezes, visits}
 use Rattle.bw_questions.specs.Behind.{content_of}
 use Rattle.bw_questions.specs.Behind.{Shown, shown_file}
+use Rattle.bigwig.specs.Loading.{loads}
 use Rattle.bw_questions.specs.Questions.{Said, Question, ◌>>=◌, found}
+use Rattle.bigwig.specs.Scripts.{script}
 use Rattle.bw_command.specs.declared.command.Command.{Command}
-use Rattle.bw_command.specs.declared.command.Command.TheVariants.{Check, Replay, Resume, Serve, Keep, Valid, Make, Light}
+use Rattle.bw_command.specs.declared.command.Command.TheVariants.{Check, Replay, Resume, Serve, Keep, Valid, Make, Light, Freeze, Visit}
 use Rattle.bw_command.specs.declared.command.Judging.{Judging}
 use Rattle.bw_questions.specs.declared.status.Status.{Status}
-use Rattle.bw_questions.specs.declared.status.Status.TheVariants.{Usage, NoFile, ServiceRefused, SchemaRefused, PageRefused, FormatsRefused}
+use Rattle.bw_questions.specs.declared.status.Status.TheVariants.{Usage, NoFile, ServiceRefused, SchemaRefused, PageRefused, FormatsRefused, LoadRefused, ScriptRefused}
 
 abbrev is_refusal : Status → Bool
 is_refusal Usage = true
@@ -29,6 +31,8 @@ is_refusal ServiceRefused = true
 is_refusal SchemaRefused = true
 is_refusal PageRefused = true
 is_refusal FormatsRefused = true
+is_refusal LoadRefused = true
+is_refusal ScriptRefused = true
 is_refusal status = false
 
 abbrev Refuses : {A : Type 0} → Question A → Type 0
@@ -89,15 +93,32 @@ beside_refuses : (disk : Disk) (name journal : List ℕ) (task : Task) (ruled : 
 beside_refuses disk name journal task ruled =
     then_refuses (file disk name) (λ text. found (keeps ruled text (content_of (disk journal)) task)) (file_refuses disk name) (λ text s x. absurd x)
 
+start_refuses : (disk : Disk) (name : List ℕ) (load : Option (List ℕ)) (service : Service) → Refuses (start disk name load service)
+start_refuses disk name None service s x = absurd x
+start_refuses disk name (Some load) service s x =
+    then_refuses (file disk name) (λ text. file disk load >>= loads service text) (file_refuses disk name)
+    (λ text. then_refuses (file disk load) (loads service text) (file_refuses disk load) (λ bytes s x. says_so s _ x.3 refl)) s x
+
 work_refuses : (disk : Disk) (c : Command) → Refuses (work disk c)
 work_refuses disk (Check service judging) =
     then_refuses (accepted_file disk service judging None) accepted (accepted_file_refuses disk service judging None) (λ ruled s x. absurd x)
-work_refuses disk (Replay service requests judging form most) =
-    then_refuses (accepted_file disk service judging form) (replayed disk requests most) (accepted_file_refuses disk service judging form)
-    (λ ruled. then_refuses (file disk requests) (λ stream. found (replays ruled stream most)) (file_refuses disk requests) (λ stream s x. absurd x))
-work_refuses disk (Serve service judging form port most) =
-    then_refuses (accepted_file disk service judging form) (at_port port most) (accepted_file_refuses disk service judging form)
-    (λ ruled s x. absurd x)
+work_refuses disk (Replay service requests judging form load most) =
+    then_refuses (accepted_file disk service judging form) (replayed_from disk service load requests most)
+    (accepted_file_refuses disk service judging form)
+    (λ ruled. then_refuses (start disk service load ruled.service) (replayed disk requests most ruled) (start_refuses disk service load ruled.service)
+    (λ from. then_refuses (file disk requests) (λ stream. found (replays ruled from stream most)) (file_refuses disk requests) (λ stream s x. absurd x)))
+work_refuses disk (Serve service judging form load port most) =
+    then_refuses (accepted_file disk service judging form) (served_from disk service load port most) (accepted_file_refuses disk service judging form)
+    (λ ruled. then_refuses (start disk service load ruled.service) (at_port port most ruled) (start_refuses disk service load ruled.service)
+    (λ from s x. absurd x))
+work_refuses disk (Freeze service requests judging form load most) =
+    then_refuses (accepted_file disk service judging form) (frozen_from disk service load requests most)
+    (accepted_file_refuses disk service judging form)
+    (λ ruled. then_refuses (start disk service load ruled.service) (frozen disk service requests most ruled) (start_refuses disk service load ruled.service)
+    (λ from. then_refuses (file disk service) (λ text. file disk requests >>= (λ stream. found (freezes ruled from text stream most)))
+    (file_refuses disk service)
+    (λ text. then_refuses (file disk requests) (λ stream. found (freezes ruled from text stream most)) (file_refuses disk requests)
+    (λ stream s x. absurd x))))
 work_refuses disk (Resume service from judging form journal most) =
     then_refuses (accepted_file disk service judging form) (resumed disk service from journal most) (accepted_file_refuses disk service judging form)
     (λ ruled. then_refuses (file disk from) (λ stream. beside disk service journal (to_answer stream most) ruled) (file_refuses disk from)
@@ -113,6 +134,10 @@ work_refuses disk (Make count workers) =
 work_refuses disk (Light form texts) =
     then_refuses (formats_file disk form) (lit_file disk texts) (formats_file_refuses disk form)
     (λ given. then_refuses (file disk texts) (lit given) (file_refuses disk texts) (λ content s x. says_so s _ x.1 refl))
+work_refuses disk (Visit service by judging form) =
+    then_refuses (accepted_file disk service judging form) (visited disk by) (accepted_file_refuses disk service judging form)
+    (λ ruled. then_refuses (file disk by) (followed ruled) (file_refuses disk by)
+    (λ content. then_refuses (script content) (λ s. found (visits ruled s)) (λ s x. says_so s _ x.1 refl) (λ k s x. absurd x)))
 
 asked_refuses : (words : List (List ℕ)) (disk : Disk) → Refuses (asked words disk)
 asked_refuses words disk = then_refuses (command words) (work disk) (λ s x. says_so s _ x.1 refl) (work_refuses disk)

@@ -8,24 +8,24 @@ use Rattle.bw_check.specs.Accepts.{Accepts}
 use Rattle.bw_format.specs.declared.format.Format.{Format}
 use Rattle.bw_lang.specs.declared.service.Service.{Service}
 use Rattle.bw_model.specs.Runs.{At}
-use Rattle.bw_model.specs.Sessions.{World, empty}
+use Rattle.bw_save.specs.Frozen.{loaded_of}
+use Rattle.bw_save.proofs.Stood.{saved_stands}
+use Rattle.bw_model.specs.Sessions.{World}
 use Rattle.bw_out.specs.Doors.{Returned, Asks, MayAsk}
 use Rattle.bw_stable.specs.Deeds.{Deed}
 use Rattle.bw_out.specs.Told.{Coming, Disk, Finds}
 use Rattle.bw_out.specs.Writes.{AppendsPart}
-use Rattle.bw_model.proofs.Storing.{empty_is_within}
-use Rattle.bw_sound.specs.Worlds.{BeginsSound}
 use Rattle.bw_world.specs.Seen.{Seen}
 use Rattle.bw_world.specs.Stands.{StandsFor}
 use Rattle.bw_questions.specs.Asked.{Ruled, Work, accepted_file, accepted, file}
 use Rattle.bigwig.specs.Asked.{replayed, at_port}
 use Rattle.bw_questions.specs.Asked.Work.{replays, serves}
 use Rattle.bw_questions.specs.Checks.{IsRuled}
-use Rattle.bigwig.specs.Fits.{IsFitWorld}
+use Rattle.bigwig.specs.Fits.{IsFitStart, IsFitWorld}
 use Rattle.bw_questions.specs.Codes.{status_for}
 use Rattle.bw_questions.specs.Lines.{no_file_line}
 use Rattle.bigwig.specs.Outcomes.{Comes, Replies}
-use Rattle.bigwig.specs.Works.{Outside, outside, IsReplayed, ServesLinks, begins, serving_line, status_of}
+use Rattle.bigwig.specs.Works.{Between, Outside, outside, IsReplayed, IsStreamed, ServesLinks, begins, serving_line, status_of}
 use Rattle.bigwig.specs.Outcomes.Comes.{done, read_fault, no_memory}
 use Rattle.bigwig.specs.Works.IsServing.{no_port, no_line, links_served}
 use Rattle.bw_questions.specs.Questions.{Said, Question, ◌>>=◌, IsStop, found, line}
@@ -70,46 +70,54 @@ absent_stop disk name stop.Memory e a = tt
 
 -- there is no file of the name
 pub absent_replied : {File : Type 0} (left : File → Option (List ℕ)) (told : Option Disk) (name : List ℕ) (next : Option File) (s : Stop)
-    (service : Service) (formats : List Format) (most : ℕ) (held now : Option (List ℕ)) (keys : Option Coming) (unread : Option (List ℕ)) (steps : ℕ)
-    (r : Status) → next ≡ None
+    (service : Service) (formats : List Format) (from : World) (most : ℕ) (held now : Option (List ℕ)) (keys : Option Coming) (unread : Option (List ℕ))
+    (steps : ℕ) (r : Status) → next ≡ None
     → Finds left told name next → SaysLine refusals.File (no_file_line name) s → IsReported s held now r
-    → IfSome told (λ d. (ruled : Ruled) → IsRuled service formats ruled → Replies (replayed d name most ruled) held now keys keys unread steps steps r)
-absent_replied left None name next s service formats most held now keys unread steps r none f a p = tt
-absent_replied left (Some d) name next s service formats most held now keys unread steps r none f a p =
+    → IfSome told (λ d. (ruled : Ruled) → IsRuled service formats ruled → Replies (replayed d name most ruled from) held now keys keys unread steps steps r)
+absent_replied left None name next s service formats from most held now keys unread steps r none f a p = tt
+absent_replied left (Some d) name next s service formats from most held now keys unread steps r none f a p =
     let stops = absent_stop d name s (subst (λ x. Finds left (Some d) name x) none f) a in
     λ ruled is o.
-    stopped_so (replayed d name most ruled) s held now r
-    (stops_first (file d name) (λ stream. found (replays ruled stream most)) s stops) p (record o { keys = keys; steps = steps }) unread
+    stopped_so (replayed d name most ruled from) s held now r
+    (stops_first (file d name) (λ stream. found (replays ruled from stream most)) s stops) p (record o { keys = keys; steps = steps }) unread
 
--- a stream was answered from the world in which nothing was requested yet
-stream_replied : (ruled : Ruled) (bytes : List ℕ) (most : ℕ) (old new : Place) (end : StreamEnd) (r : Status) (o : Outside)
-    → Accepts ruled.service ruled.schema → r ≡ status_of end → StandsFor old.seen (empty ruled.service) → BeginsSound ruled.service
+-- a stream was answered from this world on
+pub stream_streamed : (ruled : Ruled) (from : World) (bytes : List ℕ) (most : ℕ) (old new : Place) (end : StreamEnd)
+    → Accepts ruled.service ruled.schema → StandsFor old.seen from → IsFitWorld ruled from → old.taken ≡ [] → old.left ≡ Some bytes
+    → Answers ruled.formats ruled.service most old new end → RepliesAreGood ruled.formats ruled.service old
+    → (keys : Coming) → old.keys ≡ Some keys → (to : Between) × (new.keys ≡ Some to.keys) × (new.steps ≡ to.steps) × StandsFor new.seen to.world
+    × IsStreamed most ruled (record { world = from; keys = keys; steps = old.steps }) bytes to old.held new.held new.left end
+stream_streamed ruled from bytes most old new end accepts stands fit none left answers good keys k =
+    let at : At = begins (record { world = from; keys = keys; steps = old.steps }) bytes in
+    let here : IsAt old at = record { stands = stands; bytes = (bytes, left, sym (ap (λ l. l ++ bytes) none)); keys = k } in
+    let a = answers at here in (
+      record { world = a.0.world; keys = a.0.keys; steps = new.steps },
+      a.2.keys,
+      refl,
+      a.2.stands,
+      record {
+        rest = a.0.bytes;
+        taken = new.taken;
+        cost = a.1;
+        course = a.4;
+        unhandled = a.2.bytes;
+        steps = a.3;
+        pages = λ replies. good ruled.schema at replies accepts here fit.0;
+        within = (course_is_fit ruled most at a.0 old.held new.held new.taken a.1 end accepts a.4 fit).1;
+      },
+    )
+
+stream_replied : (ruled : Ruled) (from : World) (bytes : List ℕ) (most : ℕ) (old new : Place) (end : StreamEnd) (r : Status) (o : Outside)
+    → Accepts ruled.service ruled.schema → r ≡ status_of end → StandsFor old.seen from → IsFitWorld ruled from
     → old.taken ≡ [] → old.left ≡ Some bytes
     → Answers ruled.formats ruled.service most old new end → RepliesAreGood ruled.formats ruled.service old
-    → IsReplayed ruled bytes most (record o { printed = old.held; keys = old.keys; steps = old.steps })
+    → IsReplayed ruled from bytes most (record o { printed = old.held; keys = old.keys; steps = old.steps })
     (record o { printed = new.held; keys = new.keys; unread = new.left; steps = new.steps }) r
-stream_replied ruled bytes most old new end r o accepts e stands sound none left answers good = record {
+stream_replied ruled from bytes most old new end r o accepts e stands fit none left answers good = record {
   end = end;
   status_is = e;
   streamed = λ keys k.
-      let at : At = begins (record { world = empty ruled.service; keys = keys; steps = old.steps }) bytes in
-      let here : IsAt old at = record { stands = stands; bytes = (bytes, left, sym (ap (λ l. l ++ bytes) none)); keys = k } in
-      let a = answers at here in (
-        record { world = a.0.world; keys = a.0.keys; steps = new.steps },
-        a.2.keys,
-        refl,
-        record {
-          rest = a.0.bytes;
-          taken = new.taken;
-          cost = a.1;
-          course = a.4;
-          unhandled = a.2.bytes;
-          steps = a.3;
-          pages = λ replies. good ruled.schema at replies accepts here (sound ruled.schema 1 1 accepts);
-          within = (course_is_fit ruled most at a.0 old.held new.held new.taken a.1 end accepts a.4
-              (sound ruled.schema 1 1 accepts, empty_is_within ruled.formats ruled.service)).1;
-        },
-      );
+      let x = stream_streamed ruled from bytes most old new end accepts stands fit none left answers good keys k in (x.0, x.1, x.2, x.4);
   kept = (refl, refl, refl);
 }
 
@@ -117,50 +125,44 @@ stream_replied ruled bytes most old new end r o accepts e stands sound none left
 pub requests_replied : {File : Type 0} (left : File → Option (List ℕ)) (told : Option Disk) (name : List ℕ) (next : Option File) (file : File)
     (formats : List Format) (most : ℕ) (old new : Place) (unread : Option (List ℕ)) (end : StreamEnd) (r : Status) → unread ≡ new.left → r ≡ status_of end → next ≡ Some file
     → Finds left told name next
-    → StandsFor old.seen (empty old.seen.service) → BeginsSound old.seen.service → old.taken ≡ [] → old.left ≡ left file
+    → IsFitStart formats old.seen → old.taken ≡ [] → old.left ≡ left file
     → Answers formats old.seen.service most old new end
     → RepliesAreGood formats old.seen.service old
     → IfSome told (λ d. (ruled : Ruled) → IsRuled old.seen.service formats ruled
-    → Replies (replayed d name most ruled) old.held new.held old.keys new.keys unread old.steps new.steps r)
-requests_replied left None name next file formats most old new unread end r was e some f stands sound none here answers good = tt
-requests_replied left (Some d) name next file formats most old new unread end r was e some f stands sound none here answers good =
+    → Replies (replayed d name most ruled (loaded_of old.seen)) old.held new.held old.keys new.keys unread old.steps new.steps r)
+requests_replied left None name next file formats most old new unread end r was e some f fit none here answers good = tt
+requests_replied left (Some d) name next file formats most old new unread end r was e some f fit none here answers good =
     let found_so = subst (λ x. Finds left (Some d) name x) some f in
     λ ruled is o.
     let same : old.seen.service ≡ ruled.service = sym is.0 in
     let form : formats ≡ ruled.formats = sym is.2 in
-    done (replays ruled found_so.0 most) (found_so.0, found_so.1, refl) (
-      (subst (λ u. IsReplayed ruled found_so.0 most (record o { printed = old.held; keys = old.keys; steps = old.steps })
+    let from = loaded_of old.seen in
+    done (replays ruled from found_so.0 most) (found_so.0, found_so.1, refl) (
+      (subst (λ u. IsReplayed ruled from found_so.0 most (record o { printed = old.held; keys = old.keys; steps = old.steps })
           (record o { printed = new.held; keys = new.keys; unread = u; steps = new.steps }) r) (sym was)
-          (stream_replied ruled found_so.0 most old new end r o is.1 e (subst (λ s. StandsFor old.seen (empty s)) same stands)
-          (subst BeginsSound same sound) none (here ∙ found_so.2)
+          (stream_replied ruled from found_so.0 most old new end r o is.1 e (saved_stands old.seen) (fit ruled is) none (here ∙ found_so.2)
           (subst (λ f. Answers f ruled.service most old new end) form (subst (λ s. Answers formats s most old new end) same answers))
           (subst (λ f. RepliesAreGood f ruled.service old) form (subst (λ s. RepliesAreGood formats s old) same good)))),
       refl,
     )
 
--- the service and the formats are those that the server was made with
-pub by_service : (told : Option Disk) (q : Disk → Ruled → Question Work) (service seen : Service) (formats kept : List Format) (held now : Option (List ℕ))
-    (keys later : Option Coming) (unread : Option (List ℕ)) (steps after : ℕ) (r : Status) → seen ≡ service → kept ≡ formats
-    → IfSome told (λ d. (ruled : Ruled) → IsRuled seen kept ruled → Replies (q d ruled) held now keys later unread steps after r)
-    → IfSome told (λ d. (ruled : Ruled) → IsRuled service formats ruled → Replies (q d ruled) held now keys later unread steps after r)
-by_service told q service seen formats kept held now keys later unread steps after r e f h =
-    subst (λ k. IfSome told (λ d. (ruled : Ruled) → IsRuled service k ruled → Replies (q d ruled) held now keys later unread steps after r)) f
-    (subst (λ s. IfSome told (λ d. (ruled : Ruled) → IsRuled s kept ruled → Replies (q d ruled) held now keys later unread steps after r)) e h)
-
 -- the service was found, and then its requests were answered, whose file is asked for by the text of its name
-pub replies_found : (told later_told : Option Disk) (name : List ℕ) (judging : Judging) (form : Option (List ℕ)) (requests text : List ℕ) (most : ℕ) (ruled : Ruled)
-    (held now : Option (List ℕ)) (keys later : Option Coming) (unread : Option (List ℕ)) (steps after : ℕ) (r : Status) → later_told ≡ told
-    → text ≡ requests → IfSome told (λ d. (accepted_file d name judging form).gives ruled)
-    → IfSome later_told (λ d. (x : Ruled) → IsRuled ruled.service ruled.formats x → Replies (replayed d text most x) held now keys later unread steps after r)
-    → IfSome told (λ d. Replies (accepted_file d name judging form >>= replayed d requests most) held now keys later unread steps after r)
-replies_found None later_told name judging form requests text most ruled held now keys later unread steps after r e t g h = tt
-replies_found (Some d) later_told name judging form requests text most ruled held now keys later unread steps after r e t g h =
+pub replies_found : (told later_told : Option Disk) (name : List ℕ) (judging : Judging) (form : Option (List ℕ)) (requests asked text : List ℕ)
+    (q : Disk → List ℕ → List ℕ → Ruled → Question Work) (ruled : Ruled) (held now : Option (List ℕ)) (keys later : Option Coming)
+    (unread : Option (List ℕ)) (steps after : ℕ) (r : Status) → later_told ≡ told
+    → asked ≡ requests → IfSome told (λ d. (accepted_file d name judging form).gives ruled) → IfSome told (λ d. d name ≡ Some text)
+    → IfSome later_told (λ d. (x : Ruled) (service : List ℕ) → IsRuled ruled.service ruled.formats x → d service ≡ Some text
+    → Replies (q d service asked x) held now keys later unread steps after r)
+    → IfSome told (λ d. Replies (accepted_file d name judging form >>= q d name requests) held now keys later unread steps after r)
+replies_found None later_told name judging form requests asked text q ruled held now keys later unread steps after r e t g there h = tt
+replies_found (Some d) later_told name judging form requests asked text q ruled held now keys later unread steps after r e t g there h =
     let all = subst
-    (λ o. IfSome o (λ d. (x : Ruled) → IsRuled ruled.service ruled.formats x → Replies (replayed d text most x) held now keys later unread steps after r)) e h in
+    (λ o. IfSome o (λ d. (x : Ruled) (service : List ℕ) → IsRuled ruled.service ruled.formats x → d service ≡ Some text
+    → Replies (q d service asked x) held now keys later unread steps after r)) e h in
     let is = found_accepted d name judging form ruled g in
     λ o.
-    comes_then (accepted_file d name judging form) (replayed d requests most) ruled _ _ r g
-    (subst (λ n. Replies (replayed d n most ruled) held now keys later unread steps after r) t (all ruled is) o)
+    comes_then (accepted_file d name judging form) (q d name requests) ruled _ _ r g
+    (subst (λ n. Replies (q d name n ruled) held now keys later unread steps after r) t (all ruled name is there) o)
 
 -- ---- links
 
@@ -169,56 +171,49 @@ outside_same : (p : Option (List ℕ)) (k : Option Coming) (a : Option (List ℕ
 outside_same p k a c d r t u s m e f = ap (λ x. outside p k a x r u s m) e ∙ ap (λ x. outside p k a d x u s m) f
 
 -- the port couldn't be listened on
-pub no_port_comes : (ruled : Ruled) (port most : ℕ) (o : Outside) (asked : Option (List ℕ)) (coming : Option (List (List ℕ)))
+pub no_port_comes : (ruled : Ruled) (from : World) (port most : ℕ) (o : Outside) (asked : Option (List ℕ)) (coming : Option (List (List ℕ)))
     (returned : Option (List Returned)) (unread : Option (List ℕ)) → coming ≡ o.coming → returned ≡ o.returned → MayAsk o.asked asked port
-    → Comes (at_port port most ruled) o (outside o.printed o.keys asked coming returned unread o.steps o.deeds) status.DoorFault
-no_port_comes ruled port most o asked coming returned unread e f a =
-    done (serves ruled port most) refl (no_port refl a (outside_same o.printed o.keys asked coming o.coming returned o.returned unread o.steps o.deeds e f), refl)
+    → Comes (at_port port most ruled from) o (outside o.printed o.keys asked coming returned unread o.steps o.deeds) status.DoorFault
+no_port_comes ruled from port most o asked coming returned unread e f a =
+    done (serves ruled from port most) refl
+    (no_port refl a (outside_same o.printed o.keys asked coming o.coming returned o.returned unread o.steps o.deeds e f), refl)
 
 -- the line was printed in a first part
-pub no_line_comes : (ruled : Ruled) (port most : ℕ) (o : Outside) (printed asked : Option (List ℕ)) (coming : Option (List (List ℕ)))
+pub no_line_comes : (ruled : Ruled) (from : World) (port most : ℕ) (o : Outside) (printed asked : Option (List ℕ)) (coming : Option (List (List ℕ)))
     (returned : Option (List Returned)) (unread : Option (List ℕ)) → coming ≡ o.coming → returned ≡ o.returned
     → Asks o.asked asked port → AppendsPart o.printed printed (serving_line port)
-    → Comes (at_port port most ruled) o (outside printed o.keys asked coming returned unread o.steps o.deeds) status.WriteFault
-no_line_comes ruled port most o printed asked coming returned unread e f a p =
-    done (serves ruled port most) refl (no_line refl a p (outside_same printed o.keys asked coming o.coming returned o.returned unread o.steps o.deeds e f), refl)
+    → Comes (at_port port most ruled from) o (outside printed o.keys asked coming returned unread o.steps o.deeds) status.WriteFault
+no_line_comes ruled from port most o printed asked coming returned unread e f a p =
+    done (serves ruled from port most) refl
+    (no_line refl a p (outside_same printed o.keys asked coming o.coming returned o.returned unread o.steps o.deeds e f), refl)
 
 -- links were served
 pub serving_comes : (ruled : Ruled) (seen : Seen) (formats : List Format) (port most : ℕ) (o after : Outside) (asked : Option (List ℕ))
     (coming : Option (List (List ℕ))) (returned : Option (List Returned)) (s : Status) → coming ≡ o.coming → returned ≡ o.returned
-    → IsRuled seen.service formats ruled → StandsFor seen (empty seen.service) → BeginsSound seen.service → Asks o.asked asked port → after.asked ≡ asked
+    → IsRuled seen.service formats ruled → IsFitStart formats seen → Asks o.asked asked port → after.asked ≡ asked
     → after.deeds ≡ o.deeds → Appends o.printed after.printed (serving_line port) → (s ≡ status.Done) ⊎ (s ≡ status.DoorFault)
     → ((r : Ruled) (m : World) → IsRuled seen.service formats r → StandsFor seen m → IsFitWorld r m
     → ServesLinks r m most (outside None o.keys asked coming returned None o.steps None) (record after { printed = None; unread = None; deeds = None }) s)
-    → Comes (at_port port most ruled) o after s
-serving_comes ruled seen formats port most o after asked coming returned s e f is stands sound asks same still line ends gives =
+    → Comes (at_port port most ruled (loaded_of seen)) o after s
+serving_comes ruled seen formats port most o after asked coming returned s e f is fit asks same still line ends gives =
     let unprinted : Outside = record after { printed = None; unread = None; deeds = None } in
-    let from = gives ruled (empty ruled.service) is (subst (λ t. StandsFor seen (empty t)) (sym is.0) stands)
-    (subst BeginsSound (sym is.0) sound ruled.schema 1 1 is.1, empty_is_within ruled.formats ruled.service) in
-    let all : ServesLinks ruled (empty ruled.service) most o after s = λ keys k links l given g.
+    let world = loaded_of seen in
+    let from = gives ruled world is (saved_stands seen) (fit ruled is) in
+    let all : ServesLinks ruled world most o after s = λ keys k links l given g.
     let x = from keys k links (e ∙ l) given (f ∙ g) in
     (x.0, x.1, x.2, given_so ruled _ links given x.0 x.1 x.2 unprinted after x.3 refl refl refl refl, x.4, x.5) in
-    done (serves ruled port most) refl (links_served ends (subst (λ x. Asks o.asked x port) (sym same) asks) line all, still)
-
--- the service and the formats are those that the server was made with
-pub by_same_service : (port most : ℕ) (service seen : Service) (formats kept : List Format) (before after : Outside) (s : Status) → seen ≡ service
-    → kept ≡ formats → ((ruled : Ruled) (u v : Option (List ℕ)) → IsRuled seen kept ruled
-    → Comes (at_port port most ruled) (record before { unread = u }) (record after { unread = v }) s)
-    → (ruled : Ruled) (u v : Option (List ℕ)) → IsRuled service formats ruled
-    → Comes (at_port port most ruled) (record before { unread = u }) (record after { unread = v }) s
-by_same_service port most service seen formats kept before after s e f h =
-    subst (λ k. (ruled : Ruled) (u v : Option (List ℕ)) → IsRuled service k ruled
-    → Comes (at_port port most ruled) (record before { unread = u }) (record after { unread = v }) s) f
-    (subst (λ t. (ruled : Ruled) (u v : Option (List ℕ)) → IsRuled t kept ruled
-    → Comes (at_port port most ruled) (record before { unread = u }) (record after { unread = v }) s) e h)
+    done (serves ruled world port most) refl (links_served ends (subst (λ x. Asks o.asked x port) (sym same) asks) line all, still)
 
 -- the service was found, and then its port was served
-pub port_comes : (told : Option Disk) (name : List ℕ) (judging : Judging) (form : Option (List ℕ)) (port most : ℕ) (ruled : Ruled) (before after : Outside) (s : Status)
-    → IfSome told (λ d. (accepted_file d name judging form).gives ruled)
-    → ((x : Ruled) (u v : Option (List ℕ)) → IsRuled ruled.service ruled.formats x
-    → Comes (at_port port most x) (record before { unread = u }) (record after { unread = v }) s)
-    → IfSome told (λ d. Comes (accepted_file d name judging form >>= at_port port most) before after s)
-port_comes None name judging form port most ruled before after s g h = tt
-port_comes (Some d) name judging form port most ruled before after s g h =
-    comes_then (accepted_file d name judging form) (at_port port most) ruled before after s g
-    (h ruled before.unread after.unread (found_accepted d name judging form ruled g))
+pub port_comes : (told later : Option Disk) (name : List ℕ) (judging : Judging) (form : Option (List ℕ)) (text : List ℕ)
+    (q : Disk → List ℕ → Ruled → Question Work) (ruled : Ruled) (before after : Outside) (s : Status) → later ≡ told
+    → IfSome told (λ d. (accepted_file d name judging form).gives ruled) → IfSome told (λ d. d name ≡ Some text)
+    → IfSome later (λ d. (x : Ruled) (service : List ℕ) (u v : Option (List ℕ)) → IsRuled ruled.service ruled.formats x → d service ≡ Some text
+    → Comes (q d service x) (record before { unread = u }) (record after { unread = v }) s)
+    → IfSome told (λ d. Comes (accepted_file d name judging form >>= q d name) before after s)
+port_comes None later name judging form text q ruled before after s e g there h = tt
+port_comes (Some d) later name judging form text q ruled before after s e g there h =
+    let all = subst (λ o. IfSome o (λ d. (x : Ruled) (service : List ℕ) (u v : Option (List ℕ)) → IsRuled ruled.service ruled.formats x → d service ≡ Some text
+    → Comes (q d service x) (record before { unread = u }) (record after { unread = v }) s)) e h in
+    comes_then (accepted_file d name judging form) (q d name) ruled before after s g
+    (all ruled name before.unread after.unread (found_accepted d name judging form ruled g) there)

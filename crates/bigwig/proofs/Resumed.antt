@@ -16,7 +16,7 @@ use Rattle.bw_world.specs.Streams.Good.{RepliesAreGood}
 use Rattle.bw_questions.specs.Asked.{Ruled, Task, Work, accepted_file, file}
 use Rattle.bigwig.specs.Asked.{beside, resumed}
 use Rattle.bw_questions.specs.Asked.Task.{to_answer}
-use Rattle.bw_questions.specs.Asked.Work.{prints, replays, serves, keeps}
+use Rattle.bw_questions.specs.Asked.Work.{prints, replays, serves, keeps, freezes, visits}
 use Rattle.bw_questions.specs.Behind.{content_of}
 use Rattle.bw_questions.specs.Checks.{IsRuled}
 use Rattle.bigwig.specs.Fits.{IsFitWorld}
@@ -80,19 +80,32 @@ stream_resumed ruled m seen later formats stream held taken most sum next o afte
 
 -- ---- the work
 
-serving_reading : (ruled : Ruled) (port most : ℕ) (before after : Outside) (u : Option (List ℕ)) (s : Status)
-    → IsServing ruled port most (record before { unread = u }) after s → IsServing ruled port most before after s
-serving_reading ruled port most before after u s (no_port e m k) = no_port e m k
-serving_reading ruled port most before after u s (no_line e a p k) = no_line e a p k
-serving_reading ruled port most before after u s (links_served e a p l) = links_served e a p l
+serving_reading : (ruled : Ruled) (from : World) (port most : ℕ) (before after : Outside) (u : Option (List ℕ)) (s : Status)
+    → IsServing ruled from port most (record before { unread = u }) after s → IsServing ruled from port most before after s
+serving_reading ruled from port most before after u s (no_port e m k) = no_port e m k
+serving_reading ruled from port most before after u s (no_line e a p k) = no_line e a p k
+serving_reading ruled from port most before after u s (links_served e a p l) = links_served e a p l
 
 work_reading : (work : Work) (before after : Outside) (u : Option (List ℕ)) (s : Status) → IsDone work (record before { unread = u }) after s
     → IsDone work before after s
 work_reading (prints text) before after u s d = record { prints = d.prints; kept = d.kept }
-work_reading (replays ruled stream most) before after u s d =
+work_reading (replays ruled from stream most) before after u s d =
     (record { end = d.0.end; status_is = d.0.status_is; streamed = d.0.streamed; kept = d.0.kept }, d.1)
-work_reading (serves ruled port most) before after u s d = (serving_reading ruled port most before after u s d.0, d.1)
+work_reading (serves ruled from port most) before after u s d = (serving_reading ruled from port most before after u s d.0, d.1)
 work_reading (keeps ruled text content task) before after u s d = of_reading ruled text content task before after u before.steps s d
+work_reading (freezes ruled from text stream most) before after u s d = (
+  record {
+    seen = d.0.seen;
+    service = d.0.service;
+    end = d.0.end;
+    freezes = d.0.freezes;
+    streamed = d.0.streamed;
+    kept = d.0.kept;
+  },
+  d.1,
+)
+work_reading (visits ruled script) before after u s d =
+    (record { end = d.0.end; status_is = d.0.status_is; visited = d.0.visited; kept = d.0.kept }, d.1)
 
 -- what is left of a file that was read before is of no account
 comes_reading : (question : Question Work) (before after : Outside) (u : Option (List ℕ)) (s : Status)

@@ -4,6 +4,9 @@ use Rattle.std.specs.Str.{is_utf8}
 use Rattle.std.specs.Str.Lines.{lines}
 use Rattle.std.proofs.lemmas.Bool.{cases_lt}
 use Rattle.std.proofs.lemmas.Str.{is_utf8-from_IsUtf8, IsUtf8-from_is_utf8}
+use Rattle.bw_analyse.specs.declared.facts.Facts.{Facts}
+use Rattle.bw_analyse.specs.Facts.{AreFacts}
+use Rattle.bw_check.specs.Accepts.{Accepts}
 use Rattle.bw_format.specs.FormatFile.{Gives}
 use Rattle.bw_format.specs.declared.file.FormatFault.{FormatFault}
 use Rattle.bw_format.specs.declared.file.FormatFault.TheVariants as fault
@@ -16,9 +19,13 @@ use Rattle.bw_lang.specs.Service.Reads.{Reads}
 use Rattle.bw_lang.specs.declared.declaration.Draft.{Draft}
 use Rattle.bw_lang.specs.declared.service.Service.{Service}
 use Rattle.bw_lights.proofs.SomeLights.{some_lights}
+use Rattle.bw_load.specs.declared.loading.LoadFault.{LoadFault}
+use Rattle.bw_load.specs.Loaded.{world_of}
+use Rattle.bw_load.specs.Loads.{loaded}
 use Rattle.bw_make.specs.Made.{made}
 use Rattle.bw_out.specs.Told.{Disk}
 use Rattle.bw_read.proofs.Decided.{page_or_none}
+use Rattle.bw_saved.specs.declared.saved.Saved.{Saved}
 use Rattle.bw_schema.specs.declared.schema.Schema.{Schema}
 use Rattle.bw_schema.proofs.SchemaLaws.{read_or_refused as read_or_refused_schema}
 use Rattle.bw_syntax.proofs.Answered.{always}
@@ -27,22 +34,27 @@ use Rattle.bw_types.specs.declared.fault.TypeFault.{TypeFault}
 use Rattle.bw_valid.specs.Breaches.{breach}
 use Rattle.bw_valid.specs.declared.breach.Breach.{Breach}
 use Rattle.bw_valid.proofs.BreachLaws.{valid_decided}
+use Rattle.bw_visit.proofs.Decided.{script_or_none}
 use Rattle.bw_questions.specs.Asked.{page, page_file, rules, schema, built_in, judged, ruled, formats_in, formats_file, formats, AreTexts, lit, lit_file}
 use Rattle.bw_questions.specs.Asked.Work.{prints}
 use Rattle.bw_questions.specs.Asked.{command, file, read, typed, service_file, service_text, checked, checked_with, checked_by, accepted_file, accepted_text}
-use Rattle.bw_questions.specs.Asked.{accepted, turned, usage_line}
-use Rattle.bigwig.specs.Asked.{replayed, resumed, at_port, beside, work, asked}
+use Rattle.bw_questions.specs.Asked.{accepted, turned}
+use Rattle.bigwig.specs.Asked.{start, replayed, replayed_from, resumed, at_port, served_from, frozen, frozen_from, beside, work, asked, followed, visited}
+use Rattle.bw_questions.specs.Asked.{Ruled, usage_line}
 use Rattle.bw_questions.specs.Asked.Task.{to_serve}
 use Rattle.bw_questions.specs.Behind.{Shown, AreShown, shown_file, content_of, behind_syntax, behind_type, blamed_in, behind_fault}
 use Rattle.bw_command.specs.Commands.{command_of}
 use Rattle.bw_questions.specs.FaultLines.{check_text, page_names}
 use Rattle.bigwig.specs.Laws.{HasVerdict, Checks}
 use Rattle.bw_questions.specs.Lines.{syntax_line, type_line, no_file_line, no_page_line, breach_line, schema_line, format_line, no_texts_line}
+use Rattle.bigwig.specs.Loading.{load_line, loads}
 use Rattle.bw_questions.specs.Questions.{Said, Question, ◌>>=◌, found, line}
+use Rattle.bigwig.proofs.OneLoad.{loaded_tells}
 use Rattle.bw_command.specs.declared.command.Command.{Command}
-use Rattle.bw_command.specs.declared.command.Command.TheVariants.{Check, Replay, Resume, Serve, Keep, Valid, Make, Light}
+use Rattle.bw_command.specs.declared.command.Command.TheVariants.{Check, Replay, Resume, Serve, Keep, Valid, Make, Light, Freeze, Visit}
 use Rattle.bw_command.specs.declared.command.Judging.{Judging}
-use Rattle.bw_questions.specs.declared.status.Status.TheVariants.{Usage, NoFile, ServiceRefused, SchemaRefused, PageRefused, FormatsRefused}
+use Rattle.bw_questions.specs.declared.status.Status.TheVariants.{Usage, NoFile, ServiceRefused, SchemaRefused, PageRefused, FormatsRefused, LoadRefused, ScriptRefused}
+use Rattle.bigwig.specs.Scripts.{no_script_line, script}
 
 abbrev pub HasAnswer : {A : Type 0} → Question A → Type 0
 HasAnswer {A = A} question = ((a : A) × question.gives a) ⊎ ((said : Said) × question.says said)
@@ -192,17 +204,59 @@ accepted_text_some text verdicts =
     then_some (service_text None text) (λ tree. built_in >>= (λ by. checked None tree by [])) (service_text_some text)
     (λ tree g. then_some built_in (λ by. checked None tree by []) (rules_some _) (λ by k. checked_some None tree by [] ([], tt) (verdicts tree by g k)))
 
+-- a file of saved sessions gives a world, or it is refused
+loads_some : (service : Service) (facts : Facts) → AreFacts service facts → (text bytes : List ℕ) → HasAnswer (loads service text bytes)
+loads_some service facts are text bytes = by_result (loaded service facts text bytes) refl
+  where
+    by_result : (r : Result Saved LoadFault) → loaded service facts text bytes ≡ r → HasAnswer (loads service text bytes)
+    by_result (Ok s) e = inl (world_of service s, (s, (facts, are, e), refl))
+    by_result (Err f) e = inr (
+      record { status = LoadRefused; text = line (load_line f) },
+      (f, (facts, are, e), (λ same. loaded_tells service facts text bytes (e ∙ ap Err same)), refl),
+    )
+
+start_some : (disk : Disk) (name : List ℕ) (load : Option (List ℕ)) (service : Service) (facts : Facts) → AreFacts service facts
+    → HasAnswer (start disk name load service)
+start_some disk name None service facts are = found_some _
+start_some disk name (Some load) service facts are =
+    then_some (file disk name) (λ text. file disk load >>= loads service text) (file_some disk name)
+    (λ text _. then_some (file disk load) (loads service text) (file_some disk load) (λ bytes _. loads_some service facts are text bytes))
+
+-- a service of a file that is accepted has facts
+file_facts : (disk : Disk) (name : List ℕ) (judging : Judging) (form : Option (List ℕ)) (ruled : Ruled) → (accepted_file disk name judging form).gives ruled
+    → (facts : Facts) × AreFacts ruled.service facts
+file_facts disk name judging form ruled g =
+    let a = subst (λ (r : Ruled). Accepts r.service r.schema) (sym g.2.2.2.0) g.2.2.2.1 in (a.0, a.1.facts_are)
+
+script_some : (content : List ℕ) → HasAnswer (script content)
+script_some content = elim (script_or_none content) as (λ _. HasAnswer (script content)) [
+  | inl x ↦ inl (record { name = x.0; lines = x.1 }, x.2)
+  | inr x ↦ inr (record { status = ScriptRefused; text = line no_script_line }, (x, refl))
+]
+
 work_some : (disk : Disk) (c : Command) → ((tree : Service) (by : Schema) → Checks disk c tree by → HasVerdict tree by) → HasAnswer (work disk c)
 work_some disk (Check service judging) verdicts =
     then_some (accepted_file disk service judging None) accepted
     (accepted_file_some disk service judging None (λ tree by g k. verdicts tree by (g, k))) (λ ruled _. found_some _)
-work_some disk (Replay service requests judging form most) verdicts =
-    then_some (accepted_file disk service judging form) (replayed disk requests most)
+work_some disk (Replay service requests judging form load most) verdicts =
+    then_some (accepted_file disk service judging form) (replayed_from disk service load requests most)
     (accepted_file_some disk service judging form (λ tree by g k. verdicts tree by (g, k)))
-    (λ ruled _. then_some (file disk requests) _ (file_some disk requests) (λ stream _. found_some _))
-work_some disk (Serve service judging form port most) verdicts =
-    then_some (accepted_file disk service judging form) (at_port port most)
-    (accepted_file_some disk service judging form (λ tree by g k. verdicts tree by (g, k))) (λ ruled _. found_some _)
+    (λ ruled g. let f = file_facts disk service judging form ruled g in
+    then_some (start disk service load ruled.service) (replayed disk requests most ruled) (start_some disk service load ruled.service f.0 f.1)
+    (λ from _. then_some (file disk requests) _ (file_some disk requests) (λ stream _. found_some _)))
+work_some disk (Serve service judging form load port most) verdicts =
+    then_some (accepted_file disk service judging form) (served_from disk service load port most)
+    (accepted_file_some disk service judging form (λ tree by g k. verdicts tree by (g, k)))
+    (λ ruled g. let f = file_facts disk service judging form ruled g in
+    then_some (start disk service load ruled.service) (at_port port most ruled) (start_some disk service load ruled.service f.0 f.1)
+    (λ from _. found_some _))
+work_some disk (Freeze service requests judging form load most) verdicts =
+    then_some (accepted_file disk service judging form) (frozen_from disk service load requests most)
+    (accepted_file_some disk service judging form (λ tree by g k. verdicts tree by (g, k)))
+    (λ ruled g. let f = file_facts disk service judging form ruled g in
+    then_some (start disk service load ruled.service) (frozen disk service requests most ruled) (start_some disk service load ruled.service f.0 f.1)
+    (λ from _. then_some (file disk service) _ (file_some disk service)
+    (λ text _. then_some (file disk requests) _ (file_some disk requests) (λ stream _. found_some _))))
 work_some disk (Resume service from judging form journal most) verdicts =
     then_some (accepted_file disk service judging form) (resumed disk service from journal most)
     (accepted_file_some disk service judging form (λ tree by g k. verdicts tree by (g, k)))
@@ -221,6 +275,11 @@ work_some disk (Make count workers) verdicts =
 work_some disk (Light form texts) verdicts =
     then_some (formats_file disk form) (lit_file disk texts) (formats_file_some disk form)
     (λ given g. then_some (file disk texts) (lit given) (file_some disk texts) (λ content _. lit_some g.0 given g.2 content))
+work_some disk (Visit service by judging form) verdicts =
+    then_some (accepted_file disk service judging form) (visited disk by)
+    (accepted_file_some disk service judging form (λ tree by g k. verdicts tree by (g, k)))
+    (λ ruled _. then_some (file disk by) (followed ruled) (file_some disk by)
+    (λ content _. then_some (script content) _ (script_some content) (λ s _. found_some _)))
 
 -- all that the program asks has an answer, where the check has a verdict on the service that the words lead to
 pub asked_some : (words : List (List ℕ)) (disk : Disk)

@@ -7,6 +7,7 @@ use Rattle.bw_check.specs.declared.fault.CheckFault.TheVariants as checks
 use Rattle.bw_lang.specs.Service.Reads.{Reads}
 use Rattle.bw_lang.specs.declared.service.Service.{Service}
 use Rattle.bw_make.specs.Made.{made}
+use Rattle.bw_model.specs.Sessions.{World}
 use Rattle.bw_out.specs.Told.{Disk}
 use Rattle.bw_read.specs.Pages.{IsPage}
 use Rattle.bw_schema.specs.BuiltIn.{built_in_root, built_in_rules}
@@ -18,16 +19,17 @@ use Rattle.bw_types.specs.Faults.{IsWellTyped}
 use Rattle.bw_questions.specs.Asked.{Ruled, Task, Work, built_in, schema, service_file, service_text}
 use Rattle.bigwig.specs.Asked.{asked}
 use Rattle.bw_questions.specs.Asked.Task.{to_serve}
-use Rattle.bw_questions.specs.Asked.Work.{keeps, serves}
+use Rattle.bw_questions.specs.Asked.Work.{freezes, keeps, serves, visits}
 use Rattle.bw_command.specs.Commands.{command_of}
 use Rattle.bigwig.specs.Outcomes.{Comes, IsDone}
 use Rattle.bigwig.specs.Works.{Outside}
 use Rattle.bw_questions.specs.Questions.{Said}
+use Rattle.bw_questions.specs.Asked.{Script}
 use Rattle.bw_command.specs.declared.command.Command.{Command}
-use Rattle.bw_command.specs.declared.command.Command.TheVariants.{Check, Make, Replay, Resume, Serve, Keep, Valid, Light}
+use Rattle.bw_command.specs.declared.command.Command.TheVariants.{Check, Make, Replay, Resume, Serve, Keep, Valid, Light, Freeze, Visit}
 use Rattle.bw_command.specs.declared.command.Judging.{Judging}
 use Rattle.bw_questions.specs.declared.status.Status.{Status}
-use Rattle.bw_questions.specs.declared.status.Status.TheVariants.{Done, ReadFault, WriteFault, DoorFault, Memory, JournalRefused, JournalFault}
+use Rattle.bw_questions.specs.declared.status.Status.TheVariants.{Done, ReadFault, WriteFault, DoorFault, Memory, SaveRefused, JournalRefused, JournalFault, ScriptRefused}
 
 -- the status that is due by the words and the files: that of what is said, or that of work that is done
 abbrev pub Due : List (List ℕ) → Disk → Status → Type 0
@@ -41,14 +43,17 @@ HasVerdict tree by = Accepts tree by ⊎ ((fault : CheckFault) × IsCheckFault t
 -- the command leads to a check of this service by this schema
 abbrev pub Checks : Disk → Command → Service → Schema → Type 0
 Checks disk (Check service judging) tree by = (service_file None disk service).gives tree × (schema disk judging.schema).gives by
-Checks disk (Replay service requests judging form most) tree by = (service_file None disk service).gives tree × (schema disk judging.schema).gives by
+Checks disk (Replay service requests judging form load most) tree by = (service_file None disk service).gives tree × (schema disk judging.schema).gives by
 Checks disk (Resume service requests judging form journal most) tree by =
     (service_file None disk service).gives tree × (schema disk judging.schema).gives by
-Checks disk (Serve service judging form port most) tree by = (service_file None disk service).gives tree × (schema disk judging.schema).gives by
+Checks disk (Serve service judging form load port most) tree by = (service_file None disk service).gives tree × (schema disk judging.schema).gives by
 Checks disk (Keep service judging form journal port most) tree by = (service_file None disk service).gives tree × (schema disk judging.schema).gives by
 Checks disk (Valid name named) tree by = ⊥
 Checks disk (Make count workers) tree by = (service_text None (made count)).gives tree × built_in.gives by
 Checks disk (Light form texts) tree by = ⊥
+Checks disk (Freeze service requests judging form load most) tree by =
+    (service_file None disk service).gives tree × (schema disk judging.schema).gives by
+Checks disk (Visit service script judging form) tree by = (service_file None disk service).gives tree × (schema disk judging.schema).gives by
 
 -- for all words and files some status is due, where the check has a verdict on the service that they lead to, if any
 abbrev pub SomeStatusIsDue : Type 0
@@ -61,26 +66,34 @@ SomeStatusIsDue =
 abbrev pub OneStatusIsDue : Type 0
 OneStatusIsDue = (words : List (List ℕ)) (disk : Disk) (status other : Status) → Due words disk status → Due words disk other → status ≡ other
 
--- the status of a fault that is counted, that of want of memory, or that of a journal that is refused
+-- the status of a fault that is counted, that of want of memory, that of a journal that is refused, or that of a world that is
+-- too much to be saved
 abbrev pub IsFree : Status → Type 0
 IsFree status =
-    (status ≡ ReadFault) ⊎ ((status ≡ WriteFault) ⊎ ((status ≡ DoorFault) ⊎ ((status ≡ Memory) ⊎ ((status ≡ JournalFault) ⊎ (status ≡ JournalRefused)))))
+    (status ≡ ReadFault)
+    ⊎ ((status ≡ WriteFault) ⊎ ((status ≡ DoorFault) ⊎ ((status ≡ Memory) ⊎ ((status ≡ JournalFault) ⊎ ((status ≡ JournalRefused) ⊎ (status ≡ SaveRefused))))))
 
--- the program comes to the status that is due, unless a count rose or there was no memory
+-- a visit ended where an answer of its script had no control
+abbrev pub IsUnanswered : List (List ℕ) → Disk → Status → Type 0
+IsUnanswered words disk status = (status ≡ ScriptRefused) × (ruled : Ruled) × (script : Script) × (asked words disk).gives (visits ruled script)
+
+-- the program comes to the status that is due, unless a count rose, there was no memory, or an answer had no control
 abbrev pub ComesWhereDue : Type 0
 ComesWhereDue =
     (words : List (List ℕ)) (disk : Disk) (before after : Outside) (status other : Status) → Due words disk status → Comes (asked words disk) before after other
-    → (other ≡ status) ⊎ IsFree other
+    → (other ≡ status) ⊎ (IsFree other ⊎ IsUnanswered words disk other)
 
--- where every question goes well, the work is done, unless a count rose or there was no memory
+-- where every question goes well, the work is done, unless a count rose or there was no memory; or a visit ends at an answer
+-- that had no control
 abbrev pub DoesItsWork : Type 0
 DoesItsWork =
     (words : List (List ℕ)) (disk : Disk) (work : Work) (before after : Outside) (status : Status) → (asked words disk).gives work
-    → Comes (asked words disk) before after status → ((status ≡ Done) × IsDone work before after status) ⊎ IsFree status
+    → Comes (asked words disk) before after status
+    → ((status ≡ Done) × IsDone work before after status) ⊎ (IsFree status ⊎ (IsUnanswered words disk status × IsDone work before after status))
 
 -- the work serves links at a port
 pub data ServesLinks : Work → Type 0 where
-  alone : (ruled : Ruled) (port most : ℕ) → ServesLinks (serves ruled port most)
+  alone : (ruled : Ruled) (from : World) (port most : ℕ) → ServesLinks (serves ruled from port most)
   kept : (ruled : Ruled) (text content : List ℕ) (port most : ℕ) → ServesLinks (keeps ruled text content (to_serve port most))
 
 -- the door's fault comes only where a service is served
@@ -95,6 +108,18 @@ JournalsAreKept =
     (words : List (List ℕ)) (disk : Disk) (before after : Outside) (status : Status) → Comes (asked words disk) before after status
     → (status ≡ JournalRefused) ⊎ (status ≡ JournalFault)
     → (ruled : Ruled) × (text : List ℕ) × (content : List ℕ) × (task : Task) × (asked words disk).gives (keeps ruled text content task)
+
+-- too much to be saved is only what waits behind requests whose world is to be saved
+abbrev pub SavesAreRefused : Type 0
+SavesAreRefused =
+    (words : List (List ℕ)) (disk : Disk) (before after : Outside) → Comes (asked words disk) before after SaveRefused
+    → (ruled : Ruled) × (from : World) × (text : List ℕ) × (stream : List ℕ) × (most : ℕ) × (asked words disk).gives (freezes ruled from text stream most)
+
+-- a script is refused only where its file has none, or an answer in it had no control
+abbrev pub ScriptsAreRefused : Type 0
+ScriptsAreRefused =
+    (words : List (List ℕ)) (disk : Disk) (before after : Outside) → Comes (asked words disk) before after ScriptRefused
+    → ((said : Said) × (asked words disk).says said × (said.status ≡ ScriptRefused)) ⊎ IsUnanswered words disk ScriptRefused
 
 -- the file of this name has a service that is accepted by the schema that is named
 pub record IsAcceptedFile (disk : Disk) (name : List ℕ) (named : Option (List ℕ)) : Type 0 where

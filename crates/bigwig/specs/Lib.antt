@@ -1,11 +1,15 @@
 pub mod Asked
 pub mod Finding
 pub mod Fits
+pub mod Freezing
 pub mod Headline
 pub mod JournalLines
 pub mod Keeping
 pub mod Laws
 pub mod Lent
+pub mod Loading
 pub mod Outcomes
+pub mod Scripts
 pub mod Sending
+pub mod Visiting
 pub mod Works

@@ -2,9 +2,11 @@
 use Rattle.std.specs.Prelude.{◌≡◌, ℕ, List, Option}
 use Rattle.bw_out.specs.Told.{Coming}
 use Rattle.bw_questions.specs.Asked.{Work}
-use Rattle.bw_questions.specs.Asked.Work.{prints, replays, serves, keeps}
+use Rattle.bw_questions.specs.Asked.Work.{prints, replays, serves, keeps, freezes, visits}
+use Rattle.bigwig.specs.Freezing.{IsFreezing}
 use Rattle.bigwig.specs.Keeping.{IsKept}
 use Rattle.bw_questions.specs.Questions.{Said, Question}
+use Rattle.bigwig.specs.Visiting.{IsVisited}
 use Rattle.bigwig.specs.Works.{Outside, IsReplayed, IsSaid, IsServing}
 use Rattle.bw_questions.specs.declared.status.Status.{Status}
 use Rattle.bw_questions.specs.declared.status.Status.TheVariants.{Done, ReadFault, Memory}
@@ -12,9 +14,12 @@ use Rattle.bw_questions.specs.declared.status.Status.TheVariants.{Done, ReadFaul
 -- what comes of the work
 abbrev pub IsDone : Work → Outside → Outside → Status → Type 0
 IsDone (prints text) before after status = IsSaid (record { status = Done; text = text }) before after status
-IsDone (replays ruled stream most) before after status = IsReplayed ruled stream most before after status × (after.deeds ≡ before.deeds)
-IsDone (serves ruled port most) before after status = IsServing ruled port most before after status × (after.deeds ≡ before.deeds)
+IsDone (replays ruled from stream most) before after status = IsReplayed ruled from stream most before after status × (after.deeds ≡ before.deeds)
+IsDone (serves ruled from port most) before after status = IsServing ruled from port most before after status × (after.deeds ≡ before.deeds)
 IsDone (keeps ruled text content task) before after status = IsKept ruled text content task before after status
+IsDone (freezes ruled from text stream most) before after status =
+    IsFreezing ruled from text stream most before after status × (after.deeds ≡ before.deeds)
+IsDone (visits ruled script) before after status = IsVisited ruled script before after status × (after.deeds ≡ before.deeds)
 
 -- What comes of the questions. What is said is printed; or the work is done; or, after a read fault or for want of
 -- memory, nothing has changed, but for the files that were read.

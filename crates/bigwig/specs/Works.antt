@@ -3,7 +3,7 @@ use Rattle.std.specs.Prelude.{◌≡◌, ◌⊎◌, ◌<◌, ◌≤◌, ◌+◌,
 use Rattle.std.specs.Io.KnownBytes.{Appends}
 use Rattle.bw_http.specs.declared.replies.Reply.{Reply}
 use Rattle.bw_model.specs.Runs.{At}
-use Rattle.bw_model.specs.Sessions.{World, empty}
+use Rattle.bw_model.specs.Sessions.{World}
 use Rattle.bw_model.specs.Within.{AreWithin}
 use Rattle.bw_out.specs.Causes.{Shows}
 use Rattle.bw_out.specs.Doors.{Returned, Asks, MayAsk}
@@ -82,13 +82,13 @@ pub record IsSaid (what : Said) (before after : Outside) (status : Status) : Typ
   pub prints : Prints what before.printed after.printed status
   pub kept : after ≡ record before { printed = after.printed; unread = after.unread }
 
--- The requests of a file were answered on `out`, from the world in which nothing was requested yet. What was not read of
--- them is what the file had left as it was closed.
-pub record IsReplayed (ruled : Ruled) (stream : List ℕ) (most : ℕ) (before after : Outside) (status : Status) : Type 0 where
+-- The requests of a file were answered on `out`, from this world on. What was not read of them is what the file had left as it
+-- was closed.
+pub record IsReplayed (ruled : Ruled) (from : World) (stream : List ℕ) (most : ℕ) (before after : Outside) (status : Status) : Type 0 where
   pub end : StreamEnd
   pub status_is : status ≡ status_of end
   pub streamed : (keys : Coming) → before.keys ≡ Some keys → (to : Between) × (after.keys ≡ Some to.keys) × (after.steps ≡ to.steps)
-      × IsStreamed most ruled (record { world = empty ruled.service; keys = keys; steps = before.steps }) stream to before.printed after.printed
+      × IsStreamed most ruled (record { world = from; keys = keys; steps = before.steps }) stream to before.printed after.printed
       after.unread end
   pub kept : (after.asked ≡ before.asked) × (after.coming ≡ before.coming) × (after.returned ≡ before.returned)
 
@@ -134,12 +134,11 @@ abbrev pub serving_line : ℕ → List ℕ
 serving_line port = codes "serving " ++ line (decimal port)
 
 -- The port couldn't be listened on, and nothing else has changed; or it was asked for, once, and the line that says so was
--- printed in a first part; or the whole line was, and then links were served from the world in which nothing was
--- requested yet. No other port was asked for.
-pub data IsServing (ruled : Ruled) (port most : ℕ) (before after : Outside) (status : Status) : Type 0 where
+-- printed in a first part; or the whole line was, and then links were served from this world on. No other port was asked for.
+pub data IsServing (ruled : Ruled) (from : World) (port most : ℕ) (before after : Outside) (status : Status) : Type 0 where
   no_port : status ≡ DoorFault → MayAsk before.asked after.asked port → after ≡ record before { asked = after.asked; unread = after.unread }
-      → IsServing ruled port most before after status
+      → IsServing ruled from port most before after status
   no_line : status ≡ WriteFault → Asks before.asked after.asked port → AppendsPart before.printed after.printed (serving_line port)
-      → after ≡ record before { asked = after.asked; printed = after.printed; unread = after.unread } → IsServing ruled port most before after status
+      → after ≡ record before { asked = after.asked; printed = after.printed; unread = after.unread } → IsServing ruled from port most before after status
   links_served : (status ≡ Done) ⊎ (status ≡ DoorFault) → Asks before.asked after.asked port → Appends before.printed after.printed (serving_line port)
-      → ServesLinks ruled (empty ruled.service) most before after status → IsServing ruled port most before after status
+      → ServesLinks ruled from most before after status → IsServing ruled from port most before after status

@@ -2,6 +2,7 @@
 #![tactic(auto)]
 
 mod beginning;
+mod freezing;
 mod journal_lines;
 mod keeping;
 mod laws;
@@ -11,8 +12,11 @@ mod obeying;
 mod program;
 mod replaying;
 mod resuming;
+mod saved_lines;
 mod server;
 mod serving;
+mod thawing;
+mod visiting;
 
 pub use bw_questions::Status;
 pub use laws::{built_in_is_read, one_outcome};

@@ -2,17 +2,19 @@
 ghost use Rattle.std.specs.Prelude.{◌≡◌, ◌≢◌, IfSome};
 ghost use Rattle.bw_out.specs.Causes.{Shows};
 ghost use Rattle.bigwig.specs.Asked.{work};
-ghost use Rattle.bw_command.specs.Commands.{AreWorkers, AsksToReplay, AsksToServe, IsInRange};
+ghost use Rattle.bw_command.specs.Commands.{AreWorkers, AsksApart, AsksToReplay, AsksToServe, IsInRange};
 ghost use Rattle.bigwig.specs.Lent.{AreSame, HasCauses, faults_of, seen_of};
 ghost use Rattle.bigwig.specs.Outcomes.{Comes, Speaks};
 ghost use Rattle.bw_command.specs.declared.command.Command.TheVariants as commands;
 
+use crate::freezing::freeze_command;
 use crate::keeping::{Place, keep_command};
 use crate::lent::Lent;
 use crate::making::make_command;
 use crate::replaying::replay_command;
 use crate::resuming::{Resumed, resume_command};
 use crate::serving::serve_command;
+use crate::visiting::visit_command;
 use bw_command::{Command, Judging, Named};
 use bw_keeping::WideDoor;
 use bw_lang::Text;
@@ -56,6 +58,59 @@ pub fn obey<
         Command::Light { formats, texts } => {
             light_command(tools.alloc, formats, texts, lent.files, lent.out)
         }
+        Command::Freeze { .. } | Command::Visit { .. } => obey_apart(tools, command, lent),
+    }
+}
+
+/// `freeze` and `visit`: answers requests to save what then waits, or those of a scripted user.
+fn obey_apart<
+    R: Threads + Sync,
+    F: Files,
+    J: Journals,
+    D: WideDoor,
+    K: Keys,
+    W: Sink,
+    P: Pulse,
+    L: Ledger,
+>(tools: &Tools<R, P>, command: &Command, lent: &mut Lent<F, J, D, K, W, Steps<L>>) -> Status
+    requires range { IsInRange command.now }
+    requires apart { AsksApart command.now }
+    ensures comes { IfSome (F.told lent.old.files.now) (λ disk. Comes (work disk command.now)
+        (seen_of F.Files J.Journals D.Door K.Keys W.Channel lent.old) (seen_of F.Files J.Journals D.Door K.Keys W.Channel lent.new) result) }
+    ensures not_usage { result ≢ Status.Usage }
+    ensures causes { HasCauses result (faults_of F.Files J.Journals D.Door W.Channel lent.old) (faults_of F.Files J.Journals D.Door W.Channel lent.new) }
+    ensures same { AreSame lent.old lent.new }
+{
+    match command {
+        Command::Freeze {
+            service,
+            requests,
+            judging,
+            formats,
+            load,
+            most,
+        } => {
+            let named = Named {
+                service,
+                judging,
+                formats,
+            };
+            freeze_command(tools, named, load, requests, *most, lent)
+        }
+        Command::Visit {
+            service,
+            script,
+            judging,
+            formats,
+        } => {
+            let named = Named {
+                service,
+                judging,
+                formats,
+            };
+            visit_command(tools, named, script, lent)
+        }
+        _ => unreachable!(),
     }
 }
 
@@ -84,6 +139,7 @@ fn obey_replay<
             requests,
             judging,
             formats,
+            load,
             most,
         } => {
             let named = Named {
@@ -91,7 +147,7 @@ fn obey_replay<
                 judging,
                 formats,
             };
-            replay_command(tools, named, requests, *most, lent)
+            replay_command(tools, named, load, requests, *most, lent)
         }
         Command::Resume {
             service,
@@ -141,6 +197,7 @@ fn obey_serve<
             service,
             judging,
             formats,
+            load,
             port,
             most,
         } => {
@@ -149,7 +206,7 @@ fn obey_serve<
                 judging,
                 formats,
             };
-            serve_command(tools, named, *port, *most, lent)
+            serve_command(tools, named, load, *port, *most, lent)
         }
         Command::Keep {
             service,

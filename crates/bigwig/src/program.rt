@@ -23,7 +23,7 @@ use std::thread::Threads;
 
 /// The line that is printed where the words are refused.
 const USAGE: &[u8] =
-    b"usage: bigwig check SERVICE | replay SERVICE REQUESTS | serve SERVICE | valid PAGE | make N | light FORMATS TEXTS";
+    b"usage: bigwig check SERVICE | replay SERVICE REQUESTS | serve SERVICE | valid PAGE | make N | light FORMATS TEXTS | freeze SERVICE REQUESTS | visit SERVICE SCRIPT";
 
 /// Does all that the program does: reads the words of the command line and the files that they name, prints on `out`,
 /// and serves the links of `door`. Memory is taken from `alloc`; the check makes its threads by `rt`, and tells `pulse` as it
@@ -36,7 +36,15 @@ const USAGE: &[u8] =
 /// schema, and a shown page has each field that its show receives. A request that is refused, spent or fails changes no
 /// session and no shared variable. Each value that a session stored for a field is in the field's format, if it has one.
 /// The work of `serve` is the same over one world, with one request on each link: each link that comes is given back in its
-/// turn, after a fault too, and holds what the run answers. `light` prints the lights of the lines of its texts.
+/// turn, after a fault too, and holds what the run answers. `light` prints the lights of the lines of its texts. The work of
+/// `visit` is that of one client: it asks for a session's start, and fills in each page that comes by the next line of its
+/// script; the replies are printed, and none says that a field is lacking or repeated.
+///
+/// `replay`, `serve` and `freeze` go on from saved sessions where these are named: whatever the bytes were, what is loaded is
+/// covered by what the check knows of the service, and so all of this holds from there on; other files are refused
+/// (`LoadRefused`). `freeze` answers requests as `replay` does, lets the replies go, and prints the file of what then waits:
+/// where that is loaded, the same sessions wait again. Where it is too much (`SaveRefused`), or a request wanted memory, no file
+/// is printed.
 ///
 /// With a journal, of `journals`, it is over the world that the requests bring about which the journal holds, and each link is
 /// given back, and a byte is written on it, only behind what is kept of its request; so is each reply of `replay` printed. A journal
@@ -46,7 +54,8 @@ const USAGE: &[u8] =
 /// of `files`, `out` or `door` rose in this call; a fault on a link is none of these and ends that link alone. `JournalFault`
 /// comes only where the count of `journals` rose, and then no further reply is written or printed. After a
 /// `ReadFault` or a `WriteFault` of `replay` each request before the fault was answered whole. `Memory` comes, with
-/// nothing printed and no link taken, only before the first request.
+/// nothing printed and no link taken, only before the first request; in `freeze` also where a request wanted memory, or what
+/// then waits couldn't be made a file; in `visit` also behind the replies to some first requests.
 pub fn run<
     R: Threads + Sync,
     F: Files,

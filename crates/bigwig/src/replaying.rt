@@ -1,14 +1,13 @@
 //! `replay`: requests of a file, answered by the service of another.
-ghost use Rattle.std.specs.Prelude.{◌≡◌, ◌≢◌, [], IfSome};
+ghost use Rattle.std.specs.Prelude.{◌≡◌, ◌≢◌, List, ℕ, [], IfSome, Some};
 ghost use Rattle.bw_out.specs.Causes.{Shows};
-ghost use Rattle.bw_model.specs.Sessions.{empty};
-ghost use Rattle.bw_sound.specs.Worlds.{BeginsSound};
-ghost use Rattle.bw_world.specs.Stands.{StandsFor};
+ghost use Rattle.bw_save.specs.Frozen.{loaded_of};
 ghost use Rattle.bw_world.specs.Streams.Answers as answers;
 ghost use Rattle.bw_world.specs.Streams.Good.{RepliesAreGood};
 ghost use Rattle.bw_questions.specs.Asked.{Ruled};
-ghost use Rattle.bigwig.specs.Asked.{work, replayed};
+ghost use Rattle.bigwig.specs.Asked.{work, replayed, replayed_from};
 ghost use Rattle.bw_questions.specs.Checks.{IsRuled};
+ghost use Rattle.bigwig.specs.Fits.{IsFitStart};
 ghost use Rattle.bw_command.specs.Commands.{AreWorkers};
 ghost use Rattle.bigwig.specs.Lent.{AreSame, HasCauses, faults_of};
 ghost use Rattle.bigwig.specs.Works as works;
@@ -17,17 +16,18 @@ ghost use Rattle.bw_command.specs.declared.command.Command.TheVariants as comman
 
 use crate::lent::Lent;
 use crate::server::Server;
+use crate::thawing::begin_server;
 use bw_command::Named;
-use bw_lang::{Memory, Text};
+use bw_lang::Text;
 use bw_out::{Door, Failed, Files, Keys, Pair, Pulse, Sink, Source, Steps};
-use bw_questions::{Served, Status, Tools, load_checked, no_file, report};
+use bw_questions::{Kept, Status, Tools, load_kept, no_file, report};
 use bw_stable::Journals;
 use bw_world::{StreamEnd, answer};
 use std::alloc::Global;
 use std::sync::ledger::Ledger;
 use std::thread::Threads;
 
-/// `replay`: answers the requests of a file by the service of another.
+/// `replay`: answers the requests of a file by the service of another, from the saved sessions on that are named, if they are.
 pub fn replay_command<
     R: Threads + Sync,
     F: Files,
@@ -40,13 +40,14 @@ pub fn replay_command<
 >(
     tools: &Tools<R, P>,
     named: Named<'_, '_, '_>,
+    load: &Option<Text>,
     requests: &Text,
     most: u32,
     lent: &mut Lent<F, J, D, K, W, Steps<L>>,
 ) -> Status
     requires { AreWorkers named.judging.now.workers }
     ensures comes { IfSome (F.told lent.old.files.now) (λ disk.
-        Replies (work disk (commands.Replay named.entry.service.now requests.now named.entry.judging.now named.entry.formats.now most))
+        Replies (work disk (commands.Replay named.entry.service.now requests.now named.entry.judging.now named.entry.formats.now load.now most))
         (W.held lent.old.out.now) (W.held lent.new.out.now) (K.coming lent.old.keys.now) (K.coming lent.new.keys.now) (F.unread lent.new.files.now)
         lent.old.steps.now lent.new.steps.now result) }
     ensures not_usage { result ≢ Status.Usage }
@@ -54,22 +55,24 @@ pub fn replay_command<
     ensures others { (lent.new.door.now ≡ lent.old.door.now) × (lent.new.journals.now ≡ lent.old.journals.now) }
     ensures same { AreSame lent.old lent.new }
 {
-    match load_checked(tools, lent.files, named) {
-        Ok(served) => replay_file(tools.alloc, served, requests.as_str(), most, lent),
+    match load_kept(tools, lent.files, named) {
+        Ok(kept) => replay_file(tools.alloc, kept, load, requests.as_str(), most, lent),
         Err(stop) => report(lent.out, stop),
     }
 }
 
-/// Answers the requests of a file, from the world in which nothing was requested yet.
+/// The same of a service that is accepted. The saved sessions are looked for before the requests.
 fn replay_file<F: Files, J: Journals, D: Door, K: Keys, W: Sink, L: Ledger>(
     alloc: Global,
-    served: Served,
+    kept: Kept,
+    load: &Option<Text>,
     name: &str,
     most: u32,
     lent: &mut Lent<F, J, D, K, W, Steps<L>>,
 ) -> Status
-    ensures comes { IfSome (F.told lent.old.files.now) (λ disk. (ruled : Ruled) → IsRuled served.checked.typed.service served.formats ruled →
-        Replies (replayed disk name.now most ruled)
+    ensures comes { IfSome (F.told lent.old.files.now) (λ disk. (ruled : Ruled) (service : List ℕ)
+        → IsRuled kept.served.checked.typed.service kept.served.formats ruled → disk service ≡ Some kept.text.items
+        → Replies (replayed_from disk service load.now name.now most ruled)
         (W.held lent.old.out.now) (W.held lent.new.out.now) (K.coming lent.old.keys.now) (K.coming lent.new.keys.now) (F.unread lent.new.files.now)
         lent.old.steps.now lent.new.steps.now result) }
     ensures not_usage { result ≢ Status.Usage }
@@ -77,13 +80,16 @@ fn replay_file<F: Files, J: Journals, D: Door, K: Keys, W: Sink, L: Ledger>(
     ensures others { (lent.new.door.now ≡ lent.old.door.now) × (lent.new.journals.now ≡ lent.old.journals.now) }
     ensures same { AreSame lent.old lent.new }
 {
-    match Server::new(alloc, served) {
+    let Kept { served, text } = kept;
+    let begun = begin_server(alloc, lent.files, served, &text, load);
+    drop(text);
+    match begun {
         Ok(mut server) => {
             let status = replay_from(&mut server, name, most, lent);
             drop(server);
             status
         }
-        Err(Memory) => Status::Memory,
+        Err(stop) => report(lent.out, stop),
     }
 }
 
@@ -94,11 +100,10 @@ fn replay_from<F: Files, J: Journals, D: Door, K: Keys, W: Sink, L: Ledger>(
     most: u32,
     lent: &mut Lent<F, J, D, K, W, Steps<L>>,
 ) -> Status
-    requires stands { StandsFor server.old.world (empty server.old.world.service) }
-    requires sound { BeginsSound server.old.world.service }
+    requires fit { IsFitStart server.old.formats server.old.world }
     requires none { server.old.intake ≡ [] }
     ensures comes { IfSome (F.told lent.old.files.now) (λ disk. (ruled : Ruled) → IsRuled server.old.world.service server.old.formats ruled →
-        Replies (replayed disk name.now most ruled)
+        Replies (replayed disk name.now most ruled (loaded_of server.old.world))
         (W.held lent.old.out.now) (W.held lent.new.out.now) (K.coming lent.old.keys.now) (K.coming lent.new.keys.now) (F.unread lent.new.files.now)
         lent.old.steps.now lent.new.steps.now result) }
     ensures not_usage { result ≢ Status.Usage }
@@ -129,7 +134,7 @@ fn status_of(end: StreamEnd) -> Status
 }
 
 /// Answers up to `most` messages of a source into a sink, as `answer` does those of a link.
-fn answer_source<S: Source, K: Keys, W: Sink, L: Ledger>(
+pub fn answer_source<S: Source, K: Keys, W: Sink, L: Ledger>(
     server: &mut Server,
     source: &mut S,
     keys: &mut K,
@@ -142,6 +147,7 @@ fn answer_source<S: Source, K: Keys, W: Sink, L: Ledger>(
         (answers.between server.new.world server.new.intake (S.left source.new) (W.held out.new) (K.coming keys.new) steps.new) result }
     ensures pages { RepliesAreGood server.old.formats server.old.world.service
         (answers.between server.old.world server.old.intake (S.left source.old) (W.held out.old) (K.coming keys.old) steps.old) }
+    ensures service { server.new.world.service ≡ server.old.world.service }
     ensures read_fault { Shows (result ≡ StreamEnd.ReadFault) (S.read_faults source.old) (S.read_faults source.new) }
     ensures write_fault { Shows (result ≡ StreamEnd.WriteFault) (W.write_faults out.old) (W.write_faults out.new) }
 {

@@ -35,6 +35,15 @@ impl Server {
             drop(formats);
             return Err(Memory);
         };
+        Server::of(alloc, world, formats)
+    }
+
+    /// A world with these formats, of which no byte of a request is at hand.
+    pub fn of(alloc: Global, world: World, formats: Formats) -> Result<Server, Memory>
+        ensures world { IfOk result (λ s. s.world ≡ world) }
+        ensures formats { IfOk result (λ s. s.formats ≡ formats) }
+        ensures none { IfOk result (λ s. s.intake ≡ []) }
+    {
         match Intake::new(alloc) {
             Ok(intake) => Ok(Server {
                 alloc,

@@ -1,14 +1,14 @@
 //! Links that are served, one after another, over one world.
-ghost use Rattle.std.specs.Prelude.{◌≡◌, ◌≢◌, ◌⊎◌, ℕ, List, [], Option, None, IfSome};
+ghost use Rattle.std.specs.Prelude.{◌≡◌, ◌≢◌, ◌⊎◌, ℕ, List, [], Option, None, Some, IfSome};
+ghost use Rattle.bw_save.specs.Frozen.{loaded_of};
 ghost use Rattle.bw_model.specs.Sessions as model;
 ghost use Rattle.bw_out.specs.Causes.{HasCause, Shows};
 ghost use Rattle.bw_out.specs.Writes.{Writes};
-ghost use Rattle.bw_sound.specs.Worlds.{BeginsSound};
 ghost use Rattle.bw_world.specs.Stands.{StandsFor};
 ghost use Rattle.bw_questions.specs.Asked.{Ruled};
-ghost use Rattle.bigwig.specs.Asked.{at_port, work};
+ghost use Rattle.bigwig.specs.Asked.{at_port, served_from, work};
 ghost use Rattle.bw_questions.specs.Checks.{IsRuled};
-ghost use Rattle.bigwig.specs.Fits.{IsFitWorld};
+ghost use Rattle.bigwig.specs.Fits.{IsFitStart, IsFitWorld};
 ghost use Rattle.bw_command.specs.Commands.{AreWorkers};
 ghost use Rattle.bigwig.specs.Lent.{AreSame, HasCauses, faults_of, seen_of};
 ghost use Rattle.bigwig.specs.Outcomes.{Comes};
@@ -17,10 +17,11 @@ ghost use Rattle.bw_command.specs.declared.command.Command.TheVariants as comman
 
 use crate::lent::Lent;
 use crate::server::Server;
+use crate::thawing::begin_server;
 use bw_command::Named;
-use bw_lang::{Memory, Text};
+use bw_lang::Text;
 use bw_out::{Door, Failed, Files, Keys, Pulse, Sink, Steps, WriteFault, write_parts};
-use bw_questions::{Served, Status, Tools, load_checked, report};
+use bw_questions::{Kept, Status, Tools, load_kept, report};
 use bw_stable::Journals;
 use bw_world::answer;
 use itoa::Buffer;
@@ -28,7 +29,7 @@ use std::alloc::Global;
 use std::sync::ledger::Ledger;
 use std::thread::Threads;
 
-/// `serve`: serves the links of a port.
+/// `serve`: serves the links of a port, from the saved sessions on that are named, if they are.
 pub fn serve_command<
     R: Threads + Sync,
     F: Files,
@@ -41,47 +42,54 @@ pub fn serve_command<
 >(
     tools: &Tools<R, P>,
     named: Named<'_, '_, '_>,
+    load: &Option<Text>,
     port: u16,
     most: u32,
     lent: &mut Lent<F, J, D, K, W, Steps<L>>,
 ) -> Status
     requires { AreWorkers named.judging.now.workers }
     ensures comes { IfSome (F.told lent.old.files.now) (λ disk.
-        Comes (work disk (commands.Serve named.entry.service.now named.entry.judging.now named.entry.formats.now port most))
+        Comes (work disk (commands.Serve named.entry.service.now named.entry.judging.now named.entry.formats.now load.now port most))
         (seen_of F.Files J.Journals D.Door K.Keys W.Channel lent.old) (seen_of F.Files J.Journals D.Door K.Keys W.Channel lent.new) result) }
     ensures not_usage { result ≢ Status.Usage }
     ensures causes { HasCauses result (faults_of F.Files J.Journals D.Door W.Channel lent.old) (faults_of F.Files J.Journals D.Door W.Channel lent.new) }
     ensures same { AreSame lent.old lent.new }
 {
-    match load_checked(tools, lent.files, named) {
-        Ok(served) => serve_service(tools.alloc, served, port, most, lent),
+    match load_kept(tools, lent.files, named) {
+        Ok(kept) => serve_service(tools.alloc, kept, load, port, most, lent),
         Err(stop) => report(lent.out, stop),
     }
 }
 
-/// Serves links from the world in which nothing was requested yet.
+/// The same of a service that is accepted. The saved sessions are looked for before the port.
 fn serve_service<F: Files, J: Journals, D: Door, K: Keys, W: Sink, L: Ledger>(
     alloc: Global,
-    served: Served,
+    kept: Kept,
+    load: &Option<Text>,
     port: u16,
     most: u32,
     lent: &mut Lent<F, J, D, K, W, Steps<L>>,
 ) -> Status
-    ensures comes { (ruled : Ruled) (u v : Option (List ℕ)) → IsRuled served.checked.typed.service served.formats ruled → Comes (at_port port most ruled)
+    ensures comes { IfSome (F.told lent.old.files.now) (λ disk. (ruled : Ruled) (service : List ℕ) (u v : Option (List ℕ))
+        → IsRuled kept.served.checked.typed.service kept.served.formats ruled → disk service ≡ Some kept.text.items
+        → Comes (served_from disk service load.now port most ruled)
         (record (seen_of F.Files J.Journals D.Door K.Keys W.Channel lent.old) { unread = u })
-        (record (seen_of F.Files J.Journals D.Door K.Keys W.Channel lent.new) { unread = v }) result }
+        (record (seen_of F.Files J.Journals D.Door K.Keys W.Channel lent.new) { unread = v }) result) }
     ensures not_usage { result ≢ Status.Usage }
     ensures causes { HasCauses result (faults_of F.Files J.Journals D.Door W.Channel lent.old) (faults_of F.Files J.Journals D.Door W.Channel lent.new) }
-    ensures others { (lent.new.files.now ≡ lent.old.files.now) × (lent.new.journals.now ≡ lent.old.journals.now) }
+    ensures journals { lent.new.journals.now ≡ lent.old.journals.now }
     ensures same { AreSame lent.old lent.new }
 {
-    match Server::new(alloc, served) {
+    let Kept { served, text } = kept;
+    let begun = begin_server(alloc, lent.files, served, &text, load);
+    drop(text);
+    match begun {
         Ok(mut server) => {
             let status = serve_port(&mut server, port, most, lent);
             drop(server);
             status
         }
-        Err(Memory) => Status::Memory,
+        Err(stop) => report(lent.out, stop),
     }
 }
 
@@ -92,9 +100,9 @@ fn serve_port<F: Files, J: Journals, D: Door, K: Keys, W: Sink, L: Ledger>(
     most: u32,
     lent: &mut Lent<F, J, D, K, W, Steps<L>>,
 ) -> Status
-    requires stands { StandsFor server.old.world (model.empty server.old.world.service) }
-    requires sound { BeginsSound server.old.world.service }
-    ensures comes { (ruled : Ruled) (u v : Option (List ℕ)) → IsRuled server.old.world.service server.old.formats ruled → Comes (at_port port most ruled)
+    requires { IsFitStart server.old.formats server.old.world }
+    ensures comes { (ruled : Ruled) (u v : Option (List ℕ)) → IsRuled server.old.world.service server.old.formats ruled
+        → Comes (at_port port most ruled (loaded_of server.old.world))
         (record (seen_of F.Files J.Journals D.Door K.Keys W.Channel lent.old) { unread = u })
         (record (seen_of F.Files J.Journals D.Door K.Keys W.Channel lent.new) { unread = v }) result }
     ensures not_usage { result ≢ Status.Usage }

@@ -2,7 +2,7 @@
 use crate::channels::CaseSource;
 use bw_out::MemFile;
 use case_files::{Fault, Line, Texts};
-use std::alloc::{AllocError, Global};
+use std::alloc::Global;
 
 /// A file of a case.
 #[derive(Drop)]
@@ -26,11 +26,11 @@ impl<'a> CaseFile<'a> {
     }
 
     /// The file of this name with this content.
-    pub fn with(alloc: Global, name: &'a str, content: &str) -> Result<CaseFile<'a>, AllocError> {
-        Ok(CaseFile {
+    pub fn with(alloc: Global, name: &'a str, content: Vec<u8>) -> CaseFile<'a> {
+        CaseFile {
             name,
-            content: CaseSource::of(alloc, content.as_bytes().to_vec(alloc)?),
-        })
+            content: CaseSource::of(alloc, content),
+        }
     }
 
     /// Takes the next line, which says how the file is read.

@@ -13,6 +13,7 @@ mod outcomes;
 mod outside;
 mod retries;
 mod runs;
+mod spoiled;
 mod torn;
 mod workers;
 mod worlds;
@@ -51,6 +52,12 @@ enum Subject {
     Examples,
     /// Runs of the whole program that light texts, and that answer requests by formats of fields.
     Formats,
+    /// Runs of the whole program that save sessions, and that go on from saved ones.
+    Saved,
+    /// Saved sessions of which bytes are changed, or lost.
+    Spoiled,
+    /// Runs of the whole program that visit services.
+    Visits,
 }
 
 impl Subject {
@@ -69,12 +76,15 @@ impl Subject {
             Subject::Worlds => "worlds.cases",
             Subject::Examples => "examples.cases",
             Subject::Formats => "formats.cases",
+            Subject::Saved => "saved.cases",
+            Subject::Spoiled => "spoiled.cases",
+            Subject::Visits => "visit.cases",
         }
     }
 }
 
 /// What is tried, in this order.
-const SUBJECTS: [Subject; 12] = [
+const SUBJECTS: [Subject; 15] = [
     Subject::Runs,
     Subject::Sessions,
     Subject::Serves,
@@ -87,6 +97,9 @@ const SUBJECTS: [Subject; 12] = [
     Subject::Worlds,
     Subject::Examples,
     Subject::Formats,
+    Subject::Saved,
+    Subject::Spoiled,
+    Subject::Visits,
 ];
 
 /// Tries a case. The check makes its threads by `rt`.
@@ -105,7 +118,10 @@ fn try_case<R: Threads + Sync>(
         | Subject::Checks
         | Subject::Sources
         | Subject::Examples
-        | Subject::Formats => runs::try_case(rt, alloc, texts, case),
+        | Subject::Formats
+        | Subject::Saved
+        | Subject::Visits => runs::try_case(rt, alloc, texts, case),
+        Subject::Spoiled => spoiled::try_case(rt, alloc, texts, case),
         Subject::Services => runs::try_service(rt, alloc, case),
         Subject::Torn => torn::try_case(rt, alloc, texts, case),
         Subject::Retries => retries::try_case(alloc, case),

@@ -71,6 +71,29 @@ impl Outcome {
         Ok(())
     }
 
+    /// What was printed.
+    pub fn output(&self) -> &[u8] {
+        &self.output
+    }
+
+    /// Wants that this is printed.
+    pub fn want_output(&mut self, output: Vec<u8>) {
+        self.output = output;
+    }
+
+    /// What was printed, alone.
+    pub fn into_output(self) -> Vec<u8> {
+        let Outcome {
+            status: _,
+            drawn: _,
+            output,
+            port: _,
+            links: _,
+            journal: _,
+        } = self;
+        output
+    }
+
     /// What the journal holds.
     pub fn into_journal(self) -> JournalBytes {
         let Outcome {

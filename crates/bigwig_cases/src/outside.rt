@@ -48,9 +48,19 @@ impl<'a> Outside<'a> {
     }
 
     /// One file more, of this name and with this content.
-    pub fn add_file(&mut self, alloc: Global, name: &'a str, content: &str) -> Result<(), Fault> {
-        self.files.push(CaseFile::with(alloc, name, content)?)?;
+    pub fn add_file(
+        &mut self,
+        alloc: Global,
+        name: &'a str,
+        content: Vec<u8>,
+    ) -> Result<(), Fault> {
+        self.files.push(CaseFile::with(alloc, name, content))?;
         Ok(())
+    }
+
+    /// One file less: the last one.
+    pub fn drop_file(&mut self) {
+        drop(self.files.pop());
     }
 
     /// Takes the next line.
@@ -61,6 +71,7 @@ impl<'a> Outside<'a> {
             "link" => self.take_link(alloc, texts, line),
             "room" | "write_piece" | "failing_writes" => self.out.take(alloc, line),
             "keys" => take_numbers(alloc, line, &mut self.keys),
+            "keys_to" => self.take_keys(alloc, line),
             "failing_fetches" => take_numbers(alloc, line, &mut self.failing_fetches),
             "failing_listens" => take_numbers(alloc, line, &mut self.failing_listens),
             "failing_nexts" => take_numbers(alloc, line, &mut self.failing_nexts),
@@ -76,6 +87,17 @@ impl<'a> Outside<'a> {
     fn take_words(&mut self, alloc: Global, line: Line<'_>) -> Result<(), Fault> {
         let words = words_of(alloc, line.value)?;
         drop(mem::replace(&mut self.words, words));
+        Ok(())
+    }
+
+    /// Takes how many keys are to come: from 1 on.
+    fn take_keys(&mut self, alloc: Global, line: Line<'_>) -> Result<(), Fault> {
+        let last: u64 = line.value.parse()?;
+        let mut keys = Vec::new(alloc);
+        for key in 1..=last {
+            keys.push(key)?;
+        }
+        drop(mem::replace(&mut self.keys, keys));
         Ok(())
     }
 

@@ -7,7 +7,7 @@
 //! - `failing_fetches N ..`: the numbers of the fetches of files that fail; none
 //! - `room N`, `write_piece N`, `failing_writes N ..`: of standard output, how many bytes it has room for, how many
 //!   one write takes at most, and the numbers of the writes that fail; 65,536, any number, and none
-//! - `keys N ..`: the keys to come, no two alike and none 0; 11, 12 and 13
+//! - `keys N ..`: the keys to come, no two alike and none 0; 11, 12 and 13. `keys_to N`: 1, 2 and so on to N
 //! - `link PARTS`: a link to come, whose client sends this
 //! - `link_read_piece N`, `link_failing_reads N ..`, `link_room N`, `link_write_piece N`, `link_failing_writes N ..`: the
 //!   same of that link as of files and of standard output
@@ -28,7 +28,8 @@
 //! front of them, what it held before; nothing where there is no such line.
 //!
 //! A line `again NAME` ends a run. What its lines want of it has to come; then another run begins, with the same words, files
-//! and keys, and with the journal as it is left, as the file of this name.
+//! and keys, and with the journal as it is left, as the file of this name. So does a line `printed NAME N`, which wants that what
+//! is printed has N bytes, whichever they are, and has them as one more file of this name.
 //!
 //! A case of a service has the service's text for its name, and is run over no request. Its line `line TEXT` is the
 //! line that is printed, with code 3; where there is none, nothing is printed.
@@ -115,17 +116,71 @@ impl<'a> RunCase<'a> {
         texts: &Texts<'_>,
         line: Line<'a>,
     ) -> Result<Option<Verdict>, Fault> {
-        if line.key != "again" {
-            self.take(alloc, texts, line)?;
-            return Ok(None);
+        match line.key {
+            "again" => self.end_run(rt, alloc, line.value),
+            "printed" => self.end_printed(rt, alloc, line.value),
+            _ => {
+                self.take(alloc, texts, line)?;
+                Ok(None)
+            }
         }
+    }
+
+    /// Ends a run, with the verdict on it where it is wrong. The next one has its journal, as the file of this name.
+    fn end_run<R: Threads + Sync>(
+        &mut self,
+        rt: &R,
+        alloc: Global,
+        name: &'a str,
+    ) -> Result<Option<Verdict>, Fault> {
         match self.verdict(rt, alloc)? {
             Verdict::Right => {
-                self.go_on(alloc, line.value);
+                self.go_on(alloc, name);
                 Ok(None)
             }
             wrong => Ok(Some(wrong)),
         }
+    }
+
+    /// The same by `NAME N`. The next run has what is printed, so many bytes, as a file of this name.
+    fn end_printed<R: Threads + Sync>(
+        &mut self,
+        rt: &R,
+        alloc: Global,
+        definition: &'a str,
+    ) -> Result<Option<Verdict>, Fault> {
+        let (name, length) = definition.split_once(' ').ok_or(Fault::Malformed)?;
+        let length = length.parse()?;
+        let got = outcome_of(rt, alloc, &self.outside, &Quiet)?;
+        let verdict = self.verdict_on(alloc, &got, length);
+        let printed = got.into_output();
+        match verdict? {
+            Verdict::Right => {
+                let next = Outcome::of(alloc, 0, Vec::new(alloc));
+                drop(mem::replace(&mut self.wanted, next));
+                self.outside.add_file(alloc, name, printed)?;
+                Ok(None)
+            }
+            wrong => {
+                drop(printed);
+                Ok(Some(wrong))
+            }
+        }
+    }
+
+    /// The verdict on what came, where so many bytes were to be printed.
+    fn verdict_on(
+        &mut self,
+        alloc: Global,
+        got: &Outcome,
+        length: usize,
+    ) -> Result<Verdict, Fault> {
+        if got.output().len() == length {
+            self.wanted
+                .want_output(Vec::from_slice(alloc, got.output())?);
+        }
+        let shown = got.shown(alloc)?;
+        Ok(Verdict::of(self.wanted.shown(alloc)?, shown))
     }
 
     /// Begins another run, with the journal as it is wanted to be left, as the file of this name.
@@ -142,8 +197,9 @@ impl<'a> RunCase<'a> {
         alloc: Global,
         case: &Case<'a>,
     ) -> Result<Verdict, Fault> {
-        self.outside.add_file(alloc, "s", case.name)?;
-        self.outside.add_file(alloc, "r", "")?;
+        let service = case.name.as_bytes().to_vec(alloc)?;
+        self.outside.add_file(alloc, "s", service)?;
+        self.outside.add_file(alloc, "r", Vec::new(alloc))?;
         for line in &case.lines {
             self.take_refusal(alloc, *line)?;
         }

@@ -93,7 +93,7 @@ fn code_over<R: Threads + Sync>(
     meeting: &Meeting,
     outside: &mut Outside<'_>,
 ) -> Result<u8, Fault> {
-    outside.add_file(alloc, "s", SERVICE)?;
+    outside.add_file(alloc, "s", SERVICE.as_bytes().to_vec(alloc)?)?;
     let outcome = outcome_of(rt, alloc, outside, meeting)?;
     let code = outcome.status;
     drop(outcome);

@@ -77,6 +77,9 @@ pub fn say_end<R: Eprint>(rt: &R, status: Status, troubles: &Troubles<'_>) {
         | Status::SchemaRefused
         | Status::PageRefused
         | Status::FormatsRefused
+        | Status::LoadRefused
+        | Status::SaveRefused
+        | Status::ScriptRefused
         | Status::NoFile
         | Status::JournalRefused => Ok(()),
     };

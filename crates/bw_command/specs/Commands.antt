@@ -1,11 +1,11 @@
 -- The commands that the words of the command line give.
-use Rattle.std.specs.Prelude.{◌≤◌, ⊤, ℕ, Bool, false, not, ◌&&◌, is_none, List, [], ◌∷◌, Option, None, Some, bytes_eq, codes, if◌then◌else◌}
+use Rattle.std.specs.Prelude.{◌≤◌, ⊤, ℕ, Bool, false, not, ◌&&◌, ◌||◌, is_none, List, [], ◌∷◌, Option, None, Some, bytes_eq, codes, if◌then◌else◌}
 use Rattle.clap.specs.Kinds.{Kinds}
 use Rattle.clap.specs.Words.{fault_of}
 use Rattle.bw_command.specs.Numbers.{number_in, number_or}
 use Rattle.bw_command.specs.Words.{Written, bigwig, written_by}
 use Rattle.bw_command.specs.declared.command.Command.{Command}
-use Rattle.bw_command.specs.declared.command.Command.TheVariants.{Check, Replay, Resume, Serve, Keep, Valid, Make, Light}
+use Rattle.bw_command.specs.declared.command.Command.TheVariants.{Check, Replay, Resume, Serve, Keep, Valid, Make, Light, Freeze, Visit}
 use Rattle.bw_command.specs.declared.command.Judging.{Judging}
 use Rattle.bw_command.specs.declared.command.TheConstants.{DEFAULT_PORT, MAX_LINKS, MAX_PORT, MAX_REQUESTS, MAX_WORKERS}
 use Rattle.bw_make.specs.declared.TheConstants.{MAX_PAGES}
@@ -26,7 +26,7 @@ judging_by w = judging_of w.schema (number_or 1 MAX_WORKERS 1 w.workers) (is_wri
 
 -- no option is there but the schema, the workers and the flag
 abbrev pub has_judging_alone : Written → Bool
-has_judging_alone w = is_none w.limit && (is_none w.port && (is_none w.formats && is_none w.journal))
+has_judging_alone w = is_none w.limit && (is_none w.port && (is_none w.formats && (is_none w.journal && is_none w.load)))
 
 -- check SERVICE
 abbrev pub check_of : Option (List ℕ) → Option (List ℕ) → Option Judging → Option Command
@@ -36,38 +36,57 @@ check_of service second judging = None
 abbrev pub check_by : Written → Option Command
 check_by w = if has_judging_alone w then check_of w.first w.second (judging_by w) else None
 
--- the command that answers requests, beside a journal where one is named
-abbrev pub replaying : List ℕ → List ℕ → Judging → Option (List ℕ) → Option (List ℕ) → ℕ → Command
-replaying service requests judging formats None most = Replay service requests judging formats most
-replaying service requests judging formats (Some journal) most = Resume service requests judging formats journal most
+-- no file of saved sessions is named beside a journal: a journal begins where nothing was requested yet
+abbrev pub begins_once : Written → Bool
+begins_once w = is_none w.journal || is_none w.load
 
--- replay SERVICE REQUESTS, with the formats and beside the journal that are named, if they are
-abbrev pub replay_of : Option (List ℕ) → Option (List ℕ) → Option Judging → Option (List ℕ) → Option (List ℕ) → Option ℕ → Option Command
-replay_of (Some service) (Some requests) (Some judging) formats journal (Some most) = Some (replaying service requests judging formats journal most)
-replay_of service requests judging formats journal most = None
+-- the command that answers requests, beside a journal where one is named
+abbrev pub replaying : List ℕ → List ℕ → Judging → Option (List ℕ) → Option (List ℕ) → Option (List ℕ) → ℕ → Command
+replaying service requests judging formats None load most = Replay service requests judging formats load most
+replaying service requests judging formats (Some journal) load most = Resume service requests judging formats journal most
+
+-- replay SERVICE REQUESTS, with the formats, beside the journal and from the saved sessions that are named, if they are
+abbrev pub replay_of : Option (List ℕ) → Option (List ℕ) → Option Judging → Option (List ℕ) → Option (List ℕ) → Option (List ℕ) → Option ℕ → Option Command
+replay_of (Some service) (Some requests) (Some judging) formats journal load (Some most) = Some (replaying service requests judging formats journal load most)
+replay_of service requests judging formats journal load most = None
 
 abbrev pub replay_by : Written → Option Command
 replay_by w =
-    if is_none w.port then replay_of w.first w.second (judging_by w) w.formats w.journal (number_or 1 MAX_REQUESTS MAX_REQUESTS w.limit) else None
+    if is_none w.port && begins_once w
+    then replay_of w.first w.second (judging_by w) w.formats w.journal w.load (number_or 1 MAX_REQUESTS MAX_REQUESTS w.limit) else None
 
 -- the command that serves a service, beside a journal where one is named
-abbrev pub serving : List ℕ → Judging → Option (List ℕ) → Option (List ℕ) → ℕ → ℕ → Command
-serving service judging formats None port most = Serve service judging formats port most
-serving service judging formats (Some journal) port most = Keep service judging formats journal port most
+abbrev pub serving : List ℕ → Judging → Option (List ℕ) → Option (List ℕ) → Option (List ℕ) → ℕ → ℕ → Command
+serving service judging formats None load port most = Serve service judging formats load port most
+serving service judging formats (Some journal) load port most = Keep service judging formats journal port most
 
--- serve SERVICE, with the formats and beside the journal that are named, if they are
-abbrev pub serve_of : Option (List ℕ) → Option (List ℕ) → Option Judging → Option (List ℕ) → Option (List ℕ) → Option ℕ → Option ℕ → Option Command
-serve_of (Some service) None (Some judging) formats journal (Some port) (Some most) = Some (serving service judging formats journal port most)
-serve_of service second judging formats journal port most = None
+-- serve SERVICE, with the formats, beside the journal and from the saved sessions that are named, if they are
+abbrev pub serve_of : Option (List ℕ) → Option (List ℕ) → Option Judging → Option (List ℕ) → Option (List ℕ) → Option (List ℕ) → Option ℕ → Option ℕ
+    → Option Command
+serve_of (Some service) None (Some judging) formats journal load (Some port) (Some most) = Some (serving service judging formats journal load port most)
+serve_of service second judging formats journal load port most = None
 
 abbrev pub serve_by : Written → Option Command
 serve_by w =
-    serve_of w.first w.second (judging_by w) w.formats w.journal (number_or 1 MAX_PORT DEFAULT_PORT w.port) (number_or 1 MAX_LINKS MAX_LINKS w.limit)
+    if begins_once w
+    then serve_of w.first w.second (judging_by w) w.formats w.journal w.load (number_or 1 MAX_PORT DEFAULT_PORT w.port) (number_or 1 MAX_LINKS MAX_LINKS w.limit)
+    else None
+
+-- freeze SERVICE REQUESTS, with the formats and from the saved sessions that are named, if they are
+abbrev pub freeze_of : Option (List ℕ) → Option (List ℕ) → Option Judging → Option (List ℕ) → Option (List ℕ) → Option ℕ → Option Command
+freeze_of (Some service) (Some requests) (Some judging) formats load (Some most) = Some (Freeze service requests judging formats load most)
+freeze_of service requests judging formats load most = None
+
+abbrev pub freeze_by : Written → Option Command
+freeze_by w =
+    if is_none w.port && is_none w.journal
+    then freeze_of w.first w.second (judging_by w) w.formats w.load (number_or 1 MAX_REQUESTS MAX_REQUESTS w.limit) else None
 
 -- no option is there but the schema
 abbrev pub has_schema_alone : Written → Bool
 has_schema_alone w =
-    is_none w.workers && (is_none w.limit && (is_none w.port && (is_none w.formats && (is_none w.journal && not (is_written w.source)))))
+    is_none w.workers
+    && (is_none w.limit && (is_none w.port && (is_none w.formats && (is_none w.journal && (is_none w.load && not (is_written w.source))))))
 
 -- valid PAGE
 abbrev pub valid_of : Option (List ℕ) → Option (List ℕ) → Option (List ℕ) → Option Command
@@ -80,7 +99,8 @@ valid_by w = if has_schema_alone w then valid_of w.first w.second w.schema else 
 -- no option is there but the workers
 abbrev pub has_workers_alone : Written → Bool
 has_workers_alone w =
-    is_none w.schema && (is_none w.limit && (is_none w.port && (is_none w.formats && (is_none w.journal && not (is_written w.source)))))
+    is_none w.schema
+    && (is_none w.limit && (is_none w.port && (is_none w.formats && (is_none w.journal && (is_none w.load && not (is_written w.source))))))
 
 -- make N
 abbrev pub make_of : Option ℕ → Option (List ℕ) → Option ℕ → Option Command
@@ -99,7 +119,8 @@ make_by w = if has_workers_alone w then make_of (count_of w.first) w.second (num
 abbrev pub has_no_option : Written → Bool
 has_no_option w =
     is_none w.schema
-    && (is_none w.workers && (is_none w.limit && (is_none w.port && (is_none w.formats && (is_none w.journal && not (is_written w.source))))))
+    && (is_none w.workers
+    && (is_none w.limit && (is_none w.port && (is_none w.formats && (is_none w.journal && (is_none w.load && not (is_written w.source)))))))
 
 -- light FORMATS TEXTS
 abbrev pub light_of : Option (List ℕ) → Option (List ℕ) → Option Command
@@ -108,6 +129,18 @@ light_of formats texts = None
 
 abbrev pub light_by : Written → Option Command
 light_by w = if has_no_option w then light_of w.first w.second else None
+
+-- no option is there but the schema, the workers, the formats and the flag
+abbrev pub has_visiting_alone : Written → Bool
+has_visiting_alone w = is_none w.limit && (is_none w.port && (is_none w.journal && is_none w.load))
+
+-- visit SERVICE SCRIPT, with the formats that are named, if they are
+abbrev pub visit_of : Option (List ℕ) → Option (List ℕ) → Option Judging → Option (List ℕ) → Option Command
+visit_of (Some service) (Some script) (Some judging) formats = Some (Visit service script judging formats)
+visit_of service script judging formats = None
+
+abbrev pub visit_by : Written → Option Command
+visit_by w = if has_visiting_alone w then visit_of w.first w.second (judging_by w) w.formats else None
 
 -- the command of this name
 abbrev pub named_by : Option (List ℕ) → Written → Option Command
@@ -118,7 +151,9 @@ named_by (Some name) w =
     else (if bytes_eq name (codes "serve") then serve_by w
     else (if bytes_eq name (codes "valid") then valid_by w
     else (if bytes_eq name (codes "make") then make_by w
-    else (if bytes_eq name (codes "light") then light_by w else None)))))
+    else (if bytes_eq name (codes "light") then light_by w
+    else (if bytes_eq name (codes "freeze") then freeze_by w
+    else (if bytes_eq name (codes "visit") then visit_by w else None)))))))
 
 -- the command that is written so
 abbrev pub command_by : Written → Option Command
@@ -142,24 +177,32 @@ AreWorkers n = (1 ≤ n) × (n ≤ MAX_WORKERS)
 -- the command's numbers are within their ranges
 abbrev pub IsInRange : Command → Type 0
 IsInRange (Check service judging) = AreWorkers judging.workers
-IsInRange (Replay service requests judging formats most) = AreWorkers judging.workers
+IsInRange (Replay service requests judging formats load most) = AreWorkers judging.workers
 IsInRange (Resume service requests judging formats journal most) = AreWorkers judging.workers
-IsInRange (Serve service judging formats port most) = AreWorkers judging.workers
+IsInRange (Serve service judging formats load port most) = AreWorkers judging.workers
 IsInRange (Keep service judging formats journal port most) = AreWorkers judging.workers
 IsInRange (Valid page schema) = ⊤
 IsInRange (Make count workers) = (1 ≤ count) × (count ≤ MAX_PAGES) × AreWorkers workers
 IsInRange (Light formats texts) = ⊤
+IsInRange (Freeze service requests judging formats load most) = AreWorkers judging.workers
+IsInRange (Visit service script judging formats) = AreWorkers judging.workers
 
 -- ---- groups
 
 -- the command is `replay`, beside a journal or not
 abbrev pub AsksToReplay : Command → Type 0
-AsksToReplay (Replay service requests judging formats most) = ⊤
+AsksToReplay (Replay service requests judging formats load most) = ⊤
 AsksToReplay (Resume service requests judging formats journal most) = ⊤
 AsksToReplay _ = ⊥
 
+-- the command is `freeze` or `visit`
+abbrev pub AsksApart : Command → Type 0
+AsksApart (Freeze service requests judging formats load most) = ⊤
+AsksApart (Visit service script judging formats) = ⊤
+AsksApart _ = ⊥
+
 -- the command is `serve`, beside a journal or not
 abbrev pub AsksToServe : Command → Type 0
-AsksToServe (Serve service judging formats port most) = ⊤
+AsksToServe (Serve service judging formats load port most) = ⊤
 AsksToServe (Keep service judging formats journal port most) = ⊤
 AsksToServe _ = ⊥

@@ -56,6 +56,8 @@ pub enum Command {
         judging: Judging,
         /// The name of the file of formats. Where there is none, no field has a format.
         formats: Option<Text>,
+        /// The name of the file of saved sessions. Where there is none, nothing was requested yet.
+        load: Option<Text>,
         /// The greatest number of requests that are answered.
         most: u32,
     },
@@ -80,6 +82,8 @@ pub enum Command {
         judging: Judging,
         /// The name of the file of formats. Where there is none, no field has a format.
         formats: Option<Text>,
+        /// The name of the file of saved sessions. Where there is none, nothing was requested yet.
+        load: Option<Text>,
         /// The port.
         port: u16,
         /// The greatest number of links that are served.
@@ -119,5 +123,29 @@ pub enum Command {
         formats: Text,
         /// The name of the file of texts.
         texts: Text,
+    },
+    /// To answer requests and save what then waits.
+    Freeze {
+        /// The name of the service file.
+        service: Text,
+        /// The name of the file of requests.
+        requests: Text,
+        judging: Judging,
+        /// The name of the file of formats. Where there is none, no field has a format.
+        formats: Option<Text>,
+        /// The name of the file of saved sessions. Where there is none, nothing was requested yet.
+        load: Option<Text>,
+        /// The greatest number of requests that are answered.
+        most: u32,
+    },
+    /// To visit a session by a script.
+    Visit {
+        /// The name of the service file.
+        service: Text,
+        /// The name of the script.
+        script: Text,
+        judging: Judging,
+        /// The name of the file of formats. Where there is none, no field has a format.
+        formats: Option<Text>,
     },
 }

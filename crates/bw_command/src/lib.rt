@@ -1,6 +1,7 @@
 //! The command line: which command its words give.
 #![tactic(auto)]
 
+mod apart;
 mod command;
 mod numbers;
 mod reading;

@@ -5,6 +5,7 @@ ghost use Rattle.bw_command.specs.Numbers.{number_or};
 ghost use Rattle.bw_command.specs.Words as words;
 ghost use Rattle.bw_command.specs.declared.command.TheConstants.{DEFAULT_PORT, MAX_PORT};
 
+use crate::apart::{freeze_by, visit_by};
 use crate::command::{
     Command, DEFAULT_PORT, Judging, MAX_LINKS, MAX_PORT, MAX_REQUESTS, MAX_WORKERS,
 };
@@ -47,13 +48,17 @@ fn command_by(alloc: Global, line: &Line<'_>) -> Result<Command, WordsFault>
         make_by(line)
     } else if name == "light" {
         light_by(alloc, line)
+    } else if name == "freeze" {
+        freeze_by(alloc, line)
+    } else if name == "visit" {
+        visit_by(alloc, line)
     } else {
         Err(WordsFault::Refused)
     }
 }
 
 /// A text of its own.
-fn owned(alloc: Global, text: &str) -> Result<Text, WordsFault>
+pub fn owned(alloc: Global, text: &str) -> Result<Text, WordsFault>
     ensures ok { IfOk result (λ own. own ≡ text.now) }
     ensures memory { IfErr result (λ e. e ≡ WordsFault.Memory) }
 {
@@ -64,7 +69,7 @@ fn owned(alloc: Global, text: &str) -> Result<Text, WordsFault>
 }
 
 /// The same, where there is one.
-fn owned_option(alloc: Global, text: Option<&str>) -> Result<Option<Text>, WordsFault>
+pub fn owned_option(alloc: Global, text: Option<&str>) -> Result<Option<Text>, WordsFault>
     ensures ok { IfOk result (λ own. own ≡ words.text_of text.entry) }
     ensures memory { IfErr result (λ e. e ≡ WordsFault.Memory) }
 {
@@ -86,7 +91,7 @@ fn is_written(text: Option<&str>) -> bool
 
 /// What a service is judged by: the schema that is named, if one is, and by 1 worker where no number is named; and whether
 /// its source is shown where it is refused.
-fn judging_by(alloc: Global, line: &Line<'_>) -> Result<Judging, WordsFault>
+pub fn judging_by(alloc: Global, line: &Line<'_>) -> Result<Judging, WordsFault>
     ensures ok { IfOk result (λ j. (spec.judging_by (words.line_of line.now) ≡ Some j) × spec.AreWorkers j.workers) }
     ensures refused { IsErrOf result WordsFault.Refused → spec.judging_by (words.line_of line.now) ≡ None }
 {
@@ -108,6 +113,7 @@ fn check_by(alloc: Global, line: &Line<'_>) -> Result<Command, WordsFault>
         || line.port.is_some()
         || line.formats.is_some()
         || line.journal.is_some()
+        || line.load.is_some()
         || line.second.is_some()
     {
         return Err(WordsFault::Refused);
@@ -120,12 +126,19 @@ fn check_by(alloc: Global, line: &Line<'_>) -> Result<Command, WordsFault>
     })
 }
 
-/// `replay SERVICE REQUESTS`, beside a journal where one is named.
+/// Whether no file of saved sessions is named beside a journal.
+fn begins_once(line: &Line<'_>) -> bool
+    ensures { result ≡ spec.begins_once (words.line_of line.now) }
+{
+    line.journal.is_none() || line.load.is_none()
+}
+
+/// `replay SERVICE REQUESTS`, beside a journal or from saved sessions where they are named.
 fn replay_by(alloc: Global, line: &Line<'_>) -> Result<Command, WordsFault>
     ensures ok { IfOk result (λ c. (spec.replay_by (words.line_of line.now) ≡ Some c) × spec.IsInRange c) }
     ensures refused { IsErrOf result WordsFault.Refused → spec.replay_by (words.line_of line.now) ≡ None }
 {
-    if line.port.is_some() {
+    if line.port.is_some() || !begins_once(line) {
         return Err(WordsFault::Refused);
     }
     let service = line.first.ok_or(WordsFault::Refused)?;
@@ -141,6 +154,7 @@ fn replay_by(alloc: Global, line: &Line<'_>) -> Result<Command, WordsFault>
             requests,
             judging,
             formats,
+            load: owned_option(alloc, line.load)?,
             most,
         }),
         Some(journal) => Ok(Command::Resume {
@@ -154,12 +168,12 @@ fn replay_by(alloc: Global, line: &Line<'_>) -> Result<Command, WordsFault>
     }
 }
 
-/// `serve SERVICE`, beside a journal where one is named.
+/// `serve SERVICE`, beside a journal or from saved sessions where they are named.
 fn serve_by(alloc: Global, line: &Line<'_>) -> Result<Command, WordsFault>
     ensures ok { IfOk result (λ c. (spec.serve_by (words.line_of line.now) ≡ Some c) × spec.IsInRange c) }
     ensures refused { IsErrOf result WordsFault.Refused → spec.serve_by (words.line_of line.now) ≡ None }
 {
-    if line.second.is_some() {
+    if line.second.is_some() || !begins_once(line) {
         return Err(WordsFault::Refused);
     }
     let service = line.first.ok_or(WordsFault::Refused)?;
@@ -173,6 +187,7 @@ fn serve_by(alloc: Global, line: &Line<'_>) -> Result<Command, WordsFault>
             service,
             judging,
             formats,
+            load: owned_option(alloc, line.load)?,
             port,
             most,
         }),
@@ -210,6 +225,7 @@ fn valid_by(alloc: Global, line: &Line<'_>) -> Result<Command, WordsFault>
         || line.port.is_some()
         || line.formats.is_some()
         || line.journal.is_some()
+        || line.load.is_some()
         || is_written(line.source)
         || line.second.is_some()
     {
@@ -232,6 +248,7 @@ fn make_by(line: &Line<'_>) -> Result<Command, WordsFault>
         || line.port.is_some()
         || line.formats.is_some()
         || line.journal.is_some()
+        || line.load.is_some()
         || is_written(line.source)
         || line.second.is_some()
     {
@@ -254,6 +271,7 @@ fn light_by(alloc: Global, line: &Line<'_>) -> Result<Command, WordsFault>
         || line.port.is_some()
         || line.formats.is_some()
         || line.journal.is_some()
+        || line.load.is_some()
         || is_written(line.source)
     {
         return Err(WordsFault::Refused);

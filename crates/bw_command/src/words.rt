@@ -20,6 +20,7 @@ pub struct Line<'a> {
     pub port: Option<&'a str>,
     pub formats: Option<&'a str>,
     pub journal: Option<&'a str>,
+    pub load: Option<&'a str>,
     /// `true` where the source of a refusal is shown, and else `false`.
     pub source: Option<&'a str>,
 }
@@ -76,7 +77,7 @@ fn bare<'a>(alloc: Global) -> Command<'a>
         .disable_version_flag(true)
 }
 
-/// The whole command line: a command word, up to two further words, six options and a flag.
+/// The whole command line: a command word, up to two further words, seven options and a flag.
 fn whole<'a>(alloc: Global) -> Result<Command<'a>, AllocError>
     ensures { IfOk result (λ r. app_of r ≡ bigwig) }
 {
@@ -89,6 +90,7 @@ fn whole<'a>(alloc: Global) -> Result<Command<'a>, AllocError>
     let c = with_option(alloc, c, "port")?;
     let c = with_option(alloc, c, "formats")?;
     let c = with_option(alloc, c, "journal")?;
+    let c = with_option(alloc, c, "load")?;
     with_flag(alloc, c, "show-source")
 }
 
@@ -106,6 +108,7 @@ fn line_of<'a>(matches: &ArgMatches<'a>) -> Line<'a>
         port: matches.get_str("port"),
         formats: matches.get_str("formats"),
         journal: matches.get_str("journal"),
+        load: matches.get_str("load"),
         source: matches.get_str("show-source"),
     }
 }

@@ -103,12 +103,6 @@ impl<S> Leaving<S> {
         self.socket.is_told_as(token)
     }
 
-    /// Its stream.
-    #[cfg(test)]
-    pub(crate) fn stream(&self) -> &S {
-        &self.socket.stream
-    }
-
     /// How much memory its reply has.
     pub(crate) fn kept(&self) -> usize {
         self.reply.capacity()

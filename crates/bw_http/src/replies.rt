@@ -82,14 +82,7 @@ pub fn write_reply<W: Sink>(
         Reply::FieldTooLong(field) => write_field(b"too long ", field, fields, sink),
         Reply::Format(field) => write_field(b"format ", field, fields, sink),
         Reply::Method(allow) => write_allowed(allow, sink),
-        Reply::Stale(turn) => {
-            write_number(
-                b"HTTP/1.1 409 Conflict",
-                b"current turn ",
-                turn as u64,
-                sink,
-            )
-        }
+        Reply::Stale(turn) => write_stale(turn, sink),
         Reply::Failed(fault) => write_failed(fault, sink),
         Reply::Bad => write_words(b"HTTP/1.1 400 Bad Request", b"bad request", sink),
         Reply::NoSuch => write_words(b"HTTP/1.1 404 Not Found", b"no such page", sink),
@@ -119,6 +112,14 @@ pub fn write_reply<W: Sink>(
         Reply::NoTurns => write_words(b"HTTP/1.1 503 Service Unavailable", b"no turns", sink),
         Reply::Memory => write_words(b"HTTP/1.1 503 Service Unavailable", b"out of memory", sink),
     }
+}
+
+/// Writes the reply to a turn that isn't the session's current one, which is this.
+fn write_stale<W: Sink>(turn: u32, sink: &mut W) -> Result<(), WriteFault>
+    ensures { Sends W.Channel sink.old sink.new (bytes_of [] (Reply.Stale turn)) result }
+{
+    let status = b"HTTP/1.1 409 Conflict";
+    write_number(status, b"current turn ", turn as u64, sink)
 }
 
 /// Writes the reply to a turn that failed.

@@ -11,9 +11,9 @@ use Rattle.bw_out.specs.Causes.{Rose, Shows}
 use Rattle.bw_out.specs.Writes.{AppendsPart}
 use Rattle.bw_out.specs.declared.outside.Channel.{Ghosts}
 use Rattle.bw_keeping.specs.Entering.{IsEntered}
-use Rattle.bw_keeping.specs.Taking.{Taking}
-use Rattle.bw_keeping.specs.declared.taken.Taken.{Taken}
-use Rattle.bw_keeping.specs.declared.taken.Taken.TheVariants as takens
+use Rattle.bw_world.specs.Streams.Taking.{Taking}
+use Rattle.bw_world.specs.declared.outcomes.Taken.{Taken}
+use Rattle.bw_world.specs.declared.outcomes.Taken.TheVariants as takens
 use Rattle.bw_world.specs.Streams.Answers.{Place}
 use Rattle.bw_world.specs.Streams.Courses.{AreLeft, bytes_by}
 use Rattle.bw_world.specs.declared.ends.StreamEnd.TheVariants as ends

@@ -11,7 +11,7 @@ use Rattle.bw_out.specs.Told.{Coming}
 use Rattle.bw_out.specs.declared.outside.Channel.{Ghosts}
 use Rattle.bw_keeping.specs.Groups.{Grouped}
 use Rattle.bw_keeping.specs.Taking.{Takes}
-use Rattle.bw_keeping.specs.declared.taken.Taken.TheVariants as takens
+use Rattle.bw_world.specs.declared.outcomes.Taken.TheVariants as takens
 use Rattle.bw_world.specs.Seen.{Seen}
 use Rattle.bw_world.specs.Streams.Answers.{IsAt, place}
 use Rattle.bw_keeping.specs.Answered.{Between, at_link, entries_of}

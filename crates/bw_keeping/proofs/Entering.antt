@@ -28,9 +28,10 @@ use Rattle.bw_world.proofs.Streams.Messages.{request_taken}
 use Rattle.bw_keeping.specs.Bringing.{Sends}
 use Rattle.bw_keeping.specs.Entering.{IsEntered, nothing, kept}
 use Rattle.bw_keeping.specs.Groups.{Grouped, Grows, IsKept}
-use Rattle.bw_keeping.specs.Taking.{Taking, TakesFrom, Takes, without_request}
-use Rattle.bw_keeping.specs.declared.taken.Taken.{Taken}
-use Rattle.bw_keeping.specs.declared.taken.Taken.TheVariants as takens
+use Rattle.bw_world.specs.Streams.Taking.{Taking, without_request}
+use Rattle.bw_keeping.specs.Taking.{TakesFrom, Takes}
+use Rattle.bw_world.specs.declared.outcomes.Taken.{Taken}
+use Rattle.bw_world.specs.declared.outcomes.Taken.TheVariants as takens
 use Rattle.bw_keeping.proofs.Messages.{cut_more, cut_off, one_cut}
 
 -- ---- the message that was noted

@@ -2,7 +2,7 @@
 use Rattle.std.proofs.Common.{◌≡◌, List, [], ◌∷◌, ◌++◌, sym, subst}
 use Rattle.std.specs.List.{AllByRecursion}
 use Rattle.bw_lang.specs.declared.service.Service.{Service}
-use Rattle.bw_keeping.specs.Taking.{AreFit}
+use Rattle.bw_world.specs.Streams.Taking.{AreFit}
 use Rattle.bw_keeping.specs.declared.waiting.Waiting.{Waiting}
 
 all_then : {X : Type 0} (P : X → Type 0) (xs : List X) (x : X) → AllByRecursion P xs → P x → AllByRecursion P (xs ++ x ∷ [])

@@ -18,7 +18,7 @@ use Rattle.bw_keeping.specs.StreamSteps.{Goes, IsKeptOne}
 use Rattle.bw_keeping.specs.Streamed.{AreKeptAt, Message, sight}
 use Rattle.bw_keeping.specs.Taking.{Takes, TakesFrom}
 use Rattle.bw_keeping.specs.declared.streaming.Next.TheVariants as nexts
-use Rattle.bw_keeping.specs.declared.taken.Taken.TheVariants as takens
+use Rattle.bw_world.specs.declared.outcomes.Taken.TheVariants as takens
 use Rattle.bw_keeping.proofs.Pieces.{no_bytes}
 
 -- the code stands where it stood, while a reply is sent

@@ -7,8 +7,8 @@ use Rattle.bw_out.specs.Causes.{Rose}
 use Rattle.bw_out.specs.Doors.{Returned}
 use Rattle.bw_out.specs.Writes.{AppendsPart}
 use Rattle.bw_out.specs.declared.outside.Channel.{Ghosts}
-use Rattle.bw_keeping.specs.declared.taken.Taken.{Taken}
-use Rattle.bw_keeping.specs.declared.taken.Taken.TheVariants as takens
+use Rattle.bw_world.specs.declared.outcomes.Taken.{Taken}
+use Rattle.bw_world.specs.declared.outcomes.Taken.TheVariants as takens
 use Rattle.bw_stable.specs.Deeds.{Deed, Does, kept}
 use Rattle.bw_world.specs.Streams.Courses.{bytes_by}
 use Rattle.bw_keeping.specs.declared.ended.Ended.{Ended}

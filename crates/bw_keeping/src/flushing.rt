@@ -3,7 +3,7 @@ ghost use Rattle.std.specs.Prelude.{◌≡◌, ◌≢◌, ◌⊎◌, ◌<◌, �
 ghost use Rattle.std.specs.List.{AllByRecursion};
 ghost use Rattle.bw_out.specs.Causes.{HasCause, Shows};
 ghost use Rattle.bw_keeping.specs.Groups.{HasRoom};
-ghost use Rattle.bw_keeping.specs.Taking.{AreFit};
+ghost use Rattle.bw_world.specs.Streams.Taking.{AreFit};
 ghost use Rattle.bw_keeping.specs.declared.waiting.TheConstants.{MAX_WAITING};
 ghost use Rattle.bw_keeping.specs.Steps.{Closes, Finishes, Flushes, Keeps, desk};
 

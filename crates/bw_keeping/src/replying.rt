@@ -1,7 +1,7 @@
 //! Links that wait are sent their replies, or are given back as they are.
 ghost use Rattle.std.specs.Prelude.{◌≡◌, ◌≤◌, [], List, length};
 ghost use Rattle.std.specs.List.{AllByRecursion};
-ghost use Rattle.bw_keeping.specs.Taking.{AreFit};
+ghost use Rattle.bw_world.specs.Streams.Taking.{AreFit};
 ghost use Rattle.bw_out.specs.Doors.{Returned};
 ghost use Rattle.bw_out.specs.Sends.{Sends};
 ghost use Rattle.bw_http.specs.Replies.{IsReply};
@@ -10,11 +10,10 @@ ghost use Rattle.bw_world.specs.Streams.Courses.{bytes_by};
 ghost use Rattle.bw_keeping.specs.Steps.{AreReplied, GivesBackAll, IsSent, Replies, unanswered};
 
 use crate::doors::WideDoor;
-use crate::taken::Taken;
 use crate::waiting::{Queue, Waiting};
 use bw_http::{Reply, write_reply};
 use bw_out::{Sink, Source, WriteFault};
-use bw_world::World;
+use bw_world::{Taken, World};
 
 /// Sends the reply that is due on a link, if one is, and gives the link. A fault ends this link alone.
 fn reply_to<C: Source + Sink>(world: &World, waiting: Waiting<C>) -> C

@@ -2,9 +2,10 @@
 ghost use Rattle.std.specs.Prelude.{◌≡◌, ◌<◌, ◌≤◌, ◌++◌, [], ◌∷◌, length, false, IfOk};
 ghost use Rattle.bw_out.specs.Sends as sends;
 ghost use Rattle.bw_keeping.specs.Groups.{HasRoom};
-ghost use Rattle.bw_keeping.specs.Taking.{AreFit, Takes};
-ghost use Rattle.bw_keeping.specs.declared.taken.Taken.TheVariants as takens;
+ghost use Rattle.bw_keeping.specs.Taking.{Takes};
 ghost use Rattle.bw_world.specs.Streams.Answers.{place};
+ghost use Rattle.bw_world.specs.Streams.Taking.{AreFit};
+ghost use Rattle.bw_world.specs.declared.outcomes.Taken.TheVariants as takens;
 ghost use Rattle.bw_keeping.specs.declared.waiting.TheConstants.{MAX_WAITING};
 ghost use Rattle.bw_keeping.specs.declared.waiting.Waiting.{Waiting};
 

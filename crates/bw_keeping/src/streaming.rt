@@ -1,6 +1,5 @@
 //! Messages of a stream are answered beside a journal.
-ghost use Rattle.std.specs.Prelude.{◌≡◌, ◌≢◌, ◌≤◌};
-ghost use Rattle.bw_model.specs.Runs.{want};
+ghost use Rattle.std.specs.Prelude.{◌≡◌, ◌≢◌};
 ghost use Rattle.bw_out.specs.Causes.{Shows};
 ghost use Rattle.bw_world.specs.Streams.Answers.{place};
 ghost use Rattle.bw_world.specs.Streams.Good.{RepliesAreGood};
@@ -12,11 +11,10 @@ use crate::ended::StreamEnded;
 use crate::flushing::keep_group;
 use crate::lent::{Handler, StreamRoom};
 use crate::replying::send;
-use crate::taken::Taken;
 use crate::taking::take_kept;
-use bw_http::Reply;
 use bw_out::{Door, Failed, Keys, Sink, Source, Steps, WriteFault};
 use bw_stable::Journal;
+use bw_world::{Taken, want_of};
 use std::sync::ledger::Ledger;
 
 /// What came of one message.
@@ -29,17 +27,6 @@ pub(crate) enum Next {
     ReadFault,
     WriteFault,
     JournalFault,
-}
-
-/// 1 for the reply that there was no memory.
-fn want_of(reply: &Reply) -> u32
-    ensures value { result ≡ want reply.now }
-    ensures few { result ≤ 1 }
-{
-    match reply {
-        Reply::Memory => 1,
-        _ => 0,
-    }
 }
 
 /// Answers the next message of a link, or what is none. What is kept of it is kept before its reply is written.

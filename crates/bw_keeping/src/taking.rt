@@ -7,17 +7,17 @@ ghost use Rattle.bw_world.specs.Handled.{Handles};
 ghost use Rattle.bw_world.specs.Stands.{fields_of};
 ghost use Rattle.bw_world.specs.Streams.Answers.{place};
 ghost use Rattle.bw_world.specs.Streams.Good.{RepliesAreGood};
+ghost use Rattle.bw_world.specs.Streams.Taking.{AreFit};
 ghost use Rattle.bw_keeping.specs.Groups.{HasRoom, IsKept};
-ghost use Rattle.bw_keeping.specs.Taking.{AreFit, Leaves, Takes};
+ghost use Rattle.bw_keeping.specs.Taking.{Leaves, Takes};
 
 use crate::group::Group;
 use crate::notes::{Notes, read_noted};
-use crate::taken::{Taken, without_request};
 use bw_format::Formats;
 use bw_http::{Intake, Reply, Request};
 use bw_journal::MAX_MESSAGE_BYTES;
 use bw_out::{Keys, Sink, Source, Steps};
-use bw_world::{World, guarded};
+use bw_world::{Taken, World, guarded, without_request};
 use std::alloc::Global;
 use std::sync::ledger::Ledger;
 

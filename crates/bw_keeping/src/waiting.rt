@@ -3,9 +3,9 @@ ghost use Rattle.std.specs.Prelude.{◌≡◌, ◌≤◌, ◌<◌, ◌++◌, ◌
 ghost use Rattle.std.specs.VecDeque.{deque_capacity};
 ghost use Rattle.bw_keeping.specs.declared.waiting.TheConstants.{MAX_WAITING};
 
-use crate::taken::Taken;
 use bw_lang::Memory;
 use bw_out::Channel;
+use bw_world::Taken;
 use std::alloc::Global;
 use std::collections::VecDeque;
 

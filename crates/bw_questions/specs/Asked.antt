@@ -14,6 +14,7 @@ use Rattle.bw_lang.specs.declared.declaration.Draft.{Draft}
 use Rattle.bw_lang.specs.declared.service.Service.{Service}
 use Rattle.bw_lights.specs.Lights.{AreLights}
 use Rattle.bw_make.specs.Made.{made}
+use Rattle.bw_model.specs.Sessions.{World}
 use Rattle.bw_out.specs.Told.{Disk}
 use Rattle.bw_read.specs.Pages.{IsPage}
 use Rattle.bw_schema.specs.Reads.{IsSchemaRefused}
@@ -43,7 +44,7 @@ use Rattle.bw_questions.specs.declared.status.Status.TheVariants.{Usage, NoFile,
 
 -- what is printed where the words are refused
 abbrev pub usage_line : List ℕ
-usage_line = line (codes "usage: bigwig check SERVICE | replay SERVICE REQUESTS | serve SERVICE | valid PAGE | make N | light FORMATS TEXTS")
+usage_line = line (codes "usage: bigwig check SERVICE | replay SERVICE REQUESTS | serve SERVICE | valid PAGE | make N | light FORMATS TEXTS | freeze SERVICE REQUESTS | visit SERVICE SCRIPT")
 
 -- which command do the words give?
 abbrev pub command : List (List ℕ) → Question Command
@@ -150,13 +151,21 @@ pub data Task : Type 0 where
   to_serve : (port most : ℕ) → Task
   to_answer : (stream : List ℕ) (most : ℕ) → Task
 
--- What is left to do where every question went well: to print; to answer a stream of at most so many requests; to serve at
--- most so many links at a port; or to do one of these beside a journal that has this content, of the service with this text.
+-- a script: the name of the session that is visited, and the lines of answers
+pub record Script : Type 0 where
+  pub name : List ℕ
+  pub lines : List ℕ
+
+-- What is left to do where every question went well: to print; to answer a stream of at most so many requests, from a world on;
+-- to serve at most so many links at a port; to do one of these beside a journal that has this content, of the service with this
+-- text; to save what waits behind a stream of at most so many requests; or to visit by a script.
 pub data Work : Type 0 where
   prints : List ℕ → Work
-  replays : Ruled → List ℕ → ℕ → Work
-  serves : Ruled → ℕ → ℕ → Work
+  replays : Ruled → World → List ℕ → ℕ → Work
+  serves : Ruled → World → ℕ → ℕ → Work
   keeps : Ruled → (text content : List ℕ) → Task → Work
+  freezes : Ruled → World → (text stream : List ℕ) → ℕ → Work
+  visits : Ruled → Script → Work
 
 -- a service that is accepted, and no more is asked for
 abbrev pub accepted : Ruled → Question Work

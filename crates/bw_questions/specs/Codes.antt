@@ -14,6 +14,9 @@ use Rattle.bw_questions.specs.declared.status.Status.TheVariants.{
   Memory,
   PageRefused,
   FormatsRefused,
+  LoadRefused,
+  SaveRefused,
+  ScriptRefused,
   NoFile,
   JournalRefused,
   JournalFault,
@@ -31,6 +34,9 @@ code_of DoorFault = 7
 code_of Memory = 8
 code_of PageRefused = 9
 code_of FormatsRefused = 10
+code_of LoadRefused = 11
+code_of SaveRefused = 12
+code_of ScriptRefused = 13
 code_of NoFile = 15
 code_of JournalRefused = 16
 code_of JournalFault = 17
@@ -42,4 +48,7 @@ status_for refusals.Service = ServiceRefused
 status_for refusals.Schema = SchemaRefused
 status_for refusals.Page = PageRefused
 status_for refusals.Formats = FormatsRefused
+status_for refusals.Load = LoadRefused
+status_for refusals.Save = SaveRefused
+status_for refusals.Script = ScriptRefused
 status_for refusals.Journal = JournalRefused

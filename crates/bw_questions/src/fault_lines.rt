@@ -166,7 +166,7 @@ fn push_name(text: &mut Vec<u8>, names: &[Text], template: TemplateId) -> Result
 }
 
 /// The bytes of a name, the ends of lines as spaces.
-fn push_shown(text: &mut Vec<u8>, name: &[u8]) -> Result<(), Memory>
+pub fn push_shown(text: &mut Vec<u8>, name: &[u8]) -> Result<(), Memory>
     ensures { OnOk result (text.new.items ≡ text.old.items ++ map lines.shown name.now) }
 {
     for &byte in name {

@@ -17,10 +17,11 @@ mod stop;
 mod tools;
 
 pub use checking::{Kept, Served, load_accepted, load_checked, load_kept, made_checked};
+pub use fault_lines::push_shown;
 pub use judging::load_valid;
 pub use lighting::load_lights;
-pub use lines::placed;
-pub use loading::{no_file, refused};
+pub use lines::{paired, placed};
+pub use loading::{fetch_bytes, no_file, refused};
 pub use reporting::{print_line, print_text, report};
 pub use status::{Refusal, Status};
 pub use stop::Stop;

@@ -28,7 +28,7 @@ fn joined(alloc: Global, front: &[u8], middle: &[u8], back: &[u8]) -> Result<Vec
 }
 
 /// Two parts, one behind the other.
-fn paired(alloc: Global, front: &[u8], back: &[u8]) -> Result<Vec<u8>, Memory>
+pub fn paired(alloc: Global, front: &[u8], back: &[u8]) -> Result<Vec<u8>, Memory>
     ensures { IfOk result (λ line. line.items ≡ front.now ++ back.now) }
 {
     let mut line = front.to_vec(alloc)?;

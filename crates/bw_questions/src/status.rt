@@ -25,6 +25,12 @@ pub enum Status {
     PageRefused,
     /// 10: the file of formats is refused, or the file of texts.
     FormatsRefused,
+    /// 11: the file of saved sessions is refused.
+    LoadRefused,
+    /// 12: what waits is too much to be saved.
+    SaveRefused,
+    /// 13: the script is refused, or an answer in it has no control.
+    ScriptRefused,
     /// 15: a file that the words name isn't there.
     NoFile,
     /// 16: the journal is refused.
@@ -49,6 +55,9 @@ impl Status {
             Status::Memory => 8,
             Status::PageRefused => 9,
             Status::FormatsRefused => 10,
+            Status::LoadRefused => 11,
+            Status::SaveRefused => 12,
+            Status::ScriptRefused => 13,
             Status::NoFile => 15,
             Status::JournalRefused => 16,
             Status::JournalFault => 17,
@@ -69,8 +78,14 @@ pub enum Refusal {
     Page,
     /// What a file of formats holds, or one of texts.
     Formats,
+    /// What a file of saved sessions holds.
+    Load,
+    /// What waits, since it is too much to be saved.
+    Save,
     /// What a journal holds.
     Journal,
+    /// What a script holds.
+    Script,
 }
 
 impl Refusal {
@@ -84,7 +99,10 @@ impl Refusal {
             Refusal::Schema => Status::SchemaRefused,
             Refusal::Page => Status::PageRefused,
             Refusal::Formats => Status::FormatsRefused,
+            Refusal::Load => Status::LoadRefused,
+            Refusal::Save => Status::SaveRefused,
             Refusal::Journal => Status::JournalRefused,
+            Refusal::Script => Status::ScriptRefused,
         }
     }
 }

@@ -17,6 +17,7 @@ mod turns;
 pub mod world;
 
 pub use ends::StreamEnd;
+pub use outcomes::{Taken, want_of, without_request};
 pub use requests::guarded;
 pub use restoring::Parts;
 pub use stream::answer;

@@ -1,12 +1,13 @@
 //! What comes of reading a message.
-ghost use Rattle.std.specs.Prelude.{◌≡◌};
-ghost use Rattle.bw_world.specs.Streams.Steps.Turns as spec;
+ghost use Rattle.std.specs.Prelude.{◌≡◌, ◌≤◌};
+ghost use Rattle.bw_model.specs.Runs.{want};
+ghost use Rattle.bw_world.specs.Streams.Taking as spec;
 
 use bw_http::{ReadOutcome, Reply};
 
 /// What came of reading one message.
 #[derive(Drop)]
-pub(crate) enum Taken {
+pub enum Taken {
     /// The stream has ended.
     End,
     /// A read failed.
@@ -29,7 +30,7 @@ pub(crate) enum Next {
 }
 
 /// What comes of an outcome that is no request.
-pub(crate) fn without_request(outcome: ReadOutcome) -> Taken
+pub fn without_request(outcome: ReadOutcome) -> Taken
     ensures { result ≡ spec.without_request outcome }
 {
     match outcome {
@@ -44,5 +45,16 @@ pub(crate) fn without_request(outcome: ReadOutcome) -> Taken
         ReadOutcome::Media => Taken::Refused(Reply::Media),
         ReadOutcome::ReadFault => Taken::ReadFault,
         ReadOutcome::Memory => Taken::Answered(Reply::Memory),
+    }
+}
+
+/// 1 for the reply that there was no memory.
+pub fn want_of(reply: &Reply) -> u32
+    ensures value { result ≡ want reply.now }
+    ensures few { result ≤ 1 }
+{
+    match reply {
+        Reply::Memory => 1,
+        _ => 0,
     }
 }

@@ -4,31 +4,20 @@ ghost use Rattle.bw_lang.specs.Table.Names.{with_names};
 ghost use Rattle.bw_out.specs.Causes.{Shows};
 ghost use Rattle.bw_out.specs.Sends as sends;
 ghost use Rattle.bw_types.specs.Fields.{field_names};
-ghost use Rattle.bw_model.specs.Runs.{want};
 ghost use Rattle.bw_world.specs.Streams.Answers.{Answers, place};
 ghost use Rattle.bw_world.specs.Streams.Good.{RepliesAreGood};
-ghost use Rattle.bw_world.specs.Streams.Steps.Turns.{Takes, AreFit, Goes, IsFew};
+ghost use Rattle.bw_world.specs.Streams.Steps.Turns.{Takes, Goes, IsFew};
+ghost use Rattle.bw_world.specs.Streams.Taking.{AreFit};
 
 use crate::World;
 use crate::ends::StreamEnd;
-use crate::outcomes::{Next, Taken, without_request};
+use crate::outcomes::{Next, Taken, want_of, without_request};
 use crate::requests::guarded;
 use bw_format::Formats;
 use bw_http::{Intake, Reply, read_request, write_reply};
 use bw_out::{Keys, Sink, Source, Steps, WriteFault};
 use std::alloc::Global;
 use std::sync::ledger::Ledger;
-
-/// 1 for the reply that there was no memory.
-fn want_of(reply: &Reply) -> u32
-    ensures value { result ≡ want reply.now }
-    ensures few { result ≤ 1 }
-{
-    match reply {
-        Reply::Memory => 1,
-        _ => 0,
-    }
-}
 
 /// Takes a message of the link and handles it. There may be no memory for it, and it then draws no key.
 fn take<C: Source + Sink, K: Keys, L: Ledger>(

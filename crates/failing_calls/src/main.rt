@@ -5,13 +5,14 @@
 //! kept: the program ends, no link that waited holds a byte, and who begins again with the journal answers what was left.
 //!
 //! With the word `memory` it answers a guest book's requests, checks a service by four workers, shows why one is refused, tells
-//! lights, and serves links beside a journal, for tools/without_memory. It ends with code 20 where a request for memory was refused
+//! lights, saves sessions and goes on from them, visits, and serves links beside a journal, for tools/without_memory. It ends with code 20 where a request for memory was refused
 //! and a run ended for it, with 21 where a request was answered by 503, and with 22 where there was no memory for the trial itself.
 #![tactic(auto)]
 
 mod door;
 mod journals;
 mod memory;
+mod reads;
 mod replays;
 mod runs;
 mod serves;
@@ -82,6 +83,8 @@ fn try_memory<R: Threads + Sync>(rt: &R, alloc: Global) -> Result<Came, Wrong> {
     );
     let came = or(came, wanting::try_shown(rt, alloc)?);
     let came = or(came, wanting::try_lights(rt, alloc)?);
+    let came = or(came, wanting::try_saved(rt, alloc)?);
+    let came = or(came, wanting::try_visit(rt, alloc)?);
     Ok(or(came, wanting::try_kept(rt, alloc)?))
 }
 
@@ -102,5 +105,6 @@ fn try_all<R: Threads + Sync>(rt: &R, alloc: Global) -> Result<u32, Wrong> {
         tally = tally.saturating_add(serves::try_reads(rt, alloc, piece)?);
         tally = tally.saturating_add(serves::try_writes(rt, alloc, piece)?);
     }
+    tally = tally.saturating_add(reads::try_all(rt, alloc)?);
     Ok(tally.saturating_add(journals::try_all(rt, alloc)?))
 }

@@ -8,7 +8,7 @@ use std::num::NonZeroUsize;
 use std::thread::Threads;
 
 /// A guest book.
-const GUESTS: &[u8] =
+pub const GUESTS: &[u8] =
     b"service Guests { html Ask = <html><p>Name: <input name=\"who\"/></p></html>; html Row = \
       <html><li><[n]></li><[rows]></html>; html List = <html><p>Hello <[n]></p><ul><[rows]></ul></html>; html Start = \
       <html><[rows]></html>; shared html past = Start; session visit() { string who = \"\"; show Ask receive [who=who]; \

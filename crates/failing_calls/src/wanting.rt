@@ -1,6 +1,7 @@
-//! Want of memory where a refusal is shown, where lights are told, and beside a journal: one request for it is refused.
+//! Want of memory where a refusal is shown, where lights are told, where sessions are saved and loaded, in a visit, and beside a
+//! journal: one request for it is refused.
 use crate::journals::JOURNAL_FAULT;
-use crate::memory::{Came, NO_MEMORY, NOBODY, OUT_OF_MEMORY};
+use crate::memory::{Came, GUESTS, NO_MEMORY, NOBODY, OUT_OF_MEMORY};
 use crate::runs::{Beside, Kept, Replayed, Wrong, keep, told, whole_file};
 use crate::serves::REQUESTS;
 use std::alloc::Global;
@@ -12,6 +13,11 @@ const LACKING: &[u8] =
 
 /// Formats, and a text of each light.
 const FORMATS: &[u8] = b"age [0-9][0-9]?\nword (a|b)+c\n";
+
+/// A request of the guest book, and a script that signs it.
+const VISIT: &[u8] = b"GET /visit HTTP/1.1\r\nHost: a\r\n\r\n";
+
+const SCRIPT: &[u8] = b"visit\nwho=Bo\n";
 
 const TEXTS: &[u8] = b"age 4\nage\nword abab\nword x\n";
 
@@ -31,6 +37,67 @@ pub fn try_lights<R: Threads + Sync>(rt: &R, alloc: Global) -> Result<Came, Wron
     let got = told(rt, alloc, &words, &folder)?;
     let again = told(rt, alloc, &words, &folder)?;
     came_of_words(&got, &again)
+}
+
+/// What waits behind a request of the guest book, as a file.
+fn saved<R: Threads + Sync>(rt: &R, alloc: Global) -> Result<Replayed, Wrong> {
+    let folder = [whole_file("s", GUESTS), whole_file("r", VISIT)];
+    told(rt, alloc, &["freeze", "s", "r"], &folder)
+}
+
+/// Saves again what is loaded from a file.
+fn saved_again<R: Threads + Sync>(rt: &R, alloc: Global, file: &[u8]) -> Result<Replayed, Wrong> {
+    let folder = [
+        whole_file("s", GUESTS),
+        whole_file("r", b""),
+        whole_file("l", file),
+    ];
+    told(rt, alloc, &["freeze", "s", "r", "--load", "l"], &folder)
+}
+
+/// Saves sessions and goes on from them, and says what a refused request for memory led to.
+pub fn try_saved<R: Threads + Sync>(rt: &R, alloc: Global) -> Result<Came, Wrong> {
+    let got = saved(rt, alloc)?;
+    let again = saved(rt, alloc)?;
+    let came = came_of_words(&got, &again)?;
+    let file = if again.output.is_empty() { got } else { again };
+    let got = saved_again(rt, alloc, &file.output)?;
+    let again = saved_again(rt, alloc, &file.output)?;
+    let later = came_of_words(&got, &again)?;
+    Ok(if came == Came::Nothing { later } else { came })
+}
+
+/// Visits the guest book.
+fn visited<R: Threads + Sync>(rt: &R, alloc: Global) -> Result<Replayed, Wrong> {
+    let folder = [whole_file("s", GUESTS), whole_file("v", SCRIPT)];
+    told(rt, alloc, &["visit", "s", "v"], &folder)
+}
+
+/// Visits, and says what a refused request for memory led to.
+pub fn try_visit<R: Threads + Sync>(rt: &R, alloc: Global) -> Result<Came, Wrong> {
+    let got = visited(rt, alloc)?;
+    let again = visited(rt, alloc)?;
+    let later = visited(rt, alloc)?;
+    if got.output == again.output || got.output == later.output {
+        return Ok(Came::Nothing);
+    }
+    came_of_visit(&got, if again.status == 0 { &again } else { &later })
+}
+
+/// What a refused request for memory led to where this came of a visit, beside all replies that are due: some first ones, and then
+/// nothing, or the reply that there was no memory, at which a visit is over.
+fn came_of_visit(got: &Replayed, due: &Replayed) -> Result<Came, Wrong> {
+    if got.status == NO_MEMORY && due.output.starts_with(&got.output) {
+        return Ok(Came::Stopped);
+    }
+    let front = got.output.len().saturating_sub(OUT_OF_MEMORY.len());
+    if got.status == 0
+        && got.output.ends_with(OUT_OF_MEMORY)
+        && due.output.starts_with(&got.output[..front])
+    {
+        return Ok(Came::Answered);
+    }
+    Err(Wrong::Refused)
 }
 
 /// Whether a run ended for want of memory, and had printed nothing.

@@ -24,7 +24,8 @@ use Rattle.bw_world.specs.Stands.{StandsFor}
 use Rattle.bw_world.specs.Handled.{Handles, IsHandled, EndsBy}
 use Rattle.bw_world.specs.Streams.Answers.{Place, IsAt}
 use Rattle.bw_world.specs.Streams.Courses.{AreLeft, bytes_by}
-use Rattle.bw_world.specs.Streams.Steps.Turns.{Takes, Goes, without_request}
+use Rattle.bw_world.specs.Streams.Steps.Turns.{Takes, Goes}
+use Rattle.bw_world.specs.Streams.Taking.{without_request}
 use Rattle.bw_world.specs.declared.outcomes.Taken.{Taken}
 use Rattle.bw_world.specs.declared.outcomes.Taken.TheVariants as takens
 use Rattle.bw_world.specs.declared.outcomes.Next.TheVariants as nexts

@@ -14,12 +14,12 @@ returns-in-Replay-clause-comes g c =
     let others = c.replay_command.ensures.others in
     of_command _ _ _ _ _ _ c.in-Replay.is
     (subst (λ j. IfSome (g.F.Files.told c.args.lent.now.files.now) (λ disk.
-    Comes (work disk (Replay c.in-Replay.service c.in-Replay.requests c.in-Replay.judging c.in-Replay.formats c.in-Replay.most)) before
+    Comes (work disk (Replay c.in-Replay.service c.in-Replay.requests c.in-Replay.judging c.in-Replay.formats c.in-Replay.load c.in-Replay.most)) before
     (record after { deeds = g.J.Journals.deeds j }) c.replay_command.result)) (sym others.1)
     (subst (λ d. IfSome (g.F.Files.told c.args.lent.now.files.now) (λ disk.
-    Comes (work disk (Replay c.in-Replay.service c.in-Replay.requests c.in-Replay.judging c.in-Replay.formats c.in-Replay.most)) before
+    Comes (work disk (Replay c.in-Replay.service c.in-Replay.requests c.in-Replay.judging c.in-Replay.formats c.in-Replay.load c.in-Replay.most)) before
     (record after { asked = door.asked d; coming = door.coming d; returned = door.returned d; deeds = before.deeds }) c.replay_command.result)) (sym others.0)
-    (replies_comes _ (λ disk. work disk (Replay c.in-Replay.service c.in-Replay.requests c.in-Replay.judging c.in-Replay.formats c.in-Replay.most)) _ _ _ _
+    (replies_comes _ (λ disk. work disk (Replay c.in-Replay.service c.in-Replay.requests c.in-Replay.judging c.in-Replay.formats c.in-Replay.load c.in-Replay.most)) _ _ _ _
     _ _ _ _ before c.replay_command.ensures.comes)))
 
 pub returns-in-Resume-clause-comes : goal.returns-in-Resume-clause-comes

@@ -16,4 +16,5 @@ returns c =
     let e7 = c.in_ok-c-7.ensures ∙ ap (λ (a : App). with_rule a (option_rule (codes "port"))) e6 in
     let e8 = c.in_ok-c-8.ensures ∙ ap (λ (a : App). with_rule a (option_rule (codes "formats"))) e7 in
     let e9 = c.in_ok-c-9.ensures ∙ ap (λ (a : App). with_rule a (option_rule (codes "journal"))) e8 in
-    IfOk-weaker c.with_flag.result _ _ (λ r h. h ∙ ap (λ (a : App). with_rule a (flag_rule (codes "show-source"))) e9) c.with_flag.ensures
+    let e10 = c.in_ok-c-10.ensures ∙ ap (λ (a : App). with_rule a (option_rule (codes "load"))) e9 in
+    IfOk-weaker c.with_flag.result _ _ (λ r h. h ∙ ap (λ (a : App). with_rule a (flag_rule (codes "show-source"))) e10) c.with_flag.ensures

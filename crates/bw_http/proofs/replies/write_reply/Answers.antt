@@ -25,7 +25,7 @@ pub returns-in-Method : goal.returns-in-Method
 returns-in-Method g c = rw c.in-Method.is c.write_allowed.ensures
 
 pub returns-in-Stale : goal.returns-in-Stale
-returns-in-Stale g c = rw c.in-Stale.is c.write_number.ensures
+returns-in-Stale g c = rw c.in-Stale.is c.write_stale.ensures
 
 pub returns-in-Failed : goal.returns-in-Failed
 returns-in-Failed g c = rw c.in-Failed.is c.write_failed.ensures

@@ -1,6 +1,6 @@
 use Rattle.std.proofs.Common.{◌≡◌, ◌∷◌, length, refl, ap, ◌∙◌, subst, arith}
 use Rattle.std.specs.List.{AllByRecursion}
-use Rattle.bw_keeping.specs.Taking.{AreFit}
+use Rattle.bw_world.specs.Streams.Taking.{AreFit}
 use Rattle.bw_keeping.proofs.Giving.{none_replied, one_replied}
 use Rattle.bw_keeping.proofs.replying.reply_to_all.Goals as goal
 

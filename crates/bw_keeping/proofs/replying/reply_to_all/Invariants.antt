@@ -1,6 +1,6 @@
 use Rattle.std.proofs.Common.{◌≡◌, ◌≤◌, length}
 use Rattle.std.specs.List.{AllByRecursion}
-use Rattle.bw_keeping.specs.Taking.{AreFit}
+use Rattle.bw_world.specs.Streams.Taking.{AreFit}
 use Rattle.bw_keeping.proofs.Giving.{HasReplied}
 use Rattle.bw_keeping.proofs.replying.reply_to_all.Given as goal
 

@@ -1,6 +1,6 @@
 use Rattle.std.proofs.Common.{◌≡◌, ◌≤◌, length}
 use Rattle.std.specs.List.{AllByRecursion}
-use Rattle.bw_keeping.specs.Taking.{AreFit}
+use Rattle.bw_world.specs.Streams.Taking.{AreFit}
 use Rattle.bw_keeping.specs.Served.{view}
 use Rattle.bw_keeping.specs.Steps.{desk}
 use Rattle.bw_keeping.proofs.ServedSoFar.{HasTaken, sight}

@@ -1,0 +1,50 @@
+-- Faults have their causes where a question stopped the work, and where requests were answered whose replies were let go.
+use Rattle.std.proofs.Common.{◌≡◌, ◌≢◌, ◌<◌, ℕ, Result, Err, refl, ◌∙◌, subst, arith}
+use Rattle.std.specs.Prelude.{IsErrOf}
+use Rattle.bw_out.specs.Causes.{Rose, Shows}
+use Rattle.bw_world.specs.declared.ends.StreamEnd.{StreamEnd}
+use Rattle.bw_world.specs.declared.ends.StreamEnd.TheVariants as ends
+use Rattle.bw_questions.specs.declared.status.Status.{Status}
+use Rattle.bw_questions.specs.declared.status.Status.TheVariants as status
+use Rattle.bw_questions.specs.declared.stop.Stop.{Stop}
+use Rattle.bw_questions.specs.declared.stop.Stop.TheVariants as stop
+use Rattle.bigwig.specs.Lent.{Faults, HasCauses}
+
+same_stop : {T : Type 0} (asked : Result T Stop) (a b : Stop) → asked ≡ Err a → asked ≡ Err b → a ≡ b
+same_stop asked a b is too = cc
+
+-- it was said why the work stopped
+pub reported_causes : {T : Type 0} (asked : Result T Stop) (s : Stop) (r : Status) (before after written told links kept : ℕ) → asked ≡ Err s
+    → Shows (IsErrOf asked stop.ReadFault) before after → (r ≡ status.ReadFault → s ≡ stop.ReadFault) → (s ≡ stop.ReadFault → r ≡ status.ReadFault)
+    → Shows (r ≡ status.WriteFault) written told → (r ≢ status.Usage) × (r ≢ status.DoorFault) → r ≢ status.JournalFault
+    → HasCauses r (record { reads = before; writes = written; links = links; kept = kept })
+    (record { reads = after; writes = told; links = links; kept = kept })
+reported_causes asked s r before after written told links kept is shows read reads write others journal = record {
+  read = record {
+    only = λ e. shows.only (subst (λ x. asked ≡ Err x) (read e) is);
+    other = λ n. shows.other (λ h. n (reads (same_stop asked s stop.ReadFault is h)));
+  };
+  write = write;
+  door = record { only = λ e. absurd (others.1 e); other = λ n. refl };
+  journal = record { only = λ e. absurd (journal e); other = λ n m. refl };
+}
+
+rose_some : (n : ℕ) → Rose 0 n → 0 < n
+rose_some n h = omega (arith, h)
+
+-- a file was read and closed, and then it was told what came of it
+pub frozen_causes : (end : StreamEnd) (r : Status) (before mid after read now written told links kept : ℕ) → mid ≡ before → read ≡ 0
+    → Shows (end ≡ ends.ReadFault) read now → (0 < now → Rose mid after) → (now ≡ 0 → after ≡ mid) → (r ≡ status.ReadFault → end ≡ ends.ReadFault)
+    → (end ≡ ends.ReadFault → r ≡ status.ReadFault) → Shows (r ≡ status.WriteFault) written told → (r ≢ status.Usage) × (r ≢ status.DoorFault)
+    → r ≢ status.JournalFault
+    → HasCauses r (record { reads = before; writes = written; links = links; kept = kept })
+    (record { reads = after; writes = told; links = links; kept = kept })
+frozen_causes end r before mid after read now written told links kept same fresh shows failed quiet ends_so reads write others journal = record {
+  read = record {
+    only = λ e. subst (λ n. Rose n after) same (failed (rose_some now (subst (λ n. Rose n now) fresh (shows.only (ends_so e)))));
+    other = λ n. quiet (shows.other (λ h. n (reads h)) ∙ fresh) ∙ same;
+  };
+  write = write;
+  door = record { only = λ e. absurd (others.1 e); other = λ n. refl };
+  journal = record { only = λ e. absurd (journal e); other = λ n m. refl };
+}

@@ -1,0 +1,5 @@
+pub mod Controls
+pub mod Filled
+pub mod Fills
+pub mod Forms
+pub mod Laws

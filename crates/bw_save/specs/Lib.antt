@@ -1,0 +1,6 @@
+pub mod Filled
+pub mod Fitting
+pub mod Freezes
+pub mod Frozen
+pub mod Saves
+pub mod Thawed

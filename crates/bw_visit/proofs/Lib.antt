@@ -1,0 +1,11 @@
+pub mod Bodies
+pub mod Decided
+pub mod Exchanged
+pub mod Going
+pub mod LastPages
+pub mod Posted
+pub mod Replies
+pub mod Scripts
+pub mod Sent
+pub mod Turned
+pub mod Visited

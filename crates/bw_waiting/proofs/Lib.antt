@@ -1,0 +1,2 @@
+pub mod KindsKept
+pub mod NumbersKept
