@@ -28,8 +28,29 @@ def sum_of(check, data):
     return check
 
 
+def front_of_head(text, origin):
+    return b"BWJOURNAL1\n" + struct.pack(">I", len(text)) + text + origin
+
+
 def head_of(text):
-    return b"BWJOURNAL1\n" + struct.pack(">I", len(text)) + text + b"\0"
+    return front_of_head(text, b"\0")
+
+
+def saved_front(text):
+    """What stands in front of the saved world that a journal of this service begins at."""
+    return front_of_head(text, b"\1")
+
+
+def start_of(data, text):
+    """Where the entries of a journal of this service begin, and the check there: behind its head, or behind the saved world in it."""
+    if data.startswith(head_of(text)):
+        return len(head_of(text)), sum_of(0, head_of(text))
+    front = saved_front(text)
+    want(data.startswith(front), "the journal has another head")
+    at = len(front) + 8 + int.from_bytes(data[len(front):len(front) + 8], "big")
+    check = sum_of(0, data[:at])
+    want(data[at:at + 8] == struct.pack(">Q", check), "the check of the saved world")
+    return at + 8, check
 
 
 def front_of(check, key, message):
@@ -53,9 +74,7 @@ class Entry:
 
 def entries_of(data, text):
     """The entries of a journal of this service, which has to be whole."""
-    head = head_of(text)
-    want(data.startswith(head), "the journal has another head")
-    entries, at, check = [], len(head), sum_of(0, head)
+    entries, (at, check) = [], start_of(data, text)
     while at < len(data):
         entries.append(Entry(data, at, check))
         at, check = entries[-1].end, entries[-1].check
@@ -82,10 +101,10 @@ def launched():
     return given.stdout.strip() or sys.exit("there is no program")
 
 
-def begun(words, service, journal=None, limit=None):
+def begun(words, service, journal=None, limit=None, more=()):
     """The program, begun by these words with a service and a journal, and its port."""
     port = free_port()
-    words = [*words, "serve", service, "--port", str(port), *(["--journal", journal] if journal else []), *(["--limit", str(limit)] if limit else [])]
+    words = [*words, "serve", service, "--port", str(port), *(["--journal", journal] if journal else []), *(["--limit", str(limit)] if limit else []), *more]
     return subprocess.Popen(words, stdin=subprocess.DEVNULL, stdout=subprocess.PIPE, stderr=subprocess.PIPE, preexec_fn=end_with_parent), port
 
 
@@ -114,9 +133,9 @@ def end(server, number=signal.SIGKILL):
 
 
 @contextlib.contextmanager
-def served(words, service, journal=None, seconds=SECONDS):
+def served(words, service, journal=None, seconds=SECONDS, more=()):
     """A server that has said where it stands; gives its process and its port."""
-    server, port = begun(words, service, journal)
+    server, port = begun(words, service, journal, None, more)
     try:
         line = line_of(server, seconds)
         want(line == f"serving {port}\n".encode(), f"the service isn't served: {line!r}")

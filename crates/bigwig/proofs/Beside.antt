@@ -4,28 +4,22 @@ use Rattle.std.proofs.Common.{Vec, Global, ◌≡◌, ◌⊎◌, ◌+◌, ℕ, L
 use Rattle.std.proofs.Common.{◌<◌, IsErrOf, refl, sym, ap, ◌∙◌, subst, inl, inr, arith}
 use Rattle.bw_check.specs.Accepts.{Accepts}
 use Rattle.bw_format.specs.declared.format.Format.{Format}
-use Rattle.bw_journal.specs.Heads.{head_of, start_sum}
 use Rattle.bw_journal.specs.Layout.{Entry}
-use Rattle.bw_journal.specs.Reading.{IsCut}
+use Rattle.bw_journal.specs.Saved.{saved_head}
 use Rattle.bw_keeping.specs.Answered.{AreAnswered, Between as Stage, Exchange, IsAnswered, at_link, backs_of}
-use Rattle.bw_keeping.specs.Bringing.{Brings}
-use Rattle.bw_keeping.specs.Recalling.{IsRecalled, Stands}
 use Rattle.bw_keeping.specs.Served.{Serves, view}
 use Rattle.bw_keeping.specs.declared.ended.Ended.{Ended}
 use Rattle.bw_keeping.specs.declared.recalling.Recalled.{Recalled}
 use Rattle.bw_keeping.specs.declared.recalling.Recalled.TheVariants as recalled
-use Rattle.bw_keeping.proofs.Bringing.{brings_keep_sound, brings_keep_within}
 use Rattle.bw_lang.specs.declared.service.Service.{Service}
-use Rattle.bw_lang.specs.declared.text.Memory.{Memory}
-use Rattle.bw_model.specs.Sessions.{World, empty}
-use Rattle.bw_model.proofs.Storing.{empty_is_within}
+use Rattle.bw_model.specs.Sessions.{World}
 use Rattle.bw_out.specs.Causes.{Rose, Shows}
 use Rattle.bw_out.specs.Doors.{Returned, Asks, MayAsk}
-use Rattle.bw_out.specs.Told.{Disk, Finds}
+use Rattle.bw_out.specs.Told.{Disk}
 use Rattle.bw_out.specs.Writes.{AppendsPart}
-use Rattle.bw_sound.specs.Worlds.{BeginsSound}
 use Rattle.bw_sound.proofs.Runs.{runs_are_good}
-use Rattle.bw_stable.specs.Deeds.{Deed, cut, kept}
+use Rattle.bw_stable.specs.Deeds.{Deed, DoesAll, cut, kept}
+use Rattle.bw_stable.specs.Replacing.{replacing}
 use Rattle.bw_world.specs.Seen.{Seen}
 use Rattle.bw_world.specs.Stands.{StandsFor}
 use Rattle.bw_questions.specs.Asked.{Ruled, Task, accepted_file}
@@ -35,10 +29,11 @@ use Rattle.bw_questions.specs.Behind.{content_of}
 use Rattle.bw_questions.specs.Checks.{IsRuled}
 use Rattle.bigwig.specs.Fits.{IsFitWorld}
 use Rattle.bw_questions.specs.Codes.{status_for}
-use Rattle.bigwig.specs.Finding.{AreDone, IsFoundIn, IsRead, IsRefusal, IsRefusedBy, IsToldBy, begun_by, head_if, recalled_of}
-use Rattle.bigwig.specs.Keeping.{Brought, EndsWith, Follows, IsBegun, IsKept, IsUntouched, Keeps, Refuses, ServesKept, sum_behind}
+use Rattle.bigwig.specs.Finding.{IsFoundIn, IsRead, IsRefusedBy, begun_by, sum_of}
+use Rattle.bigwig.specs.Freezing.{file_of}
+use Rattle.bigwig.specs.Keeping.{EndsWith, Follows, IsBegun, IsKept, IsUntouched, Keeps, ServesKept, rotate_of}
 use Rattle.bigwig.specs.Keeping.IsBegun.{head, behind}
-use Rattle.bigwig.specs.Keeping.IsKept.{stopped, refused, failed, begun}
+use Rattle.bigwig.specs.Keeping.IsKept.{stopped, refused, failed, begun, renewed, preserved}
 use Rattle.bigwig.specs.Keeping.Keeps.{no_port, no_line, links_served}
 use Rattle.bigwig.specs.Lent.{ShowsJournal}
 use Rattle.bigwig.specs.JournalLines.{journal_line}
@@ -49,8 +44,9 @@ use Rattle.bw_questions.specs.Reports.{IsReported, SaysLine}
 use Rattle.bigwig.specs.Works.{AreServed, Between, IsServed, Outside, serving_line}
 use Rattle.bw_questions.specs.Reports.{Prints}
 use Rattle.bw_command.specs.declared.command.Judging.{Judging}
-use Rattle.bigwig.specs.declared.keeping.Found.{Found}
-use Rattle.bigwig.specs.declared.keeping.Found.TheVariants.{Nothing, Entries}
+use Rattle.bigwig.specs.declared.bringing.Found.{Found}
+use Rattle.bigwig.specs.declared.readying.Opening.{Opening}
+use Rattle.bigwig.specs.declared.readying.Opening.TheVariants.{Head, Cut, Anew}
 use Rattle.bw_questions.specs.declared.status.Refusal.{Refusal}
 use Rattle.bw_questions.specs.declared.status.Refusal.TheVariants as refusals
 use Rattle.bw_questions.specs.declared.status.Status.{Status}
@@ -144,156 +140,38 @@ links_kept ruled m seen later formats port most sum next o after asked printed c
     } in
     links_served printed end (subst (λ a. Asks o.asked a port) (sym same) asks) whole ends all
 
--- ---- what is found
-
--- the world in which nothing was requested yet is fit
-begins_fit : (ruled : Ruled) (formats : List Format) (seen : Seen) → IsRuled seen.service formats ruled → BeginsSound seen.service
-    → IsFitWorld ruled (empty ruled.service)
-begins_fit ruled formats seen is sound =
-    (subst BeginsSound (sym is.0) sound ruled.schema 1 1 is.1, empty_is_within ruled.formats ruled.service)
-
--- the entries were handled, and the world stands for the one that they bring about
-brought_so : (ruled : Ruled) (formats : List Format) (text bytes tail : List ℕ) (before now : Seen) (entries : List Entry) (rest : List ℕ)
-    (size sum len : ℕ) → IsRuled before.service formats ruled → StandsFor before (empty before.service) → BeginsSound before.service
-    → bytes ≡ head_of text ++ tail → Stands formats before now (start_sum text) tail entries rest size sum → len ≡ length (head_of text) + size
-    → (world : World) × Brought ruled text bytes entries rest len sum world × StandsFor now world × IsFitWorld ruled world
-brought_so ruled formats text bytes tail before now entries rest size sum len is stands sound whole s long =
-    let b = s.brought (empty before.service) stands in
-    let brings : Brings ruled.formats ruled.service (empty ruled.service) entries b.0 =
-    subst (λ f. Brings f ruled.service (empty ruled.service) entries b.0) (sym is.2)
-    (subst (λ t. Brings formats t (empty t) entries b.0) (sym is.0) b.1) in
-    let first = begins_fit ruled formats before is sound in (
-      b.0,
-      record { behind = tail; size = size; head = whole; splits = s.splits; ends = s.ends; len_is = long; brings = brings },
-      b.2,
-      (
-        brings_keep_sound ruled.formats ruled.service ruled.schema (empty ruled.service) b.0 entries is.1 brings first.0,
-        brings_keep_within ruled.formats ruled.service (empty ruled.service) b.0 entries brings first.1,
-      ),
-    )
-
-found_so : (ruled : Ruled) (formats : List Format) (text bytes : List ℕ) (before now : Seen) (found : Found) → IsRuled before.service formats ruled
-    → StandsFor before (empty before.service) → BeginsSound before.service → IsRecalled formats before now text bytes (recalled_of found)
-    → IsFoundIn ruled text bytes now found
-found_so ruled formats text bytes before now Nothing is stands sound r = (
-  empty ruled.service,
-  (r.0, refl),
-  subst (λ s. StandsFor s (empty ruled.service)) (sym r.1) (subst (λ t. StandsFor before (empty t)) (sym is.0) stands),
-  begins_fit ruled formats before is sound,
-)
-found_so ruled formats text bytes before now (Entries len sum) is stands sound r =
-    let x = r.recalled in
-    let b = brought_so ruled formats text bytes r.behind before now x.0 x.1 x.2 sum len is stands sound r.head x.3 x.5 in
-    (b.0, (x.0, x.1, b.1, x.4), b.2, b.3)
-
--- there is no file of the name
-pub nothing_found : {File : Type 0} (left : File → Option (List ℕ)) (told : Option Disk) (name text : List ℕ) (next : Option File) (formats : List Format)
-    (seen : Seen) → next ≡ None → Finds left told name next → StandsFor seen (empty seen.service) → BeginsSound seen.service
-    → IfSome told (λ disk. (ruled : Ruled) → IsRuled seen.service formats ruled → IsFoundIn ruled text (content_of (disk name)) seen Nothing)
-nothing_found left None name text next formats seen none f stands sound = tt
-nothing_found left (Some disk) name text next formats seen none f stands sound = λ ruled is.
-    let absent : disk name ≡ None = subst (λ x. Finds left (Some disk) name x) none f in
-    subst (λ c. IsFoundIn ruled text c seen Nothing) (ap content_of (sym absent))
-    (found_so ruled formats text [] seen seen Nothing is stands sound (no_bytes text, refl))
-  where
-    no_bytes : (text : List ℕ) → IsCut (head_of text) []
-    no_bytes text = record { more = head_of text; some = omega arith; whole = refl }
-
--- there is one, and it was read
-pub journal_found : {File : Type 0} (left : File → Option (List ℕ)) (told : Option Disk) (name text : List ℕ) (next : Option File) (file : File)
-    (formats : List Format) (before now : Seen) (why : Recalled) (r : Result Found Stop) → next ≡ Some file → Finds left told name next
-    → StandsFor before (empty before.service) → BeginsSound before.service
-    → IfSome (left file) (λ bytes. IsRecalled formats before now text bytes why) → IfOk r (λ found. why ≡ recalled_of found)
-    → IfOk r (λ found. IfSome told (λ disk. (ruled : Ruled) → IsRuled before.service formats ruled
-    → IsFoundIn ruled text (content_of (disk name)) now found))
-journal_found left told name text next file formats before now why (Err s) some f stands sound r same = tt
-journal_found left None name text next file formats before now why (Ok found) some f stands sound r same = tt
-journal_found left (Some disk) name text next file formats before now why (Ok found) some f stands sound r same = λ ruled is.
-    let there = subst (λ x. Finds left (Some disk) name x) some f in
-    let all = subst (λ o. IfSome o (λ bytes. IsRecalled formats before now text bytes why)) there.2 r in
-    subst (λ c. IsFoundIn ruled text c now found) (ap content_of (sym there.1))
-    (found_so ruled formats text there.0 before now found is stands sound (subst (λ w. IsRecalled formats before now text there.0 w) same all))
-
--- why the bytes are no journal of the service
-refused_so : (ruled : Ruled) (formats : List Format) (text bytes : List ℕ) (before now : Seen) (why : Recalled) → IsRuled before.service formats ruled
-    → StandsFor before (empty before.service) → BeginsSound before.service → IsRefusal why → IsRecalled formats before now text bytes why
-    → Refuses ruled text bytes why
-refused_so ruled formats text bytes before now (recalled.Damaged len) is stands sound w (inl x) = inl (x.0, x.1)
-refused_so ruled formats text bytes before now (recalled.Damaged len) is stands sound w (inr r) =
-    let x = r.recalled in
-    let b = brought_so ruled formats text bytes r.behind before now x.0 x.1 x.2 x.3 len is stands sound r.head x.4 x.6 in
-    inr (x.0, x.1, x.3, b.0, b.1, x.5)
-refused_so ruled formats text bytes before now (recalled.Version n) is stands sound w r = r.0
-refused_so ruled formats text bytes before now recalled.Other is stands sound w r = r.0
-refused_so ruled formats text bytes before now recalled.New is stands sound w r = absurd w
-refused_so ruled formats text bytes before now (recalled.Done len sum) is stands sound w r = absurd w
-refused_so ruled formats text bytes before now recalled.ReadFault is stands sound w r = absurd w
-refused_so ruled formats text bytes before now recalled.Memory is stands sound w r = absurd w
-
-stopped_so : (ruled : Ruled) (formats : List Format) (text bytes : List ℕ) (before now : Seen) (why : Recalled) (s : Stop)
-    → IsRuled before.service formats ruled → StandsFor before (empty before.service) → BeginsSound before.service → IsToldBy why s
-    → IsRecalled formats before now text bytes why → IsRefusedBy ruled text bytes s
-stopped_so ruled formats text bytes before now why (stop.Says refusal said) is stands sound t r =
-    (why, refused_so ruled formats text bytes before now why is stands sound t.0 r, t.1)
-stopped_so ruled formats text bytes before now why stop.ReadFault is stands sound t r = tt
-stopped_so ruled formats text bytes before now why stop.Memory is stands sound t r = tt
-
-pub journal_refused : {File : Type 0} (left : File → Option (List ℕ)) (told : Option Disk) (name text : List ℕ) (next : Option File) (file : File)
-    (formats : List Format) (before now : Seen) (why : Recalled) (r : Result Found Stop) → next ≡ Some file → Finds left told name next
-    → StandsFor before (empty before.service) → BeginsSound before.service
-    → IfSome (left file) (λ bytes. IsRecalled formats before now text bytes why) → IfErr r (IsToldBy why)
-    → IfErr r (λ s. IfSome told (λ disk. (ruled : Ruled) → IsRuled before.service formats ruled → IsRefusedBy ruled text (content_of (disk name)) s))
-journal_refused left told name text next file formats before now why (Ok found) some f stands sound r t = tt
-journal_refused left None name text next file formats before now why (Err s) some f stands sound r t = tt
-journal_refused left (Some disk) name text next file formats before now why (Err s) some f stands sound r t = λ ruled is.
-    let there = subst (λ x. Finds left (Some disk) name x) some f in
-    let all = subst (λ o. IfSome o (λ bytes. IsRecalled formats before now text bytes why)) there.2 r in
-    subst (λ c. IsRefusedBy ruled text c s) (ap content_of (sym there.1))
-    (stopped_so ruled formats text there.0 before now why s is stands sound t all)
-
--- the reading ended with a refusal, and its line is said
-pub told_by : (why : Recalled) (l : Result (Vec ℕ Global) Memory) (s : Stop) → IsRefusal why → IfOk l (λ x. SaysLine refusals.Journal x.items s)
-    → IfErr l (λ e. s ≡ stop.Memory) → IfOk l (λ x. x.items ≡ journal_line why) → IsToldBy why s
-told_by why (Ok x) (stop.Says refusal said) is says none tells = (is, subst (λ t. SaysLine refusals.Journal t (stop.Says refusal said)) tells says)
-told_by why (Ok x) stop.ReadFault is says none tells = absurd says
-told_by why (Ok x) stop.Memory is says none tells = tt
-told_by why (Err e) s is says none tells = subst (IsToldBy why) (sym none) tt
-
 -- ---- what is done to it
 
 -- nothing was done to it before, so this is all that was
 deeds_are : (P : List Deed → Type 0) (before now : Option (List Deed)) (deeds : List Deed) → IfSome before (λ all. all ≡ [])
-    → AreDone before now deeds → P deeds → IfSome now P
+    → DoesAll before now deeds → P deeds → IfSome now P
 deeds_are P None now deeds none are p = subst (λ x. IfSome x P) (sym are) tt
 deeds_are P (Some before) now deeds none are p =
     subst (λ x. IfSome x P) (sym are) (subst (λ b. P (b ++ deeds)) (sym none) p)
 
-begun_so : (text start : List ℕ) (found : Found) (given : Option (List Returned)) (printed : Option (List ℕ)) → start ≡ head_if text found
-    → IsBegun text given printed (recalled_of found) (begun_by found start given printed)
-begun_so text start Nothing given printed same =
-    subst (λ h. IsBegun text given printed recalled.New (cut 0 ∷ (kept h given printed ∷ []))) (sym same) head
-begun_so text start (Entries len sum) given printed same = behind len sum
-
--- what is to be done to a journal in which this was found
-pub read_so : (ruled : Ruled) (text content : List ℕ) (seen : Seen) (found given : Found) (start : List ℕ) (sum : ℕ) → given ≡ found
-    → start ≡ head_if text found → sum ≡ sum_behind text (recalled_of found) → IsFoundIn ruled text content seen found
-    → IsRead ruled text content seen given start sum
-read_so ruled text content seen found given start sum same starts sums f =
-    subst (λ x. IsRead ruled text content seen x start sum) (sym same) (record { is_found = f; start_is = starts; sum_is = sums })
-
 -- the journal was begun, and then the task was done beside it
-pub begun_kept : (ruled : Ruled) (text content start : List ℕ) (task : Task) (sum : ℕ) (seen : Seen) (found : Found) (o mid after : Outside) (s : Status)
-    → IsRead ruled text content seen found start sum → IfSome o.deeds (λ all. all ≡ [])
-    → AreDone o.deeds mid.deeds (begun_by found start o.returned o.printed)
+pub begun_kept : (ruled : Ruled) (text content : List ℕ) (task : Task) (sum : ℕ) (seen : Seen) (opening : Opening) (o mid after : Outside) (s : Status)
+    → IsRead ruled text content (rotate_of task) seen opening → sum ≡ sum_of opening → IfSome o.deeds (λ all. all ≡ [])
+    → DoesAll o.deeds mid.deeds (begun_by opening o.returned o.printed)
     → mid ≡ record o { unread = mid.unread; steps = mid.steps; deeds = mid.deeds }
     → ((m : World) → StandsFor seen m → IsFitWorld ruled m → Follows ruled task m sum mid after s)
     → IsKept ruled text content task o after s
-begun_kept ruled text content start task sum seen found o mid after s read none are others follows =
+begun_kept ruled text content task sum seen (Head start n) o mid after s read same none are others follows =
     let f = read.is_found in
-    begun (recalled_of found) f.0 mid f.1 others
-    (deeds_are (IsBegun text o.returned o.printed (recalled_of found)) o.deeds mid.deeds _ none are
-    (begun_so text start found o.returned o.printed read.start_is))
-    (subst (λ n. Follows ruled task f.0 n mid after s) read.sum_is (follows f.0 f.2 f.3))
+    begun recalled.New f.0 mid f.1 tt others
+    (deeds_are (IsBegun text o.returned o.printed recalled.New) o.deeds mid.deeds _ none are
+    (subst (λ h. IsBegun text o.returned o.printed recalled.New (cut 0 ∷ (kept h o.returned o.printed ∷ []))) (sym read.start_is) head))
+    (subst (λ k. Follows ruled task f.0 k mid after s) (same ∙ read.sum_is) (follows f.0 f.2 f.3))
+begun_kept ruled text content task sum seen (Cut len n) o mid after s read same none are others follows =
+    let f = read.is_found in
+    begun (recalled.Done len n) f.0 mid f.1 (read.stays f.0 f.2) others
+    (deeds_are (IsBegun text o.returned o.printed (recalled.Done len n)) o.deeds mid.deeds _ none are (behind len n))
+    (subst (λ k. Follows ruled task f.0 k mid after s) same (follows f.0 f.2 f.3))
+begun_kept ruled text content task sum seen (Anew start n) o mid after s read same none are others follows =
+    let f = read.is_found in
+    renewed read.len read.before f.0 seen mid f.1 read.longer (record { service = read.service; stands = f.2; file = read.file }) others
+    (deeds_are (λ all. all ≡ replacing (saved_head text (file_of text seen))) o.deeds mid.deeds _ none are (ap replacing read.start_is))
+    (subst (λ k. Follows ruled task f.0 k mid after s) (same ∙ read.sum_is) (follows f.0 f.2 f.3))
 
 abbrev said_so : Status → List ℕ → Said
 said_so status text = record { status = status; text = text }
@@ -328,14 +206,19 @@ of_journal ruled text content task before after d s none (stopped e k u) = stopp
 of_journal ruled text content task before after d s none (refused why r i u) =
     refused why r (record { prints = i.prints; kept = i.kept }) (touched before.deeds d after.deeds none u)
 of_journal ruled text content task before after d s none (failed i) = failed (record { prints = i.prints; kept = i.kept })
-of_journal ruled text content task before after d s none (begun found world mid h k b ks) = begun found world mid h k b ks
+of_journal ruled text content task before after d s none (begun found world mid h l k b ks) = begun found world mid h l k b ks
+of_journal ruled text content task before after d s none (renewed len sum world seen mid h l r k b ks) = renewed len sum world seen mid h l r k b ks
+of_journal ruled text content task before after d s none (preserved found world seen is h e st fr k u) =
+    preserved found world seen is h e st fr k (touched before.deeds d after.deeds none u)
 
 pub of_reading : (ruled : Ruled) (text content : List ℕ) (task : Task) (before after : Outside) (u : Option (List ℕ)) (n : ℕ) (s : Status)
     → IsKept ruled text content task (record before { unread = u; steps = n }) after s → IsKept ruled text content task before after s
 of_reading ruled text content task before after u n s (stopped e k h) = stopped e k h
 of_reading ruled text content task before after u n s (refused why r i h) = refused why r (record { prints = i.prints; kept = i.kept }) h
 of_reading ruled text content task before after u n s (failed i) = failed (record { prints = i.prints; kept = i.kept })
-of_reading ruled text content task before after u n s (begun found world mid h k b ks) = begun found world mid h k b ks
+of_reading ruled text content task before after u n s (begun found world mid h l k b ks) = begun found world mid h l k b ks
+of_reading ruled text content task before after u n s (renewed len sum world seen mid h l r k b ks) = renewed len sum world seen mid h l r k b ks
+of_reading ruled text content task before after u n s (preserved found world seen is h e st fr k t) = preserved found world seen is h e st fr k t
 
 -- ---- where the files tell
 
@@ -344,27 +227,32 @@ told_all None P h = tt
 told_all (Some disk) P h = h disk
 
 -- the program stopped at the journal
-pub stopped_told : (told : Option Disk) (service : Service) (formats : List Format) (name text : List ℕ) (P : Task → Type 0) (o : Outside)
-    (unread printed : Option (List ℕ)) (steps : ℕ) (why : Stop) (s : Status)
-    → IfSome told (λ disk. (ruled : Ruled) → IsRuled service formats ruled → IsRefusedBy ruled text (content_of (disk name)) why)
+pub stopped_told : (told : Option Disk) (service : Service) (formats : List Format) (name text given : List ℕ) (P : Task → Type 0) (o : Outside)
+    (unread printed : Option (List ℕ)) (steps : ℕ) (why : Stop) (s : Status) → given ≡ text
+    → IfSome told (λ disk. (ruled : Ruled) → IsRuled service formats ruled → IsRefusedBy ruled given (content_of (disk name)) why)
     → IsReported why o.printed printed s
     → IfSome told (λ disk. (ruled : Ruled) (x : Task) → IsRuled service formats ruled → P x
     → IsKept ruled text (content_of (disk name)) x o (record o { printed = printed; unread = unread; steps = steps }) s)
-stopped_told None service formats name text P o unread printed steps why s r p = tt
-stopped_told (Some disk) service formats name text P o unread printed steps why s r says = λ ruled x is p.
-    stopped_kept ruled text (content_of (disk name)) x o unread printed steps why s (r ruled is) says
+stopped_told None service formats name text given P o unread printed steps why s same r p = tt
+stopped_told (Some disk) service formats name text given P o unread printed steps why s same r says = λ ruled x is p.
+    stopped_kept ruled text (content_of (disk name)) x o unread printed steps why s
+    (subst (λ t. IsRefusedBy ruled t (content_of (disk name)) why) same (r ruled is)) says
 
 -- all of the journal was read, and then it was begun
-pub begun_told : (told : Option Disk) (service now : Service) (formats held : List Format) (name text : List ℕ) (P : Task → Type 0) (o after : Outside)
-    (u : Option (List ℕ)) (n : ℕ) (seen : Seen) (found : Found) (s : Status) → now ≡ service → held ≡ formats
-    → IfSome told (λ disk. (ruled : Ruled) → IsRuled service formats ruled → IsFoundIn ruled text (content_of (disk name)) seen found)
-    → ((ruled : Ruled) (content : List ℕ) (x : Task) → IsRuled now held ruled → P x → IsFoundIn ruled text content seen found
-    → IsKept ruled text content x (record o { unread = u; steps = n }) after s)
+pub begun_told : (told : Option Disk) (service now : Service) (formats held : List Format) (name text given other : List ℕ) (P : Task → Type 0)
+    (o after : Outside) (u : Option (List ℕ)) (n : ℕ) (seen : Seen) (found : Found) (s : Status) → now ≡ service → held ≡ formats → given ≡ text
+    → other ≡ text
+    → IfSome told (λ disk. (ruled : Ruled) → IsRuled service formats ruled → IsFoundIn ruled given (content_of (disk name)) seen found)
+    → ((ruled : Ruled) (content : List ℕ) (x : Task) → IsRuled now held ruled → P x → IsFoundIn ruled other content seen found
+    → IsKept ruled other content x (record o { unread = u; steps = n }) after s)
     → IfSome told (λ disk. (ruled : Ruled) (x : Task) → IsRuled service formats ruled → P x → IsKept ruled text (content_of (disk name)) x o after s)
-begun_told None service now formats held name text P o after u n seen found s e f finds begins = tt
-begun_told (Some disk) service now formats held name text P o after u n seen found s e f finds begins = λ ruled x is p.
-    of_reading ruled text (content_of (disk name)) x o after u n s
-    (begins ruled (content_of (disk name)) x (is.0 ∙ sym e, is.1, is.2 ∙ sym f) p (finds ruled is))
+begun_told None service now formats held name text given other P o after u n seen found s e f t v finds begins = tt
+begun_told (Some disk) service now formats held name text given other P o after u n seen found s e f t v finds begins = λ ruled x is p.
+    let content = content_of (disk name) in
+    of_reading ruled text content x o after u n s
+    (subst (λ (y : List ℕ). IsKept ruled y content x (record o { unread = u; steps = n }) after s) v
+    (begins ruled content x (is.0 ∙ sym e, is.1, is.2 ∙ sym f) p
+    (subst (λ (y : List ℕ). IsFoundIn ruled y content seen found) (t ∙ sym v) (finds ruled is))))
 
 -- the journal was closed again
 pub closed_told : (told : Option Disk) (service : Service) (formats : List Format) (name text : List ℕ) (P : Task → Type 0) (before after : Outside)
@@ -377,15 +265,6 @@ closed_told (Some disk) service formats name text P before after d e s none clos
     of_journal ruled text (content_of (disk name)) x before after d s none
     (subst (λ (all : Option (List Deed)). IsKept ruled text (content_of (disk name)) x (record before { deeds = d }) (record after { deeds = all }) s)
     (sym closed) (h ruled x is p))
-
--- the service and the formats are those that the server was made with, and the text is the one that it was read from
-pub made_told : (told : Option Disk) (service now : Service) (formats held : List Format) (name text given : List ℕ) (P : Task → Type 0)
-    (before after : Outside) (s : Status) → now ≡ service → held ≡ formats → given ≡ text
-    → IfSome told (λ disk. (ruled : Ruled) (x : Task) → IsRuled now held ruled → P x → IsKept ruled given (content_of (disk name)) x before after s)
-    → IfSome told (λ disk. (ruled : Ruled) (x : Task) → IsRuled service formats ruled → P x → IsKept ruled text (content_of (disk name)) x before after s)
-made_told None service now formats held name text given P before after s e f t h = tt
-made_told (Some disk) service now formats held name text given P before after s e f t h = λ ruled x is p.
-    subst (λ given_text. IsKept ruled given_text (content_of (disk name)) x before after s) t (h ruled x (is.0 ∙ sym e, is.1, is.2 ∙ sym f) p)
 
 -- ---- causes
 

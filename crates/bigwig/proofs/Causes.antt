@@ -1,5 +1,5 @@
 -- Faults have their causes where a question stopped the work, and where requests were answered whose replies were let go.
-use Rattle.std.proofs.Common.{◌≡◌, ◌≢◌, ◌<◌, ℕ, Result, Err, refl, ◌∙◌, subst, arith}
+use Rattle.std.proofs.Common.{◌≡◌, ◌≢◌, ◌⊎◌, ◌<◌, ℕ, Result, Ok, Err, refl, sym, ◌∙◌, subst, inl, inr, arith}
 use Rattle.std.specs.Prelude.{IsErrOf}
 use Rattle.bw_out.specs.Causes.{Rose, Shows}
 use Rattle.bw_world.specs.declared.ends.StreamEnd.{StreamEnd}
@@ -9,6 +9,7 @@ use Rattle.bw_questions.specs.declared.status.Status.TheVariants as status
 use Rattle.bw_questions.specs.declared.stop.Stop.{Stop}
 use Rattle.bw_questions.specs.declared.stop.Stop.TheVariants as stop
 use Rattle.bigwig.specs.Lent.{Faults, HasCauses}
+use Rattle.bigwig.proofs.Beside.{open_fails}
 
 same_stop : {T : Type 0} (asked : Result T Stop) (a b : Stop) → asked ≡ Err a → asked ≡ Err b → a ≡ b
 same_stop asked a b is too = cc
@@ -24,6 +25,52 @@ reported_causes asked s r before after written told links kept is shows read rea
     only = λ e. shows.only (subst (λ x. asked ≡ Err x) (read e) is);
     other = λ n. shows.other (λ h. n (reads (same_stop asked s stop.ReadFault is h)));
   };
+  write = write;
+  door = record { only = λ e. absurd (others.1 e); other = λ n. refl };
+  journal = record { only = λ e. absurd (journal e); other = λ n m. refl };
+}
+
+-- the same of the files that were read, where another was closed before
+pub reported_read : {T : Type 0} (asked : Result T Stop) (s : Stop) (r : Status) (before mid after : ℕ) → asked ≡ Err s
+    → Shows (IsErrOf asked stop.ReadFault) before mid → (r ≡ status.ReadFault → s ≡ stop.ReadFault) → (s ≡ stop.ReadFault → r ≡ status.ReadFault)
+    → after ≡ mid → Shows (r ≡ status.ReadFault) before after
+reported_read asked s r before mid after is shows read reads same = record {
+  only = λ e. subst (λ n. Rose before n) (sym same) (shows.only (subst (λ x. asked ≡ Err x) (read e) is));
+  other = λ n. same ∙ shows.other (λ h. n (reads (same_stop asked s stop.ReadFault is h)));
+}
+
+-- the journal couldn't be opened, and that was told
+pub fault_causes : (r : Status) (before after written told links kept now : ℕ) → (r ≡ status.JournalFault) ⊎ (r ≡ status.WriteFault) → after ≡ before
+    → Shows (r ≡ status.WriteFault) written told → Rose kept now
+    → HasCauses r (record { reads = before; writes = written; links = links; kept = kept })
+    (record { reads = after; writes = told; links = links; kept = now })
+fault_causes r before after written told links kept now is same write rose = record {
+  read = record {
+    only = λ e. absurd (elim is [
+      | inl j ↦ (let f : status.JournalFault ≡ status.ReadFault = sym j ∙ e in cc)
+      | inr w ↦ (let f : status.WriteFault ≡ status.ReadFault = sym w ∙ e in cc)
+    ]);
+    other = λ n. same;
+  };
+  write = write;
+  door = record {
+    only = λ e. absurd (elim is [
+      | inl j ↦ (let f : status.JournalFault ≡ status.DoorFault = sym j ∙ e in cc)
+      | inr w ↦ (let f : status.WriteFault ≡ status.DoorFault = sym w ∙ e in cc)
+    ]);
+    other = λ n. refl;
+  };
+  journal = open_fails r kept now is rose;
+}
+
+-- the questions went well, and it was told what came of them
+pub preserved_causes : {T : Type 0} (asked : Result T Stop) (b : T) (r : Status) (before after written told links kept : ℕ) → asked ≡ Ok b
+    → Shows (IsErrOf asked stop.ReadFault) before after → r ≢ status.ReadFault → Shows (r ≡ status.WriteFault) written told
+    → (r ≢ status.Usage) × (r ≢ status.DoorFault) → r ≢ status.JournalFault
+    → HasCauses r (record { reads = before; writes = written; links = links; kept = kept })
+    (record { reads = after; writes = told; links = links; kept = kept })
+preserved_causes asked b r before after written told links kept is shows read write others journal = record {
+  read = record { only = λ e. absurd (read e); other = λ n. shows.other (λ h. cc) };
   write = write;
   door = record { only = λ e. absurd (others.1 e); other = λ n. refl };
   journal = record { only = λ e. absurd (journal e); other = λ n m. refl };

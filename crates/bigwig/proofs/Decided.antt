@@ -28,7 +28,7 @@ use Rattle.bw_questions.specs.Asked.Work.{prints}
 use Rattle.bw_questions.specs.Asked.{accepted, turned}
 use Rattle.bigwig.specs.Asked.{start, replayed, replayed_from, resumed, at_port, served_from, frozen, frozen_from, beside, work, asked, followed, visited}
 use Rattle.bw_questions.specs.Asked.{usage_line}
-use Rattle.bw_questions.specs.Asked.Task.{to_serve}
+use Rattle.bw_questions.specs.Asked.Task.{to_save, to_serve}
 use Rattle.bw_questions.specs.Behind.{Shown, shown_file}
 use Rattle.bw_command.specs.Commands.{command_of}
 use Rattle.bw_questions.specs.Lines.{no_file_line}
@@ -37,7 +37,7 @@ use Rattle.bw_questions.specs.Questions.{Said, Question, ◌>>=◌, found, line}
 use Rattle.bigwig.specs.Scripts.{script}
 use Rattle.bw_questions.specs.Asked.{Ruled, Script}
 use Rattle.bw_command.specs.declared.command.Command.{Command}
-use Rattle.bw_command.specs.declared.command.Command.TheVariants.{Check, Replay, Resume, Serve, Keep, Valid, Make, Light, Freeze, Visit}
+use Rattle.bw_command.specs.declared.command.Command.TheVariants.{Check, Replay, Resume, Serve, Keep, Valid, Make, Light, Freeze, Preserve, Visit}
 use Rattle.bw_command.specs.declared.command.Judging.{Judging}
 use Rattle.bw_questions.specs.declared.status.Status.{Status}
 use Rattle.bw_questions.specs.declared.status.Status.TheVariants.{Usage, NoFile, ServiceRefused, SchemaRefused, PageRefused, FormatsRefused, LoadRefused, ScriptRefused}
@@ -260,8 +260,9 @@ work_decided disk (Resume service from judging form journal most) =
     then (accepted_file disk service judging form) (resumed disk service from journal most) (accepted_file_decided disk service judging form)
     (λ ruled _. then (file disk from) _ (file_decided disk from)
     (λ stream _. then (file disk service) _ (file_decided disk service) (λ text _. found_decided _)))
-work_decided disk (Keep service judging form journal port most) =
-    then (accepted_file disk service judging form) (beside disk service journal (to_serve port most)) (accepted_file_decided disk service judging form)
+work_decided disk (Keep service judging form journal rotate port most) =
+    then (accepted_file disk service judging form) (beside disk service journal (to_serve port most rotate))
+    (accepted_file_decided disk service judging form)
     (λ ruled _. then (file disk service) _ (file_decided disk service) (λ text _. found_decided _))
 work_decided disk (Valid name named) =
     then (page_file disk name) (ruled disk named) (then (file disk name) page (file_decided disk name) (λ content _. page_decided content))
@@ -270,6 +271,9 @@ work_decided disk (Make count workers) = then (accepted_text (made count)) (turn
 work_decided disk (Light form texts) =
     then (formats_file disk form) (lit_file disk texts) (formats_file_decided disk form)
     (λ given _. then (file disk texts) (lit given) (file_decided disk texts) (λ content _. lit_decided given content))
+work_decided disk (Preserve service judging form journal) =
+    then (accepted_file disk service judging form) (beside disk service journal to_save) (accepted_file_decided disk service judging form)
+    (λ ruled _. then (file disk service) _ (file_decided disk service) (λ text _. found_decided _))
 work_decided disk (Visit service by judging form) =
     then (accepted_file disk service judging form) (visited disk by) (accepted_file_decided disk service judging form)
     (λ ruled _. then (file disk by) (followed ruled) (file_decided disk by)

@@ -7,13 +7,13 @@ use Rattle.bw_keeping.specs.declared.ended.StreamEnded.TheVariants as streamed
 use Rattle.bw_model.specs.Sessions.{World}
 use Rattle.bw_questions.specs.Asked.{Ruled, Task, Work}
 use Rattle.bigwig.specs.Asked.{asked, work}
-use Rattle.bw_questions.specs.Asked.Task.{to_answer, to_serve}
+use Rattle.bw_questions.specs.Asked.Task.{to_answer, to_save, to_serve}
 use Rattle.bw_questions.specs.Asked.Work.{prints, replays, serves, keeps, freezes, visits}
 use Rattle.bw_world.specs.Seen.{Seen}
 use Rattle.bigwig.specs.Freezing.{FreezesAt, IsFrozen}
 use Rattle.bigwig.specs.Freezing.IsFrozen.{saved, too_long, no_memory as no_room}
 use Rattle.bigwig.specs.Keeping.{AnswersEndWith, EndsWith, Follows, IsKept, Keeps, sum_behind}
-use Rattle.bigwig.specs.Keeping.IsKept.{stopped, refused, failed, begun}
+use Rattle.bigwig.specs.Keeping.IsKept.{stopped, refused, failed, begun, renewed, preserved}
 use Rattle.bigwig.specs.Keeping.Keeps.{no_port as keep_no_port, no_line as keep_no_line, links_served as keep_links_served}
 use Rattle.bw_keeping.specs.declared.ended.Ended.{Ended}
 use Rattle.bw_keeping.specs.declared.ended.Ended.TheVariants as ended
@@ -36,7 +36,7 @@ use Rattle.bw_questions.specs.declared.status.Status.TheVariants.{Done, ReadFaul
 use Rattle.bigwig.proofs.Decided.{asked_decided}
 use Rattle.bigwig.proofs.Refusals.{never_said}
 use Rattle.bigwig.proofs.SomeAnswer.{asked_some}
-use Rattle.bigwig.proofs.TooMuch.{IsNone, freezes_not}
+use Rattle.bigwig.proofs.TooMuch.{IsNone, freezes_not, frozen_not}
 use Rattle.bigwig.proofs.VisitEnds.{IsEnd, IsUnknown, no_visit, visit_end, visit_no_door, visit_status}
 
 pub some_status : SomeStatusIsDue
@@ -116,8 +116,9 @@ links_end ruled world port most sum before after status (keep_links_served print
 
 task_end : (ruled : Ruled) (task : Task) (world : World) (sum : ℕ) (before after : Outside) (status : Status)
     → Follows ruled task world sum before after status → (status ≡ Done) ⊎ IsFree status
-task_end ruled (to_serve port most) world sum before after status k = links_end ruled world port most sum before after status k
+task_end ruled (to_serve port most rotate) world sum before after status k = links_end ruled world port most sum before after status k
 task_end ruled (to_answer stream most) world sum before after status r = resumed_end r.printed after.printed r.end status r.ends
+task_end ruled to_save world sum before after status r = absurd r
 
 kept_or_fault : (ruled : Ruled) (text content : List ℕ) (task : Task) (before after : Outside) (status : Status)
     → IsKept ruled text content task before after status → (status ≡ Done) ⊎ IsFree status
@@ -125,8 +126,12 @@ kept_or_fault ruled text content task before after status (stopped (inl e) k u) 
 kept_or_fault ruled text content task before after status (stopped (inr e) k u) = inr (inr (inr (inr (inl e))))
 kept_or_fault ruled text content task before after status (refused why r i u) = inr (journal_said _ _ after status i (inl refl))
 kept_or_fault ruled text content task before after status (failed i) = inr (journal_said _ _ after status i (inr refl))
-kept_or_fault ruled text content task before after status (begun f w mid h k o follows) =
+kept_or_fault ruled text content task before after status (begun f w mid h l k o follows) =
     task_end ruled task w (sum_behind text f) mid after status follows
+kept_or_fault ruled text content task before after status (renewed len sum w seen mid h l b k o follows) =
+    task_end ruled task w _ mid after status follows
+kept_or_fault ruled text content task before after status (preserved f w seen is h e st fr k u) =
+    frozen_or_fault text seen before.printed after.printed status fr
 
 -- the work ends with Done, unless there was a fault, or a visit ended at an answer without a control
 pub done_or_fault : (work : Work) (before after : Outside) (status : Status) → IsDone work before after status → IsEnd work status
@@ -209,22 +214,33 @@ journal_is_no_door x before after i (inr e) = elim i.prints [
   | inr p ↦ no_door_fault WriteFault p.0 (inr (inr (inl refl)))
 ]
 
-kept_links : (ruled : Ruled) (text content : List ℕ) (task : Task) (before after : Outside) → IsKept ruled text content task before after DoorFault
-    → ServesLinks (keeps ruled text content task)
-kept_links ruled text content (to_serve port most) before after d = kept ruled text content port most
-kept_links ruled text content (to_answer stream most) before after (stopped (inl e) k u) = absurd (no_door_fault ReadFault e (inr (inl refl)))
-kept_links ruled text content (to_answer stream most) before after (stopped (inr e) k u) = absurd (no_door_fault Memory e (inr (inr (inr refl))))
-kept_links ruled text content (to_answer stream most) before after (refused why r i u) = absurd (journal_is_no_door _ _ after i (inl refl))
-kept_links ruled text content (to_answer stream most) before after (failed i) = absurd (journal_is_no_door _ _ after i (inr refl))
-kept_links ruled text content (to_answer stream most) before after (begun f w mid h k o r) =
-    absurd (requests_status r.printed after.printed r.end DoorFault r.ends refl)
-
 abbrev is_of_door : Status → Bool
 is_of_door DoorFault = true
 is_of_door status = false
 
 none_of_door : IsNone is_of_door
 none_of_door = record { at_done = refl; at_read = refl; at_write = refl; at_memory = refl; at_save = refl }
+
+kept_links : (ruled : Ruled) (text content : List ℕ) (task : Task) (before after : Outside) → IsKept ruled text content task before after DoorFault
+    → ServesLinks (keeps ruled text content task)
+kept_links ruled text content (to_serve port most rotate) before after d = kept ruled text content port most rotate
+kept_links ruled text content (to_answer stream most) before after (stopped (inl e) k u) = absurd (no_door_fault ReadFault e (inr (inl refl)))
+kept_links ruled text content (to_answer stream most) before after (stopped (inr e) k u) = absurd (no_door_fault Memory e (inr (inr (inr refl))))
+kept_links ruled text content (to_answer stream most) before after (refused why r i u) = absurd (journal_is_no_door _ _ after i (inl refl))
+kept_links ruled text content (to_answer stream most) before after (failed i) = absurd (journal_is_no_door _ _ after i (inr refl))
+kept_links ruled text content (to_answer stream most) before after (begun f w mid h l k o r) =
+    absurd (requests_status r.printed after.printed r.end DoorFault r.ends refl)
+kept_links ruled text content (to_answer stream most) before after (renewed len sum w seen mid h l b k o r) = absurd l
+kept_links ruled text content (to_answer stream most) before after (preserved f w seen is h e st fr k u) =
+    absurd (frozen_not is_of_door text seen before.printed after.printed DoorFault fr none_of_door refl)
+kept_links ruled text content to_save before after (stopped (inl e) k u) = absurd (no_door_fault ReadFault e (inr (inl refl)))
+kept_links ruled text content to_save before after (stopped (inr e) k u) = absurd (no_door_fault Memory e (inr (inr (inr refl))))
+kept_links ruled text content to_save before after (refused why r i u) = absurd (journal_is_no_door _ _ after i (inl refl))
+kept_links ruled text content to_save before after (failed i) = absurd (journal_is_no_door _ _ after i (inr refl))
+kept_links ruled text content to_save before after (begun f w mid h l k o r) = absurd r
+kept_links ruled text content to_save before after (renewed len sum w seen mid h l b k o r) = absurd r
+kept_links ruled text content to_save before after (preserved f w seen is h e st fr k u) =
+    absurd (frozen_not is_of_door text seen before.printed after.printed DoorFault fr none_of_door refl)
 
 served_work : (work : Work) (before after : Outside) → IsDone work before after DoorFault → ServesLinks work
 served_work (prints text) before after d = absurd (elim d.prints

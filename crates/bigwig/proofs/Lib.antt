@@ -1,5 +1,6 @@
 pub mod Begun
 pub mod Beside
+pub mod Brought
 pub mod BuiltIn
 pub mod Causes
 pub mod Decided
@@ -9,7 +10,10 @@ pub mod Followed
 pub mod Headline
 pub mod Links
 pub mod OneLoad
+pub mod Opened
+pub mod Preserved
 pub mod Reaching
+pub mod Readied
 pub mod Refusals
 pub mod Refused
 pub mod Replies

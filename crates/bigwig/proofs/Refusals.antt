@@ -11,7 +11,7 @@ use Rattle.bw_questions.specs.Asked.{turned, page, page_file, rules, schema, bui
 use Rattle.bigwig.specs.Asked.{start, at_port, served_from, frozen, frozen_from, beside}
 use Rattle.bw_questions.specs.Asked.{Ruled, Task, lit, lit_file}
 use Rattle.bigwig.specs.Asked.{resumed, work, asked}
-use Rattle.bw_questions.specs.Asked.Task.{to_answer, to_serve}
+use Rattle.bw_questions.specs.Asked.Task.{to_answer, to_save, to_serve}
 use Rattle.bw_questions.specs.Asked.Work.{replays, keeps, freezes, visits}
 use Rattle.bw_questions.specs.Behind.{content_of}
 use Rattle.bw_questions.specs.Behind.{Shown, shown_file}
@@ -19,7 +19,7 @@ use Rattle.bigwig.specs.Loading.{loads}
 use Rattle.bw_questions.specs.Questions.{Said, Question, ◌>>=◌, found}
 use Rattle.bigwig.specs.Scripts.{script}
 use Rattle.bw_command.specs.declared.command.Command.{Command}
-use Rattle.bw_command.specs.declared.command.Command.TheVariants.{Check, Replay, Resume, Serve, Keep, Valid, Make, Light, Freeze, Visit}
+use Rattle.bw_command.specs.declared.command.Command.TheVariants.{Check, Replay, Resume, Serve, Keep, Valid, Make, Light, Freeze, Preserve, Visit}
 use Rattle.bw_command.specs.declared.command.Judging.{Judging}
 use Rattle.bw_questions.specs.declared.status.Status.{Status}
 use Rattle.bw_questions.specs.declared.status.Status.TheVariants.{Usage, NoFile, ServiceRefused, SchemaRefused, PageRefused, FormatsRefused, LoadRefused, ScriptRefused}
@@ -123,9 +123,9 @@ work_refuses disk (Resume service from judging form journal most) =
     then_refuses (accepted_file disk service judging form) (resumed disk service from journal most) (accepted_file_refuses disk service judging form)
     (λ ruled. then_refuses (file disk from) (λ stream. beside disk service journal (to_answer stream most) ruled) (file_refuses disk from)
     (λ stream. beside_refuses disk service journal (to_answer stream most) ruled))
-work_refuses disk (Keep service judging form journal port most) =
-    then_refuses (accepted_file disk service judging form) (beside disk service journal (to_serve port most)) (accepted_file_refuses disk service judging form)
-    (beside_refuses disk service journal (to_serve port most))
+work_refuses disk (Keep service judging form journal rotate port most) =
+    then_refuses (accepted_file disk service judging form) (beside disk service journal (to_serve port most rotate))
+    (accepted_file_refuses disk service judging form) (beside_refuses disk service journal (to_serve port most rotate))
 work_refuses disk (Valid name named) =
     then_refuses (page_file disk name) (ruled disk named) (then_refuses (file disk name) page (file_refuses disk name) (λ content s x. says_so s _ x.1 refl))
     (λ tree. then_refuses (schema disk named) (judged tree) (schema_refuses disk named) (λ by s x. says_so s _ x.2 refl))
@@ -134,6 +134,9 @@ work_refuses disk (Make count workers) =
 work_refuses disk (Light form texts) =
     then_refuses (formats_file disk form) (lit_file disk texts) (formats_file_refuses disk form)
     (λ given. then_refuses (file disk texts) (lit given) (file_refuses disk texts) (λ content s x. says_so s _ x.1 refl))
+work_refuses disk (Preserve service judging form journal) =
+    then_refuses (accepted_file disk service judging form) (beside disk service journal to_save) (accepted_file_refuses disk service judging form)
+    (beside_refuses disk service journal to_save)
 work_refuses disk (Visit service by judging form) =
     then_refuses (accepted_file disk service judging form) (visited disk by) (accepted_file_refuses disk service judging form)
     (λ ruled. then_refuses (file disk by) (followed ruled) (file_refuses disk by)

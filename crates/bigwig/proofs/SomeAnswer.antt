@@ -41,7 +41,7 @@ use Rattle.bw_questions.specs.Asked.{command, file, read, typed, service_file, s
 use Rattle.bw_questions.specs.Asked.{accepted, turned}
 use Rattle.bigwig.specs.Asked.{start, replayed, replayed_from, resumed, at_port, served_from, frozen, frozen_from, beside, work, asked, followed, visited}
 use Rattle.bw_questions.specs.Asked.{Ruled, usage_line}
-use Rattle.bw_questions.specs.Asked.Task.{to_serve}
+use Rattle.bw_questions.specs.Asked.Task.{to_save, to_serve}
 use Rattle.bw_questions.specs.Behind.{Shown, AreShown, shown_file, content_of, behind_syntax, behind_type, blamed_in, behind_fault}
 use Rattle.bw_command.specs.Commands.{command_of}
 use Rattle.bw_questions.specs.FaultLines.{check_text, page_names}
@@ -51,7 +51,7 @@ use Rattle.bigwig.specs.Loading.{load_line, loads}
 use Rattle.bw_questions.specs.Questions.{Said, Question, ◌>>=◌, found, line}
 use Rattle.bigwig.proofs.OneLoad.{loaded_tells}
 use Rattle.bw_command.specs.declared.command.Command.{Command}
-use Rattle.bw_command.specs.declared.command.Command.TheVariants.{Check, Replay, Resume, Serve, Keep, Valid, Make, Light, Freeze, Visit}
+use Rattle.bw_command.specs.declared.command.Command.TheVariants.{Check, Replay, Resume, Serve, Keep, Valid, Make, Light, Freeze, Preserve, Visit}
 use Rattle.bw_command.specs.declared.command.Judging.{Judging}
 use Rattle.bw_questions.specs.declared.status.Status.TheVariants.{Usage, NoFile, ServiceRefused, SchemaRefused, PageRefused, FormatsRefused, LoadRefused, ScriptRefused}
 use Rattle.bigwig.specs.Scripts.{no_script_line, script}
@@ -262,8 +262,8 @@ work_some disk (Resume service from judging form journal most) verdicts =
     (accepted_file_some disk service judging form (λ tree by g k. verdicts tree by (g, k)))
     (λ ruled _. then_some (file disk from) _ (file_some disk from)
     (λ stream _. then_some (file disk service) _ (file_some disk service) (λ text _. found_some _)))
-work_some disk (Keep service judging form journal port most) verdicts =
-    then_some (accepted_file disk service judging form) (beside disk service journal (to_serve port most))
+work_some disk (Keep service judging form journal rotate port most) verdicts =
+    then_some (accepted_file disk service judging form) (beside disk service journal (to_serve port most rotate))
     (accepted_file_some disk service judging form (λ tree by g k. verdicts tree by (g, k)))
     (λ ruled _. then_some (file disk service) _ (file_some disk service) (λ text _. found_some _))
 work_some disk (Valid name named) verdicts =
@@ -275,6 +275,10 @@ work_some disk (Make count workers) verdicts =
 work_some disk (Light form texts) verdicts =
     then_some (formats_file disk form) (lit_file disk texts) (formats_file_some disk form)
     (λ given g. then_some (file disk texts) (lit given) (file_some disk texts) (λ content _. lit_some g.0 given g.2 content))
+work_some disk (Preserve service judging form journal) verdicts =
+    then_some (accepted_file disk service judging form) (beside disk service journal to_save)
+    (accepted_file_some disk service judging form (λ tree by g k. verdicts tree by (g, k)))
+    (λ ruled _. then_some (file disk service) _ (file_some disk service) (λ text _. found_some _))
 work_some disk (Visit service by judging form) verdicts =
     then_some (accepted_file disk service judging form) (visited disk by)
     (accepted_file_some disk service judging form (λ tree by g k. verdicts tree by (g, k)))

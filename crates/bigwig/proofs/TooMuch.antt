@@ -1,5 +1,5 @@
 -- What is too much to be saved, and with which statuses saving ends.
-use Rattle.std.proofs.Common.{◌≡◌, ◌⊎◌, ℕ, zero, suc, Bool, true, false, List, Option, Some, refl, ◌∙◌, ap, subst, inl, inr}
+use Rattle.std.proofs.Common.{◌≡◌, ◌⊎◌, ℕ, zero, suc, Bool, true, false, List, Option, Some, refl, sym, ◌∙◌, ap, subst, inl, inr}
 use Rattle.bw_keeping.specs.declared.ended.Ended.{Ended}
 use Rattle.bw_keeping.specs.declared.ended.Ended.TheVariants as ended
 use Rattle.bw_keeping.specs.declared.ended.StreamEnded.{StreamEnded}
@@ -9,15 +9,15 @@ use Rattle.bw_world.specs.declared.ends.StreamEnd.{StreamEnd}
 use Rattle.bw_world.specs.declared.ends.StreamEnd.TheVariants as ends
 use Rattle.bw_world.specs.Seen.{Seen}
 use Rattle.bw_questions.specs.Asked.{Ruled, Task, Work}
-use Rattle.bigwig.specs.Asked.{asked}
-use Rattle.bw_questions.specs.Asked.Task.{to_answer, to_serve}
+use Rattle.bw_questions.specs.Asked.Task.{to_answer, to_save, to_serve}
 use Rattle.bw_questions.specs.Asked.Work.{prints, replays, serves, keeps, freezes, visits}
 use Rattle.bigwig.specs.Freezing.{FreezesAt, IsFrozen}
 use Rattle.bigwig.specs.Freezing.IsFrozen.{saved, too_long, no_memory as no_room}
 use Rattle.bigwig.specs.Keeping.{AnswersEndWith, EndsWith, Follows, IsKept, sum_behind}
-use Rattle.bigwig.specs.Keeping.IsKept.{stopped, refused, failed, begun}
+use Rattle.bigwig.specs.Keeping.IsKept.{stopped, refused, failed, begun, renewed, preserved}
 use Rattle.bigwig.specs.Keeping.Keeps.{no_port as keep_no_port, no_line as keep_no_line, links_served as keep_links_served}
-use Rattle.bigwig.specs.Laws.{SavesAreRefused}
+use Rattle.bigwig.specs.Laws.{Saves, SavesAreRefused}
+use Rattle.bigwig.specs.Laws.Saves.{requests, journal}
 use Rattle.bigwig.specs.Outcomes.{IsDone}
 use Rattle.bigwig.specs.Outcomes.Comes.{said, done, read_fault, no_memory}
 use Rattle.bw_questions.specs.Questions.{Said}
@@ -44,7 +44,7 @@ neither b isnt is = cc
 not_meant : (is_meant : Status → Bool) (s t : Status) → is_meant t ≡ false → s ≡ t → is_meant s ≡ true → ⊥
 not_meant is_meant s t other e meant = neither (is_meant s) (ap is_meant e ∙ other) meant
 
-frozen_not : (is_meant : Status → Bool) (text : List ℕ) (seen : Seen) (held now : Option (List ℕ)) (s : Status) → IsFrozen text seen held now s
+pub frozen_not : (is_meant : Status → Bool) (text : List ℕ) (seen : Seen) (held now : Option (List ℕ)) (s : Status) → IsFrozen text seen held now s
     → IsNone is_meant → is_meant s ≡ true → ⊥
 frozen_not is_meant text seen held now s (saved fits (inl p)) n = not_meant is_meant s Done n.at_done p.0
 frozen_not is_meant text seen held now s (saved fits (inr p)) n = not_meant is_meant s WriteFault n.at_write p.0
@@ -98,18 +98,24 @@ requests_not held now streamed.JournalFault s (inr e) = not_meant is_too_much s 
 
 follows_not : (ruled : Ruled) (task : Task) (world : World) (sum : ℕ) (before after : Outside) (s : Status) → Follows ruled task world sum before after s
     → is_too_much s ≡ true → ⊥
-follows_not ruled (to_serve port most) world sum before after s (keep_no_port e m l) = not_meant is_too_much s DoorFault refl e
-follows_not ruled (to_serve port most) world sum before after s (keep_no_line e a p l) = not_meant is_too_much s WriteFault refl e
-follows_not ruled (to_serve port most) world sum before after s (keep_links_served printed end a p e l) = links_not printed after.printed end s e
+follows_not ruled (to_serve port most rotate) world sum before after s (keep_no_port e m l) = not_meant is_too_much s DoorFault refl e
+follows_not ruled (to_serve port most rotate) world sum before after s (keep_no_line e a p l) = not_meant is_too_much s WriteFault refl e
+follows_not ruled (to_serve port most rotate) world sum before after s (keep_links_served printed end a p e l) = links_not printed after.printed end s e
 follows_not ruled (to_answer stream most) world sum before after s r = requests_not r.printed after.printed r.end s r.ends
+follows_not ruled to_save world sum before after s r = absurd r
 
-kept_not : (ruled : Ruled) (text content : List ℕ) (task : Task) (before after : Outside) (s : Status) → IsKept ruled text content task before after s
-    → is_too_much s ≡ true → ⊥
-kept_not ruled text content task before after s (stopped (inl e) k u) = not_meant is_too_much s ReadFault refl e
-kept_not ruled text content task before after s (stopped (inr e) k u) = not_meant is_too_much s Memory refl e
-kept_not ruled text content task before after s (refused why r i u) = said_not _ _ after s i refl
-kept_not ruled text content task before after s (failed i) = said_not _ _ after s i refl
-kept_not ruled text content task before after s (begun f w mid h k o follows) = follows_not ruled task w (sum_behind text f) mid after s follows
+-- what a journal brings about is to be saved, where it is too much
+kept_saves : (ruled : Ruled) (text content : List ℕ) (task : Task) (before after : Outside) (s : Status) → IsKept ruled text content task before after s
+    → is_too_much s ≡ true → task ≡ to_save
+kept_saves ruled text content task before after s (stopped (inl e) k u) m = absurd (not_meant is_too_much s ReadFault refl e m)
+kept_saves ruled text content task before after s (stopped (inr e) k u) m = absurd (not_meant is_too_much s Memory refl e m)
+kept_saves ruled text content task before after s (refused why r i u) m = absurd (said_not _ _ after s i refl m)
+kept_saves ruled text content task before after s (failed i) m = absurd (said_not _ _ after s i refl m)
+kept_saves ruled text content task before after s (begun f w mid h l k o follows) m =
+    absurd (follows_not ruled task w (sum_behind text f) mid after s follows m)
+kept_saves ruled text content task before after s (renewed len sum w seen mid h l b k o follows) m =
+    absurd (follows_not ruled task w _ mid after s follows m)
+kept_saves ruled text content task before after s (preserved f w seen is h e st fr k u) m = is
 
 visit_not : (s : Status) → (s ≡ Done) ⊎ ((s ≡ ScriptRefused) ⊎ ((s ≡ WriteFault) ⊎ (s ≡ Memory))) → is_too_much s ≡ true → ⊥
 visit_not s (inl e) m = not_meant is_too_much s Done refl e m
@@ -117,14 +123,14 @@ visit_not s (inr (inl e)) m = not_meant is_too_much s ScriptRefused refl e m
 visit_not s (inr (inr (inl e))) m = not_meant is_too_much s WriteFault refl e m
 visit_not s (inr (inr (inr e))) m = not_meant is_too_much s Memory refl e m
 
-frozen_work : (work : Work) (before after : Outside) (s : Status) → IsDone work before after s → is_too_much s ≡ true
-    → (ruled : Ruled) × (from : World) × (text : List ℕ) × (stream : List ℕ) × (most : ℕ) × (work ≡ freezes ruled from text stream most)
-frozen_work (prints text) before after s d m = absurd (said_not _ before after s d refl m)
-frozen_work (replays ruled from stream most) before after s d m = absurd (not_meant is_too_much s (status_of d.0.end) (stream_not d.0.end) d.0.status_is m)
-frozen_work (serves ruled from port most) before after s d m = absurd (serving_not ruled from port most before after s d.0 m)
-frozen_work (keeps ruled text content task) before after s d m = absurd (kept_not ruled text content task before after s d m)
-frozen_work (freezes ruled from text stream most) before after s d m = (ruled, from, text, stream, most, refl)
-frozen_work (visits ruled script) before after s d m = absurd (visit_not s (visit_status d.0.end s d.0.status_is) m)
+saving_work : (work : Work) (before after : Outside) (s : Status) → IsDone work before after s → is_too_much s ≡ true → Saves work
+saving_work (prints text) before after s d m = absurd (said_not _ before after s d refl m)
+saving_work (replays ruled from stream most) before after s d m = absurd (not_meant is_too_much s (status_of d.0.end) (stream_not d.0.end) d.0.status_is m)
+saving_work (serves ruled from port most) before after s d m = absurd (serving_not ruled from port most before after s d.0 m)
+saving_work (keeps ruled text content task) before after s d m =
+    subst (λ t. Saves (keeps ruled text content t)) (sym (kept_saves ruled text content task before after s d m)) (journal ruled text content)
+saving_work (freezes ruled from text stream most) before after s d m = requests ruled from text stream most
+saving_work (visits ruled script) before after s d m = absurd (visit_not s (visit_status d.0.end s d.0.status_is) m)
 
 pub saves_are_refused : SavesAreRefused
 saves_are_refused words disk before after (said x p i) =
@@ -132,8 +138,6 @@ saves_are_refused words disk before after (said x p i) =
       | inl y ↦ never_said words disk x SaveRefused refl p y.0
       | inr y ↦ not_meant is_too_much SaveRefused WriteFault refl y.0 refl
     ])
-saves_are_refused words disk before after (done w p d) =
-    let k = frozen_work w before after SaveRefused d refl in
-    (k.0, k.1, k.2, k.3, k.4, subst (λ x. (asked words disk).gives x) k.5 p)
+saves_are_refused words disk before after (done w p d) = (w, p, saving_work w before after SaveRefused d refl)
 saves_are_refused words disk before after (read_fault e k) = absurd (not_meant is_too_much SaveRefused ReadFault refl e refl)
 saves_are_refused words disk before after (no_memory e k) = absurd (not_meant is_too_much SaveRefused Memory refl e refl)

@@ -8,9 +8,9 @@ use Rattle.bigwig.specs.Loading.{loads}
 use Rattle.bw_questions.specs.Questions.{Question, ◌>>=◌, found, line}
 use Rattle.bigwig.specs.Scripts.{script}
 use Rattle.bw_command.specs.declared.command.Command.{Command}
-use Rattle.bw_command.specs.declared.command.Command.TheVariants.{Check, Replay, Resume, Serve, Keep, Valid, Make, Light, Freeze, Visit}
+use Rattle.bw_command.specs.declared.command.Command.TheVariants.{Check, Replay, Resume, Serve, Keep, Valid, Make, Light, Freeze, Preserve, Visit}
 use Rattle.bw_questions.specs.Asked.{command, file, Ruled, accepted_file, Task, Work, made_work, ruled, lights, check_work, valid_work}
-use Rattle.bw_questions.specs.Asked.Task.{to_serve, to_answer}
+use Rattle.bw_questions.specs.Asked.Task.{to_serve, to_answer, to_save}
 use Rattle.bw_questions.specs.Asked.Work.{replays, serves, keeps, freezes, visits}
 
 -- the world of a file of saved sessions, of a service of this name
@@ -70,12 +70,14 @@ work disk (Replay service requests judging form load most) =
     accepted_file disk service judging form >>= replayed_from disk service load requests most
 work disk (Resume service from judging form journal most) = accepted_file disk service judging form >>= resumed disk service from journal most
 work disk (Serve service judging form load port most) = accepted_file disk service judging form >>= served_from disk service load port most
-work disk (Keep service judging form journal port most) = accepted_file disk service judging form >>= beside disk service journal (to_serve port most)
+work disk (Keep service judging form journal rotate port most) =
+    accepted_file disk service judging form >>= beside disk service journal (to_serve port most rotate)
 work disk (Valid name named) = valid_work disk name named
 work disk (Make count workers) = made_work count
 work disk (Light form texts) = lights disk form texts
 work disk (Freeze service requests judging form load most) =
     accepted_file disk service judging form >>= frozen_from disk service load requests most
+work disk (Preserve service judging form journal) = accepted_file disk service judging form >>= beside disk service journal to_save
 work disk (Visit service by judging form) = accepted_file disk service judging form >>= visited disk by
 
 -- all that the program finds out from its words and its files

@@ -1,10 +1,12 @@
--- What serving and answering beside a journal come to.
-use Rattle.std.specs.Prelude.{◌≡◌, ◌⊎◌, ◌+◌, ℕ, List, [], ◌∷◌, ◌++◌, length, Option, Some, IfSome, codes}
+-- What serving, answering and saving with a journal come to.
+use Rattle.std.specs.Prelude.{◌≡◌, ◌⊎◌, ◌<◌, ◌+◌, ℕ, List, [], ◌∷◌, ◌++◌, length, Option, None, Some, IfSome, codes, ⊤}
 use Rattle.std.specs.Io.KnownBytes.{Appends}
-use Rattle.bw_journal.specs.Heads.{HasOther, HasVersion, head_of, start_sum}
+use Rattle.bw_journal.specs.Heads.{HasOther, HasVersion, head_of, saved_front, start_sum}
 use Rattle.bw_journal.specs.Journals.{Ends, Splits}
 use Rattle.bw_journal.specs.Layout.{Entry}
 use Rattle.bw_journal.specs.Reading.{IsCut, IsShort}
+use Rattle.bw_journal.specs.Saved.{FitsSaved, saved_head, saved_start}
+use Rattle.bw_journal.specs.Starts.{FitsOrigin, Origin, head_from, nothing, saved, sum_from}
 use Rattle.bw_keeping.specs.Answered.{backs_of}
 use Rattle.bw_keeping.specs.Served.{HasServed, View}
 use Rattle.bw_keeping.specs.declared.ended.Ended.{Ended}
@@ -21,15 +23,22 @@ use Rattle.bw_out.specs.Doors.{Returned, Asks, MayAsk}
 use Rattle.bw_out.specs.Told.{Coming}
 use Rattle.bw_out.specs.Writes.{AppendsPart}
 use Rattle.bw_keeping.specs.Bringing.{Brings}
-use Rattle.bw_keeping.specs.Recalling.{HasNoHead, IsWrong}
+use Rattle.bw_keeping.specs.Recalling.{IsWrong}
+use Rattle.bw_keeping.specs.Starting.{HasNoStart, HasNoWorld}
 use Rattle.bw_keeping.specs.declared.recalling.Recalled.{Recalled}
 use Rattle.bw_keeping.specs.declared.recalling.Recalled.TheVariants as recalled
+use Rattle.bw_save.specs.Frozen.{saved_of}
+use Rattle.bw_save.specs.Onward.{IsFileAgain, IsNoFile}
 use Rattle.bw_stable.specs.Deeds.{Deed, cut, kept}
+use Rattle.bw_stable.specs.Replacing.{replacing}
 use Rattle.bw_world.specs.Seen.{Seen}
+use Rattle.bw_world.specs.Stands.{StandsFor}
 use Rattle.bw_questions.specs.Asked.{Ruled, Task}
-use Rattle.bw_questions.specs.Asked.Task.{to_answer, to_serve}
+use Rattle.bw_questions.specs.Asked.Task.{to_answer, to_save, to_serve}
+use Rattle.bigwig.specs.Freezing.{IsFrozen, file_of}
 use Rattle.bigwig.specs.JournalLines.{journal_line}
-use Rattle.bw_questions.specs.Questions.{line}
+use Rattle.bigwig.specs.Loading.{loads}
+use Rattle.bw_questions.specs.Questions.{Said, line}
 use Rattle.bigwig.specs.Works.{Between, Outside, AreServed, IsSaid, begins, serving_line}
 use Rattle.bw_questions.specs.Reports.{Prints}
 use Rattle.bw_questions.specs.declared.status.Status.{Status}
@@ -37,16 +46,25 @@ use Rattle.bw_questions.specs.declared.status.Status.TheVariants.{Done, ReadFaul
 
 -- ---- what a journal holds
 
+-- the world that a journal begins at: the one in which nothing was requested yet, or that of its saved bytes
+abbrev pub BeginsAt : Ruled → List ℕ → Origin → World → Type 0
+BeginsAt ruled text nothing world = world ≡ empty ruled.service
+BeginsAt ruled text (saved bytes) world = (loads ruled.service text bytes).gives world
+
 -- The bytes are the head of a journal of this text, these entries, which end behind so many bytes and with this check, and then
--- these bytes. The entries bring about this world from the one in which nothing was requested yet.
+-- these bytes. The entries bring about this world from the one that the journal begins at.
 pub record Brought (ruled : Ruled) (text bytes : List ℕ) (entries : List Entry) (rest : List ℕ) (len sum : ℕ) (world : World) : Type 0 where
+  pub origin : Origin
+  pub fits : FitsOrigin origin
+  pub first : World
+  pub begins : BeginsAt ruled text origin first
   pub behind : List ℕ
   pub size : ℕ
-  pub head : bytes ≡ head_of text ++ behind
-  pub splits : Splits (start_sum text) behind entries rest
-  pub ends : Ends (start_sum text) entries size sum
-  pub len_is : len ≡ length (head_of text) + size
-  pub brings : Brings ruled.formats ruled.service (empty ruled.service) entries world
+  pub head : bytes ≡ head_from text origin ++ behind
+  pub splits : Splits (sum_from text origin) behind entries rest
+  pub ends : Ends (sum_from text origin) entries size sum
+  pub len_is : len ≡ length (head_from text origin) + size
+  pub brings : Brings ruled.formats ruled.service first entries world
 
 -- The bytes are a journal of the service, which brings about this world: nothing was kept yet, and no whole head either; or
 -- there are entries, and behind them less than one more.
@@ -56,11 +74,21 @@ Holds ruled text bytes (recalled.Done len sum) world =
     (entries : List Entry) × (rest : List ℕ) × Brought ruled text bytes entries rest len sum world × IsShort sum rest
 Holds ruled text bytes _ world = ⊥
 
+-- the bytes are the head of a journal that begins at saved bytes, and behind so many of them is nothing that is loaded
+pub record IsUnloaded (ruled : Ruled) (text bytes : List ℕ) (len : ℕ) : Type 0 where
+  pub world : List ℕ
+  pub fits : FitsSaved world
+  pub behind : List ℕ
+  pub head : bytes ≡ saved_head text world ++ behind
+  pub len_is : len ≡ length (saved_front text)
+  pub said : Said
+  pub refused : (loads ruled.service text world).says said
+
 -- why the bytes are no journal of the service
 abbrev pub Refuses : Ruled → List ℕ → List ℕ → Recalled → Type 0
 Refuses ruled text bytes (recalled.Damaged len) =
-    ((len ≡ 0) × HasNoHead text bytes)
-    ⊎ ((entries : List Entry) × (rest : List ℕ) × (sum : ℕ) × (world : World) × Brought ruled text bytes entries rest len sum world × IsWrong sum rest)
+    ((len ≡ 0) × HasNoStart text bytes) ⊎ (HasNoWorld text bytes len ⊎ (IsUnloaded ruled text bytes len
+    ⊎ ((entries : List Entry) × (rest : List ℕ) × (sum : ℕ) × (world : World) × Brought ruled text bytes entries rest len sum world × IsWrong sum rest)))
 Refuses ruled text bytes (recalled.Version version) = HasVersion bytes version
 Refuses ruled text bytes recalled.Other = HasOther text bytes
 Refuses ruled text bytes _ = ⊥
@@ -76,6 +104,34 @@ pub data IsBegun (text : List ℕ) (given : Option (List Returned)) (printed : O
 abbrev pub sum_behind : List ℕ → Recalled → ℕ
 sum_behind text (recalled.Done len sum) = sum
 sum_behind text _ = start_sum text
+
+-- from how many bytes on a journal is begun anew for a task, if it ever is
+abbrev pub rotate_of : Task → Option ℕ
+rotate_of (to_serve port most rotate) = rotate
+rotate_of (to_answer stream most) = None
+rotate_of to_save = None
+
+-- a journal of so many bytes is longer
+abbrev pub IsLonger : Option ℕ → ℕ → Type 0
+IsLonger None len = ⊥
+IsLonger (Some limit) len = limit < len
+
+-- the world of the code stands for this one, and from the file of what waits in it something is loaded again
+pub record IsRenewedBy (ruled : Ruled) (text : List ℕ) (seen : Seen) (world : World) : Type 0 where
+  pub service : seen.service ≡ ruled.service
+  pub stands : StandsFor seen world
+  pub file : IsFileAgain ruled.service text (saved_of seen) (file_of text seen)
+
+-- there is no such file
+pub record IsTooMuch (ruled : Ruled) (text : List ℕ) (seen : Seen) (world : World) : Type 0 where
+  pub service : seen.service ≡ ruled.service
+  pub stands : StandsFor seen world
+  pub none : IsNoFile ruled.service text (saved_of seen)
+
+-- what was found stays: it isn't longer, or it can't be begun anew
+abbrev pub Stays : Ruled → List ℕ → Option ℕ → Recalled → World → Type 0
+Stays ruled text rotate (recalled.Done len sum) world = (IsLonger rotate len → ⊥) ⊎ ((seen : Seen) × IsTooMuch ruled text seen world)
+Stays ruled text rotate _ world = ⊤
 
 -- no journal was closed, or one to which nothing was done
 abbrev pub IsUntouched : Option (List Deed) → Option (List Deed) → Type 0
@@ -174,14 +230,16 @@ pub record Resumes (ruled : Ruled) (world : World) (stream : List ℕ) (most sum
 
 -- ---- the work
 
--- what comes of the task beside a journal that is begun
+-- what comes of a task beside a journal that is begun
 abbrev pub Follows : Ruled → Task → World → ℕ → Outside → Outside → Status → Type 0
-Follows ruled (to_serve port most) world sum before after status = Keeps ruled world port most sum before after status
+Follows ruled (to_serve port most rotate) world sum before after status = Keeps ruled world port most sum before after status
 Follows ruled (to_answer stream most) world sum before after status = Resumes ruled world stream most sum before after status
+Follows ruled to_save world sum before after status = ⊥
 
--- What comes of a task over an accepted service beside a journal of this content. There was a read fault or no memory for it, or it
+-- What comes of a task over an accepted service with a journal of this content. There was a read fault or no memory for it, or it
 -- is refused, and nothing was done to it; or it failed before any link or request, and that was printed; or it was begun, and then
--- the task was done beside it, from the world that the journal brings about.
+-- the task was done beside it, from the world that the journal brings about; or so it was, and a new file came into its place first,
+-- which begins at the file of that world; or what waits in that world was saved, and nothing was done to the journal.
 pub data IsKept (ruled : Ruled) (text content : List ℕ) (task : Task) (before after : Outside) (status : Status) : Type 0 where
   stopped : (status ≡ ReadFault) ⊎ (status ≡ Memory) → after ≡ record before { unread = after.unread; steps = after.steps; deeds = after.deeds }
       → IsUntouched before.deeds after.deeds → IsKept ruled text content task before after status
@@ -190,7 +248,16 @@ pub data IsKept (ruled : Ruled) (text content : List ℕ) (task : Task) (before 
       → IsUntouched before.deeds after.deeds → IsKept ruled text content task before after status
   failed : IsSaid (record { status = JournalFault; text = fault_line }) (record before { steps = after.steps; deeds = after.deeds }) after status
       → IsKept ruled text content task before after status
-  begun : (found : Recalled) (world : World) (mid : Outside) → Holds ruled text content found world
+  begun : (found : Recalled) (world : World) (mid : Outside) → Holds ruled text content found world → Stays ruled text (rotate_of task) found world
       → mid ≡ record before { unread = mid.unread; steps = mid.steps; deeds = mid.deeds }
       → IfSome mid.deeds (IsBegun text before.returned before.printed found) → Follows ruled task world (sum_behind text found) mid after status
       → IsKept ruled text content task before after status
+  renewed : (len sum : ℕ) (world : World) (seen : Seen) (mid : Outside) → Holds ruled text content (recalled.Done len sum) world
+      → IsLonger (rotate_of task) len → IsRenewedBy ruled text seen world
+      → mid ≡ record before { unread = mid.unread; steps = mid.steps; deeds = mid.deeds }
+      → IfSome mid.deeds (λ all. all ≡ replacing (saved_head text (file_of text seen)))
+      → Follows ruled task world (saved_start text (file_of text seen)) mid after status → IsKept ruled text content task before after status
+  preserved : (found : Recalled) (world : World) (seen : Seen) → task ≡ to_save → Holds ruled text content found world → seen.service ≡ ruled.service
+      → StandsFor seen world → IsFrozen text seen before.printed after.printed status
+      → after ≡ record before { printed = after.printed; unread = after.unread; steps = after.steps; deeds = after.deeds }
+      → IsUntouched before.deeds after.deeds → IsKept ruled text content task before after status

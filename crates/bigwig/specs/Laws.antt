@@ -18,7 +18,7 @@ use Rattle.bw_schema.specs.declared.schema.Schema.{Schema}
 use Rattle.bw_types.specs.Faults.{IsWellTyped}
 use Rattle.bw_questions.specs.Asked.{Ruled, Task, Work, built_in, schema, service_file, service_text}
 use Rattle.bigwig.specs.Asked.{asked}
-use Rattle.bw_questions.specs.Asked.Task.{to_serve}
+use Rattle.bw_questions.specs.Asked.Task.{to_save, to_serve}
 use Rattle.bw_questions.specs.Asked.Work.{freezes, keeps, serves, visits}
 use Rattle.bw_command.specs.Commands.{command_of}
 use Rattle.bigwig.specs.Outcomes.{Comes, IsDone}
@@ -26,7 +26,7 @@ use Rattle.bigwig.specs.Works.{Outside}
 use Rattle.bw_questions.specs.Questions.{Said}
 use Rattle.bw_questions.specs.Asked.{Script}
 use Rattle.bw_command.specs.declared.command.Command.{Command}
-use Rattle.bw_command.specs.declared.command.Command.TheVariants.{Check, Make, Replay, Resume, Serve, Keep, Valid, Light, Freeze, Visit}
+use Rattle.bw_command.specs.declared.command.Command.TheVariants.{Check, Make, Replay, Resume, Serve, Keep, Valid, Light, Freeze, Preserve, Visit}
 use Rattle.bw_command.specs.declared.command.Judging.{Judging}
 use Rattle.bw_questions.specs.declared.status.Status.{Status}
 use Rattle.bw_questions.specs.declared.status.Status.TheVariants.{Done, ReadFault, WriteFault, DoorFault, Memory, SaveRefused, JournalRefused, JournalFault, ScriptRefused}
@@ -47,12 +47,13 @@ Checks disk (Replay service requests judging form load most) tree by = (service_
 Checks disk (Resume service requests judging form journal most) tree by =
     (service_file None disk service).gives tree × (schema disk judging.schema).gives by
 Checks disk (Serve service judging form load port most) tree by = (service_file None disk service).gives tree × (schema disk judging.schema).gives by
-Checks disk (Keep service judging form journal port most) tree by = (service_file None disk service).gives tree × (schema disk judging.schema).gives by
+Checks disk (Keep service judging form journal rotate port most) tree by = (service_file None disk service).gives tree × (schema disk judging.schema).gives by
 Checks disk (Valid name named) tree by = ⊥
 Checks disk (Make count workers) tree by = (service_text None (made count)).gives tree × built_in.gives by
 Checks disk (Light form texts) tree by = ⊥
 Checks disk (Freeze service requests judging form load most) tree by =
     (service_file None disk service).gives tree × (schema disk judging.schema).gives by
+Checks disk (Preserve service judging form journal) tree by = (service_file None disk service).gives tree × (schema disk judging.schema).gives by
 Checks disk (Visit service script judging form) tree by = (service_file None disk service).gives tree × (schema disk judging.schema).gives by
 
 -- for all words and files some status is due, where the check has a verdict on the service that they lead to, if any
@@ -94,7 +95,7 @@ DoesItsWork =
 -- the work serves links at a port
 pub data ServesLinks : Work → Type 0 where
   alone : (ruled : Ruled) (from : World) (port most : ℕ) → ServesLinks (serves ruled from port most)
-  kept : (ruled : Ruled) (text content : List ℕ) (port most : ℕ) → ServesLinks (keeps ruled text content (to_serve port most))
+  kept : (ruled : Ruled) (text content : List ℕ) (port most : ℕ) (rotate : Option ℕ) → ServesLinks (keeps ruled text content (to_serve port most rotate))
 
 -- the door's fault comes only where a service is served
 abbrev pub DoorFaultsServe : Type 0
@@ -102,18 +103,23 @@ DoorFaultsServe =
     (words : List (List ℕ)) (disk : Disk) (before after : Outside) → Comes (asked words disk) before after DoorFault
     → (work : Work) × (asked words disk).gives work × ServesLinks work
 
--- a journal is refused or fails only where a service is served, or requests are answered, beside one
+-- a journal is refused or fails only where a service is served, or requests are answered, beside one, or what it brings about is saved
 abbrev pub JournalsAreKept : Type 0
 JournalsAreKept =
     (words : List (List ℕ)) (disk : Disk) (before after : Outside) (status : Status) → Comes (asked words disk) before after status
     → (status ≡ JournalRefused) ⊎ (status ≡ JournalFault)
     → (ruled : Ruled) × (text : List ℕ) × (content : List ℕ) × (task : Task) × (asked words disk).gives (keeps ruled text content task)
 
--- too much to be saved is only what waits behind requests whose world is to be saved
+-- the work saves what waits: behind requests, or in the world that a journal brings about
+pub data Saves : Work → Type 0 where
+  requests : (ruled : Ruled) (from : World) (text stream : List ℕ) (most : ℕ) → Saves (freezes ruled from text stream most)
+  journal : (ruled : Ruled) (text content : List ℕ) → Saves (keeps ruled text content to_save)
+
+-- too much to be saved is only what is to be saved
 abbrev pub SavesAreRefused : Type 0
 SavesAreRefused =
     (words : List (List ℕ)) (disk : Disk) (before after : Outside) → Comes (asked words disk) before after SaveRefused
-    → (ruled : Ruled) × (from : World) × (text : List ℕ) × (stream : List ℕ) × (most : ℕ) × (asked words disk).gives (freezes ruled from text stream most)
+    → (work : Work) × (asked words disk).gives work × Saves work
 
 -- a script is refused only where its file has none, or an answer in it had no control
 abbrev pub ScriptsAreRefused : Type 0

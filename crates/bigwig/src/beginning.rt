@@ -1,5 +1,5 @@
 //! A journal that was read is begun, and links are served beside it.
-ghost use Rattle.std.specs.Prelude.{◌≡◌, ◌≢◌, ◌⊎◌, ◌^◌, ◌<◌, ℕ, List, [], length, IfOk, IfSome, OnOk};
+ghost use Rattle.std.specs.Prelude.{◌≡◌, ◌≢◌, ◌⊎◌, ℕ, List, [], IfSome, OnOk};
 ghost use Rattle.bw_model.specs.Sessions as model;
 ghost use Rattle.bw_out.specs.Causes.{HasCause, Shows};
 ghost use Rattle.bw_world.specs.Stands.{StandsFor};
@@ -7,57 +7,25 @@ ghost use Rattle.bw_questions.specs.Asked.{Ruled};
 ghost use Rattle.bw_questions.specs.Checks.{IsRuled};
 ghost use Rattle.bigwig.specs.Fits.{IsFitWorld};
 ghost use Rattle.bw_questions.specs.Asked.Task.{to_serve};
-ghost use Rattle.bigwig.specs.Finding.{AreDone, IsRead, begun_by, head_if, recalled_of};
-ghost use Rattle.bigwig.specs.Keeping.{EndsWith, IsKept, Keeps, fault_line, sum_behind};
+ghost use Rattle.bigwig.specs.Finding.{IsRead, begun_by, sum_of};
+ghost use Rattle.bigwig.specs.Keeping.{EndsWith, IsKept, Keeps, fault_line};
+ghost use Rattle.bw_stable.specs.Deeds.{DoesAll};
 ghost use Rattle.bw_keeping.specs.Served.{Serves, view};
 ghost use Rattle.bw_keeping.specs.declared.ended.Ended.{Ended as Ended_};
 ghost use Rattle.bigwig.specs.Lent.{AreSame, ShowsJournal, seen_of};
 ghost use Rattle.bw_questions.specs.Reports.{Prints};
 
-use crate::keeping::{Found, Place};
+use crate::keeping::Place;
 use crate::lent::Lent;
+use crate::readying::Opening;
 use crate::server::Server;
 use crate::serving::print_serving;
-use bw_journal::{put_head, start_sum};
 use bw_keeping::{Ended, Room, WideDoor, serve_kept};
-use bw_lang::Memory;
 use bw_out::{Failed, Files, Keys, Sink, Steps, WriteFault};
 use bw_questions::{Status, print_line};
-use bw_stable::{Journal, Journals};
+use bw_stable::{Journal, Journals, replace};
 use std::alloc::Global;
 use std::sync::ledger::Ledger;
-
-/// What is done to a journal before any link.
-#[derive(Drop)]
-pub struct Opening {
-    /// What was found in it.
-    pub found: Found,
-    /// The head that is put there: nothing where there are entries.
-    pub head: Vec<u8>,
-    /// The check behind what it then holds.
-    pub sum: u64,
-}
-
-/// What is done to a journal in which this was found.
-pub fn opening_for(alloc: Global, text: &[u8], found: Found) -> Result<Opening, Memory>
-    requires { length text.now < 2 ^ 32 }
-    ensures found { IfOk result (λ opening. opening.found ≡ found) }
-    ensures head { IfOk result (λ opening. opening.head.items ≡ head_if text.now found) }
-    ensures sum { IfOk result (λ opening. opening.sum ≡ sum_behind text.now (recalled_of found)) }
-{
-    let mut head = Vec::new(alloc);
-    match found {
-        Found::Entries { sum, .. } => Ok(Opening { found, head, sum }),
-        Found::Nothing => {
-            put_head(&mut head, text)?;
-            Ok(Opening {
-                found,
-                head,
-                sum: start_sum(text),
-            })
-        }
-    }
-}
 
 /// Serves a port beside a journal of which all was read. The memory for links is taken first.
 pub fn serve_beside<F: Files, J: Journals, I: Journal, D: WideDoor, K: Keys, W: Sink, L: Ledger>(
@@ -70,8 +38,8 @@ pub fn serve_beside<F: Files, J: Journals, I: Journal, D: WideDoor, K: Keys, W: 
     requires journal { I.is_sound journal.old }
     requires none { IfSome (I.deeds journal.old) (λ deeds. deeds ≡ []) }
     ensures keeps { (ruled : Ruled) (text content : List ℕ) → IsRuled server.old.world.service server.old.formats ruled
-        → IsRead ruled text content server.old.world opening.found opening.head.items opening.sum
-        → IsKept ruled text content (to_serve place.port place.most)
+        → IsRead ruled text content place.rotate server.old.world opening
+        → IsKept ruled text content (to_serve place.port place.most place.rotate)
         (record (seen_of F.Files J.Journals D.Door K.Keys W.Channel lent.old) { deeds = I.deeds journal.old })
         (record (seen_of F.Files J.Journals D.Door K.Keys W.Channel lent.new) { deeds = I.deeds journal.new }) result }
     ensures others { (result ≢ Status.Usage) × (result ≢ Status.ReadFault) }
@@ -81,7 +49,7 @@ pub fn serve_beside<F: Files, J: Journals, I: Journal, D: WideDoor, K: Keys, W: 
     ensures kept { (lent.new.files.now ≡ lent.old.files.now) × (lent.new.journals.now ≡ lent.old.journals.now) }
     ensures same { AreSame lent.old lent.new }
 {
-    let Ok(mut room) = Room::new(server.alloc, opening.sum) else {
+    let Ok(mut room) = Room::new(server.alloc, opening.sum()) else {
         drop(opening);
         return Status::Memory;
     };
@@ -103,10 +71,11 @@ fn keep_begun<F: Files, J: Journals, I: Journal, D: WideDoor, K: Keys, W: Sink, 
     requires journal { I.is_sound journal.old }
     requires none { IfSome (I.deeds journal.old) (λ deeds. deeds ≡ []) }
     requires bytes { room.old.group.bytes ≡ [] }
+    requires sum { room.old.group.sum ≡ sum_of opening.now }
     requires queue { room.old.queue.links.items ≡ [] }
     ensures keeps { (ruled : Ruled) (text content : List ℕ) → IsRuled server.old.world.service server.old.formats ruled
-        → IsRead ruled text content server.old.world opening.now.found opening.now.head.items room.old.group.sum
-        → IsKept ruled text content (to_serve place.port place.most)
+        → IsRead ruled text content place.rotate server.old.world opening.now
+        → IsKept ruled text content (to_serve place.port place.most place.rotate)
         (record (seen_of F.Files J.Journals D.Door K.Keys W.Channel lent.old) { deeds = I.deeds journal.old })
         (record (seen_of F.Files J.Journals D.Door K.Keys W.Channel lent.new) { deeds = I.deeds journal.new }) result }
     ensures others { (result ≢ Status.Usage) × (result ≢ Status.ReadFault) }
@@ -123,7 +92,8 @@ fn keep_begun<F: Files, J: Journals, I: Journal, D: WideDoor, K: Keys, W: Sink, 
     }
 }
 
-/// Makes a journal ready for entries: puts the head there where there is none, and cuts off what is less than an entry.
+/// Makes a journal ready for entries: puts the head there where there is none, cuts off what is less than an entry, or puts a new
+/// file in its place.
 pub fn begin<J: Journal, D: WideDoor, W: Sink>(
     opening: &Opening,
     journal: &mut J,
@@ -131,16 +101,17 @@ pub fn begin<J: Journal, D: WideDoor, W: Sink>(
     out: &W,
 ) -> Result<(), Failed>
     requires { J.is_sound journal.old }
-    ensures begun { OnOk result (AreDone (J.deeds journal.old) (J.deeds journal.new) (begun_by opening.now.found opening.now.head.items (D.returned door.now) (W.held out.now))) }
+    ensures begun { OnOk result (DoesAll (J.deeds journal.old) (J.deeds journal.new) (begun_by opening.now (D.returned door.now) (W.held out.now))) }
     ensures sound { OnOk result (J.is_sound journal.new) }
     ensures cause { HasCause (J.faults journal.old) (J.faults journal.new) result }
 {
-    match opening.found {
-        Found::Entries { len, .. } => journal.cut(len),
-        Found::Nothing => {
+    match opening {
+        Opening::Head { head, .. } => {
             journal.cut(0)?;
-            journal.keep(door, out, &opening.head)
+            journal.keep(door, out, head)
         }
+        Opening::Cut { len, .. } => journal.cut(*len),
+        Opening::Anew { head, .. } => replace(journal, head),
     }
 }
 

@@ -181,7 +181,7 @@ fn freeze_end<W: Sink>(server: Server, text: &[u8], end: StreamEnd, out: &mut W)
 
 /// Prints the file of what waits in a world. Where a document has a plug that filled nothing, this ends as for want of memory: no
 /// turn of an accepted service makes one, and no other status is due.
-fn print_world<W: Sink>(alloc: Global, text: &[u8], world: World, out: &mut W) -> Status
+pub fn print_world<W: Sink>(alloc: Global, text: &[u8], world: World, out: &mut W) -> Status
     requires { length text.now ≤ MAX_FILE_BYTES }
     ensures frozen { IsFrozen text.now world (W.held out.old) (W.held out.new) result }
     ensures others { (result ≢ Status.Usage) × (result ≢ Status.DoorFault) }

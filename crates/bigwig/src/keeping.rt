@@ -1,30 +1,29 @@
 //! Links that are served and requests that are answered beside a journal, over the world that it brings about.
-ghost use Rattle.std.specs.Prelude.{◌≡◌, ◌≢◌, ◌^◌, ◌<◌, [], length, None, Some, IfOk, IfErr, IfSome, IsErrOf};
-ghost use Rattle.bw_model.specs.Sessions as model;
+ghost use Rattle.std.specs.Prelude.{◌≡◌, ◌≢◌, ◌≤◌, ℕ, List, [], length, IfSome};
+ghost use Rattle.bw_lang.specs.declared.limits.TheConstants.{MAX_FILE_BYTES};
 ghost use Rattle.bw_out.specs.Causes.{Shows};
-ghost use Rattle.bw_sound.specs.Worlds.{BeginsSound};
-ghost use Rattle.bw_world.specs.Stands.{StandsFor};
 ghost use Rattle.bw_questions.specs.Asked.{Ruled, Task as Task_};
 ghost use Rattle.bigwig.specs.Asked.{work};
 ghost use Rattle.bw_questions.specs.Behind.{content_of};
 ghost use Rattle.bw_questions.specs.Checks.{IsRuled};
 ghost use Rattle.bw_command.specs.Commands.{AreWorkers};
-ghost use Rattle.bigwig.specs.Finding.{IsFoundIn, IsFresh, IsRefusedBy, IsTask, IsToldBy, recalled_of};
+ghost use Rattle.bigwig.specs.Finding.{IsFoundIn, IsFresh, IsRead, IsTask, rotate_in};
 ghost use Rattle.bigwig.specs.Keeping.{IsKept};
 ghost use Rattle.bigwig.specs.Lent.{AreSame, HasCauses, ShowsJournal, faults_of, seen_of};
 ghost use Rattle.bigwig.specs.Outcomes.{Comes};
 ghost use Rattle.bw_command.specs.declared.command.Command.TheVariants as commands;
 
-use crate::beginning::{opening_for, serve_beside, tell_fault};
-use crate::journal_lines::journal_line;
+use crate::beginning::{serve_beside, tell_fault};
+use crate::bringing::{Brought, bring_back};
 use crate::lent::Lent;
+use crate::readying::{Opening, Ready, ready_for};
 use crate::resuming::resume_beside;
 use crate::server::Server;
 use bw_command::Named;
-use bw_keeping::{Recalled, WideDoor, recall};
+use bw_keeping::WideDoor;
 use bw_lang::{Memory, Text};
 use bw_out::{Failed, Files, Keys, Pulse, Sink, Steps};
-use bw_questions::{Kept, Refusal, Status, Stop, Tools, load_kept, refused, report};
+use bw_questions::{Kept, Status, Tools, load_kept, report};
 use bw_stable::{Journal, Journals};
 use std::alloc::Global;
 use std::sync::ledger::Ledger;
@@ -37,6 +36,8 @@ pub struct Place {
     pub port: u16,
     /// The greatest number of links that are served.
     pub most: u32,
+    /// The journal is begun anew if it has more bytes than these. Where there is no number, it never is.
+    pub rotate: Option<u32>,
 }
 
 /// The requests of a file that was fetched. It has no `Drop`, so it has to be closed.
@@ -52,15 +53,6 @@ pub enum Task<S> {
     Links(Place),
     /// Requests of a file are answered.
     Stream(Stream<S>),
-}
-
-/// What is found in a journal that is one.
-#[derive(Clone, Copy)]
-pub enum Found {
-    /// Nothing was kept yet, and there is no whole head.
-    Nothing,
-    /// Its entries end behind so many bytes, and this is the check there.
-    Entries { len: u64, sum: u64 },
 }
 
 /// `serve` beside a journal: the world that it brings about is brought back, and then the links of a port are served. What
@@ -83,7 +75,7 @@ pub fn keep_command<
 ) -> Status
     requires { AreWorkers named.judging.now.workers }
     ensures comes { IfSome (F.told lent.old.files.now) (λ disk. Comes (work disk (commands.Keep named.entry.service.now named.entry.judging.now
-        named.entry.formats.now journal.now place.port place.most))
+        named.entry.formats.now journal.now place.rotate place.port place.most))
         (seen_of F.Files J.Journals D.Door K.Keys W.Channel lent.old) (seen_of F.Files J.Journals D.Door K.Keys W.Channel lent.new) result) }
     ensures not_usage { result ≢ Status.Usage }
     ensures causes { HasCauses result (faults_of F.Files J.Journals D.Door W.Channel lent.old) (faults_of F.Files J.Journals D.Door W.Channel lent.new) }
@@ -101,7 +93,7 @@ pub fn keep_command<
     }
 }
 
-/// Does a task over a service that is accepted, beside a journal.
+/// Does a task over a service that is accepted, beside a journal. It is opened, and closed again.
 pub fn keep_service<F: Files, J: Journals, D: WideDoor, K: Keys, W: Sink, L: Ledger>(
     alloc: Global,
     kept: Kept,
@@ -109,7 +101,7 @@ pub fn keep_service<F: Files, J: Journals, D: WideDoor, K: Keys, W: Sink, L: Led
     task: Task<F::File>,
     lent: &mut Lent<F, J, D, K, W, Steps<L>>,
 ) -> Status
-    requires text { length kept.text.items < 2 ^ 32 }
+    requires text { length kept.text.items ≤ MAX_FILE_BYTES }
     requires fresh { IsFresh F.File.read_faults task }
     ensures keeps { IfSome (F.told lent.old.files.now) (λ disk. (ruled : Ruled) (x : Task_)
         → IsRuled kept.served.checked.typed.service kept.served.formats ruled → IsTask F.File.left task x
@@ -119,72 +111,36 @@ pub fn keep_service<F: Files, J: Journals, D: WideDoor, K: Keys, W: Sink, L: Led
     ensures causes { HasCauses result (faults_of F.Files J.Journals D.Door W.Channel lent.old) (faults_of F.Files J.Journals D.Door W.Channel lent.new) }
     ensures same { AreSame lent.old lent.new }
 {
-    let Kept { served, text } = kept;
-    match Server::new(alloc, served) {
-        Ok(mut server) => {
-            let status = keep_opened(&mut server, &text, name, task, lent);
-            drop(server);
-            drop(text);
-            status
-        }
-        Err(Memory) => {
-            close_task(task, lent.files);
-            drop(text);
-            Status::Memory
-        }
-    }
-}
-
-/// The same by a server that has answered nothing yet. The journal is opened, and closed again.
-fn keep_opened<F: Files, J: Journals, D: WideDoor, K: Keys, W: Sink, L: Ledger>(
-    server: &mut Server,
-    text: &[u8],
-    name: &str,
-    task: Task<F::File>,
-    lent: &mut Lent<F, J, D, K, W, Steps<L>>,
-) -> Status
-    requires stands { StandsFor server.old.world (model.empty server.old.world.service) }
-    requires sound { BeginsSound server.old.world.service }
-    requires text { length text.now < 2 ^ 32 }
-    requires fresh { IsFresh F.File.read_faults task }
-    ensures keeps { IfSome (F.told lent.old.files.now) (λ disk. (ruled : Ruled) (x : Task_) → IsRuled server.old.world.service server.old.formats ruled
-        → IsTask F.File.left task x → IsKept ruled text.now (content_of (disk name.now)) x
-        (seen_of F.Files J.Journals D.Door K.Keys W.Channel lent.old) (seen_of F.Files J.Journals D.Door K.Keys W.Channel lent.new) result) }
-    ensures not_usage { result ≢ Status.Usage }
-    ensures causes { HasCauses result (faults_of F.Files J.Journals D.Door W.Channel lent.old) (faults_of F.Files J.Journals D.Door W.Channel lent.new) }
-    ensures same { AreSame lent.old lent.new }
-{
     match lent.journals.open_journal(name) {
         Err(Failed) => {
+            drop(kept);
             close_task(task, lent.files);
             tell_fault(lent.out)
         }
         Ok(mut journal) => {
-            let status = keep_beside(server, text, name, task, &mut journal, lent);
+            let status = keep_beside(alloc, kept, name, task, &mut journal, lent);
             lent.journals.close_journal(journal);
             status
         }
     }
 }
 
-/// The same beside a journal that is open. What the journal holds is read first, and the memory for the task is taken before
-/// anything is done to it.
+/// The same beside a journal that is open. What the journal holds is read first.
 fn keep_beside<F: Files, J: Journals, I: Journal, D: WideDoor, K: Keys, W: Sink, L: Ledger>(
-    server: &mut Server,
-    text: &[u8],
+    alloc: Global,
+    kept: Kept,
     name: &str,
     task: Task<F::File>,
     journal: &mut I,
     lent: &mut Lent<F, J, D, K, W, Steps<L>>,
 ) -> Status
-    requires stands { StandsFor server.old.world (model.empty server.old.world.service) }
-    requires sound { BeginsSound server.old.world.service }
-    requires text { length text.now < 2 ^ 32 }
+    requires text { length kept.text.items ≤ MAX_FILE_BYTES }
     requires fresh { IsFresh F.File.read_faults task }
     requires journal { I.is_sound journal.old }
     requires none { IfSome (I.deeds journal.old) (λ deeds. deeds ≡ []) }
-    ensures keeps { IfSome (F.told lent.old.files.now) (λ disk. (ruled : Ruled) (x : Task_) → IsRuled server.old.world.service server.old.formats ruled
-        → IsTask F.File.left task x → IsKept ruled text.now (content_of (disk name.now)) x
+    ensures keeps { IfSome (F.told lent.old.files.now) (λ disk. (ruled : Ruled) (x : Task_)
+        → IsRuled kept.served.checked.typed.service kept.served.formats ruled → IsTask F.File.left task x
+        → IsKept ruled kept.text.items (content_of (disk name.now)) x
         (record (seen_of F.Files J.Journals D.Door K.Keys W.Channel lent.old) { deeds = I.deeds journal.old })
         (record (seen_of F.Files J.Journals D.Door K.Keys W.Channel lent.new) { deeds = I.deeds journal.new }) result) }
     ensures not_usage { result ≢ Status.Usage }
@@ -195,20 +151,98 @@ fn keep_beside<F: Files, J: Journals, I: Journal, D: WideDoor, K: Keys, W: Sink,
     ensures journals { lent.new.journals.now ≡ lent.old.journals.now }
     ensures same { AreSame lent.old lent.new }
 {
-    let found = match read_journal(server, text, name, lent.files, lent.steps) {
-        Ok(found) => found,
+    let Kept { served, text } = kept;
+    match bring_back(alloc, served, &text, name, lent.files, lent.steps) {
         Err(stop) => {
             close_task(task, lent.files);
-            return report(lent.out, stop);
+            drop(text);
+            report(lent.out, stop)
         }
-    };
-    let Ok(opening) = opening_for(server.alloc, text, found) else {
-        close_task(task, lent.files);
-        return Status::Memory;
-    };
+        Ok(brought) => {
+            let status = keep_brought(brought, &text, task, journal, lent);
+            drop(text);
+            status
+        }
+    }
+}
+
+/// The same where its world was brought back. The memory for the task is taken before anything is done to the journal.
+fn keep_brought<F: Files, J: Journals, I: Journal, D: WideDoor, K: Keys, W: Sink, L: Ledger>(
+    brought: Brought,
+    text: &[u8],
+    task: Task<F::File>,
+    journal: &mut I,
+    lent: &mut Lent<F, J, D, K, W, Steps<L>>,
+) -> Status
+    requires text { length text.now ≤ MAX_FILE_BYTES }
+    requires fresh { IsFresh F.File.read_faults task }
+    requires journal { I.is_sound journal.old }
+    requires none { IfSome (I.deeds journal.old) (λ deeds. deeds ≡ []) }
+    ensures keeps { (ruled : Ruled) (content : List ℕ) (x : Task_) → IsRuled brought.server.world.service brought.server.formats ruled
+        → IsTask F.File.left task x → IsFoundIn ruled text.now content brought.server.world brought.found → IsKept ruled text.now content x
+        (record (seen_of F.Files J.Journals D.Door K.Keys W.Channel lent.old) { deeds = I.deeds journal.old })
+        (record (seen_of F.Files J.Journals D.Door K.Keys W.Channel lent.new) { deeds = I.deeds journal.new }) result }
+    ensures not_usage { result ≢ Status.Usage }
+    ensures read_fault { Shows (result ≡ Status.ReadFault) (F.faults lent.old.files.now) (F.faults lent.new.files.now) }
+    ensures write_fault { Shows (result ≡ Status.WriteFault) (W.write_faults lent.old.out.now) (W.write_faults lent.new.out.now) }
+    ensures door_fault { Shows (result ≡ Status.DoorFault) (D.faults lent.old.door.now) (D.faults lent.new.door.now) }
+    ensures journal_fault { ShowsJournal result (I.faults journal.old) (I.faults journal.new) }
+    ensures journals { lent.new.journals.now ≡ lent.old.journals.now }
+    ensures same { AreSame lent.old lent.new }
+{
+    match ready_for(brought, text, rotate_of(&task)) {
+        Err(Memory) => {
+            close_task(task, lent.files);
+            Status::Memory
+        }
+        Ok(ready) => {
+            let Ready {
+                mut server,
+                opening,
+            } = ready;
+            let status = do_task(&mut server, opening, task, journal, lent);
+            drop(server);
+            status
+        }
+    }
+}
+
+/// Does the task beside a journal of which all was read.
+fn do_task<F: Files, J: Journals, I: Journal, D: WideDoor, K: Keys, W: Sink, L: Ledger>(
+    server: &mut Server,
+    opening: Opening,
+    task: Task<F::File>,
+    journal: &mut I,
+    lent: &mut Lent<F, J, D, K, W, Steps<L>>,
+) -> Status
+    requires fresh { IsFresh F.File.read_faults task }
+    requires journal { I.is_sound journal.old }
+    requires none { IfSome (I.deeds journal.old) (λ deeds. deeds ≡ []) }
+    ensures keeps { (ruled : Ruled) (text content : List ℕ) (x : Task_) → IsRuled server.old.world.service server.old.formats ruled
+        → IsTask F.File.left task x → IsRead ruled text content (rotate_in task) server.old.world opening → IsKept ruled text content x
+        (record (seen_of F.Files J.Journals D.Door K.Keys W.Channel lent.old) { deeds = I.deeds journal.old })
+        (record (seen_of F.Files J.Journals D.Door K.Keys W.Channel lent.new) { deeds = I.deeds journal.new }) result }
+    ensures not_usage { result ≢ Status.Usage }
+    ensures read_fault { Shows (result ≡ Status.ReadFault) (F.faults lent.old.files.now) (F.faults lent.new.files.now) }
+    ensures write_fault { Shows (result ≡ Status.WriteFault) (W.write_faults lent.old.out.now) (W.write_faults lent.new.out.now) }
+    ensures door_fault { Shows (result ≡ Status.DoorFault) (D.faults lent.old.door.now) (D.faults lent.new.door.now) }
+    ensures journal_fault { ShowsJournal result (I.faults journal.old) (I.faults journal.new) }
+    ensures journals { lent.new.journals.now ≡ lent.old.journals.now }
+    ensures same { AreSame lent.old lent.new }
+{
     match task {
         Task::Links(place) => serve_beside(server, opening, place, journal, lent),
         Task::Stream(stream) => resume_beside(server, opening, stream, journal, lent),
+    }
+}
+
+/// From how many bytes on a journal is begun anew for a task, if it ever is.
+fn rotate_of<S>(task: &Task<S>) -> Option<u32>
+    ensures { result ≡ rotate_in task.now }
+{
+    match task {
+        Task::Links(place) => place.rotate,
+        Task::Stream(_) => None,
     }
 }
 
@@ -232,59 +266,4 @@ pub fn close_stream<F: Files>(stream: Stream<F::File>, files: &mut F)
 {
     let Stream { file, most: _ } = stream;
     files.close(file);
-}
-
-/// Brings back the world of a journal. Where there is no file, nothing was kept yet. The file is closed again.
-fn read_journal<F: Files, L: Ledger>(
-    server: &mut Server,
-    text: &[u8],
-    name: &str,
-    files: &mut F,
-    steps: &mut Steps<L>,
-) -> Result<Found, Stop>
-    requires stands { StandsFor server.old.world (model.empty server.old.world.service) }
-    requires sound { BeginsSound server.old.world.service }
-    requires text { length text.now < 2 ^ 32 }
-    ensures found { IfOk result (λ found. IfSome (F.told files.old) (λ disk. (ruled : Ruled) → IsRuled server.old.world.service server.old.formats ruled
-        → IsFoundIn ruled text.now (content_of (disk name.now)) server.new.world found)) }
-    ensures stops { IfErr result (λ stop. IfSome (F.told files.old) (λ disk. (ruled : Ruled) → IsRuled server.old.world.service server.old.formats ruled
-        → IsRefusedBy ruled text.now (content_of (disk name.now)) stop)) }
-    ensures service { server.new.world.service ≡ server.old.world.service }
-    ensures formats { server.new.formats ≡ server.old.formats }
-    ensures told { F.told files.new ≡ F.told files.old }
-    ensures read_fault { Shows (IsErrOf result Stop.ReadFault) (F.faults files.old) (F.faults files.new) }
-{
-    match files.fetch(name) {
-        Err(Failed) => Err(Stop::ReadFault),
-        Ok(None) => Ok(Found::Nothing),
-        Ok(Some(mut file)) => {
-            let recalled = recall(
-                server.alloc,
-                &mut server.world,
-                &server.formats,
-                text,
-                &mut file,
-                steps,
-            );
-            files.close(file);
-            found_of(server.alloc, recalled)
-        }
-    }
-}
-
-/// What was found in a journal, or why the program stops.
-fn found_of(alloc: Global, recalled: Recalled) -> Result<Found, Stop>
-    ensures found { IfOk result (λ found. recalled ≡ recalled_of found) }
-    ensures stops { IfErr result (IsToldBy recalled) }
-    ensures reads { recalled ≡ Recalled.ReadFault → IsErrOf result Stop.ReadFault }
-{
-    match recalled {
-        Recalled::New => Ok(Found::Nothing),
-        Recalled::Done { len, sum } => Ok(Found::Entries { len, sum }),
-        Recalled::ReadFault => Err(Stop::ReadFault),
-        Recalled::Memory => Err(Stop::Memory),
-        Recalled::Damaged(_) | Recalled::Version(_) | Recalled::Other => {
-            Err(refused(Refusal::Journal, journal_line(alloc, recalled)))
-        }
-    }
 }

@@ -2,6 +2,7 @@
 #![tactic(auto)]
 
 mod beginning;
+mod bringing;
 mod freezing;
 mod journal_lines;
 mod keeping;
@@ -9,10 +10,14 @@ mod laws;
 mod lent;
 mod making;
 mod obeying;
+mod origins;
+mod preserving;
 mod program;
+mod readying;
 mod replaying;
 mod resuming;
 mod saved_lines;
+mod saying;
 mod server;
 mod serving;
 mod thawing;

@@ -1,29 +1,25 @@
 //! What a command asks for is done.
-ghost use Rattle.std.specs.Prelude.{◌≡◌, ◌≢◌, IfSome};
-ghost use Rattle.bw_out.specs.Causes.{Shows};
+ghost use Rattle.std.specs.Prelude.{◌≢◌, IfSome};
 ghost use Rattle.bigwig.specs.Asked.{work};
-ghost use Rattle.bw_command.specs.Commands.{AreWorkers, AsksApart, AsksToReplay, AsksToServe, IsInRange};
+ghost use Rattle.bw_command.specs.Commands.{AsksApart, AsksToReplay, AsksToServe, IsInRange};
 ghost use Rattle.bigwig.specs.Lent.{AreSame, HasCauses, faults_of, seen_of};
-ghost use Rattle.bigwig.specs.Outcomes.{Comes, Speaks};
-ghost use Rattle.bw_command.specs.declared.command.Command.TheVariants as commands;
+ghost use Rattle.bigwig.specs.Outcomes.{Comes};
 
 use crate::freezing::freeze_command;
 use crate::keeping::{Place, keep_command};
 use crate::lent::Lent;
 use crate::making::make_command;
+use crate::preserving::preserve_command;
 use crate::replaying::replay_command;
 use crate::resuming::{Resumed, resume_command};
+use crate::saying::{check_command, light_command, valid_command};
 use crate::serving::serve_command;
 use crate::visiting::visit_command;
-use bw_command::{Command, Judging, Named};
+use bw_command::{Command, Named};
 use bw_keeping::WideDoor;
-use bw_lang::Text;
 use bw_out::{Files, Keys, Pulse, Sink, Steps};
-use bw_questions::{
-    Status, Tools, load_accepted, load_lights, load_valid, print_line, print_text, report,
-};
+use bw_questions::{Status, Tools};
 use bw_stable::Journals;
-use std::alloc::Global;
 use std::sync::ledger::Ledger;
 use std::thread::Threads;
 
@@ -58,11 +54,13 @@ pub fn obey<
         Command::Light { formats, texts } => {
             light_command(tools.alloc, formats, texts, lent.files, lent.out)
         }
-        Command::Freeze { .. } | Command::Visit { .. } => obey_apart(tools, command, lent),
+        Command::Freeze { .. } | Command::Preserve { .. } | Command::Visit { .. } => {
+            obey_apart(tools, command, lent)
+        }
     }
 }
 
-/// `freeze` and `visit`: answers requests to save what then waits, or those of a scripted user.
+/// `freeze` and `visit`: saves what waits behind requests or in the world of a journal, or answers a scripted user.
 fn obey_apart<
     R: Threads + Sync,
     F: Files,
@@ -96,6 +94,19 @@ fn obey_apart<
                 formats,
             };
             freeze_command(tools, named, load, requests, *most, lent)
+        }
+        Command::Preserve {
+            service,
+            judging,
+            formats,
+            journal,
+        } => {
+            let named = Named {
+                service,
+                judging,
+                formats,
+            };
+            preserve_command(tools, named, journal, lent)
         }
         Command::Visit {
             service,
@@ -213,6 +224,7 @@ fn obey_serve<
             judging,
             formats,
             journal,
+            rotate,
             port,
             most,
         } => {
@@ -224,71 +236,10 @@ fn obey_serve<
             let place = Place {
                 port: *port,
                 most: *most,
+                rotate: *rotate,
             };
             keep_command(tools, named, journal, place, lent)
         }
         _ => unreachable!(),
-    }
-}
-
-/// `check`: says whether a service is accepted.
-fn check_command<R: Threads + Sync, F: Files, W: Sink, P: Pulse>(
-    tools: &Tools<R, P>,
-    service: &Text,
-    judging: &Judging,
-    files: &mut F,
-    out: &mut W,
-) -> Status
-    requires { AreWorkers judging.now.workers }
-    ensures comes { IfSome (F.told files.old) (λ disk. Speaks (work disk (commands.Check service.now judging.now))
-        (W.held out.old) (W.held out.new) result) }
-    ensures others { (result ≢ Status.Usage) × (result ≢ Status.DoorFault) }
-    ensures no_journal { result ≢ Status.JournalFault }
-    ensures read_fault { Shows (result ≡ Status.ReadFault) (F.faults files.old) (F.faults files.new) }
-    ensures write_fault { Shows (result ≡ Status.WriteFault) (W.write_faults out.old) (W.write_faults out.new) }
-{
-    match load_accepted(tools, files, service, judging) {
-        Ok(()) => print_line(out, Status::Done, b"accepted"),
-        Err(stop) => report(out, stop),
-    }
-}
-
-/// `valid`: says whether a page is valid.
-fn valid_command<F: Files, W: Sink>(
-    alloc: Global,
-    page: &Text,
-    schema: &Option<Text>,
-    files: &mut F,
-    out: &mut W,
-) -> Status
-    ensures comes { IfSome (F.told files.old) (λ disk. Speaks (work disk (commands.Valid page.now schema.now)) (W.held out.old) (W.held out.new) result) }
-    ensures others { (result ≢ Status.Usage) × (result ≢ Status.DoorFault) }
-    ensures no_journal { result ≢ Status.JournalFault }
-    ensures read_fault { Shows (result ≡ Status.ReadFault) (F.faults files.old) (F.faults files.new) }
-    ensures write_fault { Shows (result ≡ Status.WriteFault) (W.write_faults out.old) (W.write_faults out.new) }
-{
-    match load_valid(alloc, files, page.as_str(), schema) {
-        Ok(()) => print_line(out, Status::Done, b"valid"),
-        Err(stop) => report(out, stop),
-    }
-}
-
-/// `light`: prints the lights of texts.
-fn light_command<F: Files, W: Sink>(
-    alloc: Global,
-    formats: &Text,
-    texts: &Text,
-    files: &mut F,
-    out: &mut W,
-) -> Status
-    ensures comes { IfSome (F.told files.old) (λ disk. Speaks (work disk (commands.Light formats.now texts.now)) (W.held out.old) (W.held out.new) result) }
-    ensures others { (result ≢ Status.Usage) × (result ≢ Status.DoorFault) }
-    ensures no_journal { result ≢ Status.JournalFault }
-    ensures read_fault { Shows (result ≡ Status.ReadFault) (F.faults files.old) (F.faults files.new) }
-    ensures write_fault { Shows (result ≡ Status.WriteFault) (W.write_faults out.old) (W.write_faults out.new) }
-{
-    match load_lights(alloc, files, formats.as_str(), texts.as_str()) {
-        Ok(printed) => print_text(out, Status::Done, printed.as_bytes()),
-        Err(stop) => report(out, stop),
     }
 }

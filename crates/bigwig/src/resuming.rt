@@ -1,9 +1,10 @@
 //! `replay` beside a journal: the requests of a file are answered over the world that the journal brings about.
-ghost use Rattle.std.specs.Prelude.{◌≡◌, ◌≢◌, ◌<◌, ◌^◌, ℕ, List, [], length, Option, IfSome, Some};
+ghost use Rattle.std.specs.Prelude.{◌≡◌, ◌≢◌, ◌≤◌, ℕ, List, [], length, Option, IfSome, None, Some};
 ghost use Rattle.bw_keeping.specs.Groups.{IsReady};
 ghost use Rattle.bw_keeping.specs.StreamSteps as handles;
 ghost use Rattle.bw_keeping.specs.Streamed.{Streams, sight};
 ghost use Rattle.bw_keeping.specs.declared.ended.StreamEnded.{StreamEnded as StreamEnded_};
+ghost use Rattle.bw_lang.specs.declared.limits.TheConstants.{MAX_FILE_BYTES};
 ghost use Rattle.bw_out.specs.Causes.{Shows};
 ghost use Rattle.bw_world.specs.Streams.Answers.{between};
 ghost use Rattle.bw_world.specs.Streams.Good.{RepliesAreGood};
@@ -18,9 +19,10 @@ ghost use Rattle.bigwig.specs.Lent.{AreSame, HasCauses, ShowsJournal, faults_of,
 ghost use Rattle.bigwig.specs.Outcomes.{Comes};
 ghost use Rattle.bw_command.specs.declared.command.Command.TheVariants as commands;
 
-use crate::beginning::{Opening, begin, tell_fault};
+use crate::beginning::{begin, tell_fault};
 use crate::keeping::{Stream, Task, close_stream, keep_service};
 use crate::lent::Lent;
+use crate::readying::Opening;
 use crate::server::Server;
 use bw_command::Named;
 use bw_keeping::{Handler, StreamEnded, StreamRoom, WideDoor, answer_kept};
@@ -81,7 +83,7 @@ fn resume_service<F: Files, J: Journals, D: WideDoor, K: Keys, W: Sink, L: Ledge
     resumed: Resumed<'_, '_>,
     lent: &mut Lent<F, J, D, K, W, Steps<L>>,
 ) -> Status
-    requires text { length kept.text.items < 2 ^ 32 }
+    requires text { length kept.text.items ≤ MAX_FILE_BYTES }
     ensures comes { IfSome (F.told lent.old.files.now) (λ disk. (ruled : Ruled) (name : List ℕ)
         → IsRuled kept.served.checked.typed.service kept.served.formats ruled → disk name ≡ Some kept.text.items
         → Comes (asks disk name resumed.entry.requests.now resumed.entry.journal.now resumed.entry.most ruled)
@@ -121,7 +123,7 @@ pub fn resume_beside<F: Files, J: Journals, I: Journal, D: WideDoor, K: Keys, W:
     requires none { IfSome (I.deeds journal.old) (λ deeds. deeds ≡ []) }
     requires fresh { F.File.read_faults stream.file ≡ 0 }
     ensures keeps { (ruled : Ruled) (text content bytes : List ℕ) → IsRuled server.old.world.service server.old.formats ruled
-        → IsRead ruled text content server.old.world opening.found opening.head.items opening.sum → F.File.left stream.file ≡ Some bytes
+        → IsRead ruled text content None server.old.world opening → F.File.left stream.file ≡ Some bytes
         → IsKept ruled text content (to_answer bytes stream.most)
         (record (seen_of F.Files J.Journals D.Door K.Keys W.Channel lent.old) { deeds = I.deeds journal.old })
         (record (seen_of F.Files J.Journals D.Door K.Keys W.Channel lent.new) { deeds = I.deeds journal.new }) result }
@@ -132,7 +134,7 @@ pub fn resume_beside<F: Files, J: Journals, I: Journal, D: WideDoor, K: Keys, W:
     ensures kept { (lent.new.door.now ≡ lent.old.door.now) × (lent.new.journals.now ≡ lent.old.journals.now) }
     ensures same { AreSame lent.old lent.new }
 {
-    let Ok(mut room) = StreamRoom::new(server.alloc, opening.sum) else {
+    let Ok(mut room) = StreamRoom::new(server.alloc, opening.sum()) else {
         close_stream(stream, lent.files);
         drop(opening);
         return Status::Memory;

@@ -77,7 +77,12 @@ fn load_server<F: Files>(
 }
 
 /// The same in the world that these bytes give.
-fn thawed_server(alloc: Global, served: Served, text: &[u8], bytes: &[u8]) -> Result<Server, Stop>
+pub fn thawed_server(
+    alloc: Global,
+    served: Served,
+    text: &[u8],
+    bytes: &[u8],
+) -> Result<Server, Stop>
     ensures answers { (ruled : Ruled) → IsRuled served.checked.typed.service served.formats ruled
         → IsAnswer (λ s. loaded_of s.world) (loads ruled.service text.now bytes.now) result }
     ensures service { IfOk result (λ s. s.world.service ≡ served.checked.typed.service) }

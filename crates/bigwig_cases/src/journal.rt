@@ -1,6 +1,8 @@
 //! The journal of a case.
 use crate::channels::take_numbers;
-use bw_journal::{MAX_MESSAGE_BYTES, put_entry, put_head, start_sum};
+use bw_journal::{
+    MAX_MESSAGE_BYTES, MAX_SAVED_BYTES, put_entry, put_head, put_saved_head, start_sum,
+};
 use bw_out::MemFile;
 use bw_stable::MemJournals;
 use case_files::{Fault, Line, Texts};
@@ -38,6 +40,7 @@ impl JournalBytes {
     pub fn take(&mut self, alloc: Global, texts: &Texts<'_>, line: Line<'_>) -> Result<(), Fault> {
         match line.key {
             "head" => self.put_head(&texts.join(alloc, line.value)?),
+            "saved" => self.take_saved(alloc, texts, line.value),
             "entry" => self.take_entry(alloc, texts, line.value),
             "bytes" => {
                 self.bytes
@@ -60,6 +63,27 @@ impl JournalBytes {
         }
         put_head(&mut self.bytes, text)?;
         self.sum = start_sum(text);
+        Ok(())
+    }
+
+    /// Takes in `NAME PARTS`: these saved bytes, at which a journal of the service begins whose file is the text of that name.
+    fn take_saved(
+        &mut self,
+        alloc: Global,
+        texts: &Texts<'_>,
+        definition: &str,
+    ) -> Result<(), Fault> {
+        let (name, parts) = definition.split_once(' ').ok_or(Fault::Malformed)?;
+        let text = texts.join(alloc, name)?;
+        self.put_saved(&text, &texts.join(alloc, parts)?)
+    }
+
+    /// Puts the head of the service whose file is the text, with these saved bytes, behind the bytes.
+    fn put_saved(&mut self, text: &[u8], saved: &[u8]) -> Result<(), Fault> {
+        if text.len() > MAX_TEXT_BYTES || saved.len() > MAX_SAVED_BYTES {
+            return Err(Fault::Malformed);
+        }
+        self.sum = put_saved_head(&mut self.bytes, text, saved)?;
         Ok(())
     }
 

@@ -36,6 +36,8 @@ enum Subject {
     Serves,
     /// Runs of the whole program that serve links, or answer requests, beside a journal.
     Journals,
+    /// The same of journals that begin at saved worlds.
+    Anew,
     /// Journals that are cut at each byte of their ends.
     Torn,
     /// Runs of the whole program that check services.
@@ -68,6 +70,7 @@ impl Subject {
             Subject::Sessions => "world.cases",
             Subject::Serves => "serve.cases",
             Subject::Journals => "journal.cases",
+            Subject::Anew => "anew.cases",
             Subject::Torn => "torn.cases",
             Subject::Checks => "check.cases",
             Subject::Sources => "source.cases",
@@ -84,11 +87,12 @@ impl Subject {
 }
 
 /// What is tried, in this order.
-const SUBJECTS: [Subject; 15] = [
+const SUBJECTS: [Subject; 16] = [
     Subject::Runs,
     Subject::Sessions,
     Subject::Serves,
     Subject::Journals,
+    Subject::Anew,
     Subject::Torn,
     Subject::Checks,
     Subject::Sources,
@@ -115,6 +119,7 @@ fn try_case<R: Threads + Sync>(
         | Subject::Sessions
         | Subject::Serves
         | Subject::Journals
+        | Subject::Anew
         | Subject::Checks
         | Subject::Sources
         | Subject::Examples

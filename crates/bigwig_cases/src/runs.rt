@@ -16,16 +16,18 @@
 //! - `journal NAME`: there is a journal of this name; where there is no such line, there is no file of one
 //! - `journal_head PARTS`, `journal_entry KEY PARTS`, `journal_bytes PARTS`: behind what it holds are the head of the
 //!   service whose file is the text, the entry of a key and a message, these bytes
+//! - `journal_saved NAME PARTS`: so is the head of the service whose file is the text of that name, which begins at the saved
+//!   world of these bytes
 //! - `journal_cut N`, `journal_turn N`: then its last N bytes are cut off; the byte behind the first N is another one
 //! - `journal_read_piece N`, `journal_failing_reads N ..`: as of files
-//! - `journal_failing_openings N ..`, `journal_failing_calls N ..`: the numbers of its openings that fail, and of the cuts
-//!   and pieces kept since it was opened; none
+//! - `journal_failing_openings N ..`, `journal_failing_calls N ..`: the numbers of its openings that fail, and of the cuts,
+//!   pieces kept and steps of a new file since it was opened; none
 //!
 //! and wants, by `status N`, `drawn N` and `output PARTS`, the exit code, how many keys are drawn, and all that is
 //! printed; 0, 0 and nothing. It wants, by `port N`, that this port is asked for, and none where there is no such line;
 //! and, by a line `holds PARTS` for each link that is given back, what that link then holds. It wants, by `kept_head PARTS`,
-//! `kept_entry KEY PARTS` and `kept_bytes PARTS`, that the journal then holds these, one behind the other, and by `kept` in
-//! front of them, what it held before; nothing where there is no such line.
+//! `kept_saved NAME PARTS`, `kept_entry KEY PARTS` and `kept_bytes PARTS`, that the journal then holds these, one behind the
+//! other, and by `kept` in front of them, what it held before; nothing where there is no such line.
 //!
 //! A line `again NAME` ends a run. What its lines want of it has to come; then another run begins, with the same words, files
 //! and keys, and with the journal as it is left, as the file of this name. So does a line `printed NAME N`, which wants that what

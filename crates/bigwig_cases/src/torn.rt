@@ -1,11 +1,11 @@
-//! Journals that are torn. A case has lines `file ..`, `link ..`, `keys ..`, `journal NAME` and then `journal_head PARTS` and
-//! `journal_entry KEY PARTS`, as those of whole runs, with one link.
+//! Journals that are torn. A case has lines `file ..`, `link ..`, `keys ..`, `journal NAME` and then `journal_head PARTS`, or
+//! `journal_saved NAME PARTS`, and `journal_entry KEY PARTS`, as those of whole runs, with one link.
 //!
-//! The journal is cut at each byte of its last two parts, where its head is a part as each entry is, and the program is begun
-//! with what is left: `serve s --journal j`. Whichever byte it is, the link is to be answered as behind the entries that are
-//! whole, and the journal then to hold these, and behind them the entry of the link's bytes with the first key. By a line
-//! `holds N PARTS` for each number of whole entries that is left, the case wants what the link then holds, and by `cuts N` that
-//! there are so many cuts.
+//! The journal is cut at each byte of its last two parts, where its head is a part as each entry is (but one with a saved world is
+//! none of the two: a part of it is damage), and the program is begun with what is left: `serve s --journal j`. Whichever byte it
+//! is, the link is to be answered as behind the entries that are whole, and the journal then to hold these, and behind them the
+//! entry of the link's bytes with the first key. By a line `holds N PARTS` for each number of whole entries that is left, the case
+//! wants what the link then holds, and by `cuts N` that there are so many cuts.
 use crate::journal::JournalBytes;
 use crate::outcomes::{Outcome, outcome_of};
 use crate::outside::Outside;
@@ -96,7 +96,7 @@ impl<'a> TornCase<'a> {
                 self.message = texts.join(alloc, line.value)?;
                 self.outside.take(alloc, texts, line)
             }
-            "journal_head" | "journal_entry" => {
+            "journal_head" | "journal_saved" | "journal_entry" => {
                 self.outside.take(alloc, texts, line)?;
                 self.states.push(self.outside.journal.holds.copy(alloc)?)?;
                 Ok(())

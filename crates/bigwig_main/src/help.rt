@@ -18,6 +18,8 @@ bigwig serve SERVICE             checks the service, and serves it to browsers o
   --port N                       at this port, from 1 to 65535; else at 8080
   --limit N                      for N connections at most, from 1 to 1000000; else for 1000000
   --journal FILE, --load FILE    as replay has them
+  --rotate BYTES                 begins a journal of more bytes anew as the server starts, at what waits then; from 1 to
+                                 4000000000, and only beside a journal
 bigwig valid PAGE                says 'valid', or which element of the page breaks which rule
   --schema FILE                  as check has it
 bigwig make N                    makes a service of N pages, from 1 to 250, checks it and runs it
@@ -29,6 +31,8 @@ bigwig freeze SERVICE REQUESTS   answers the requests of a file, and prints what
   --schema FILE, --workers N     as check has them, and --show-source
   --formats FILE, --limit N      as replay has them
   --load FILE                    as replay has it
+  --journal FILE                 in place of REQUESTS, --limit and --load: prints what waits in the world that this
+                                 journal brings back, and does nothing to it
 bigwig visit SERVICE SCRIPT      checks the service, and visits it: the first line of the script is a session's name, and
                                  each further one fills in the next page, as 'name=Anna&age=42'
   --schema FILE, --workers N     as check has them, and --show-source

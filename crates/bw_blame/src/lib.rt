@@ -5,6 +5,7 @@ mod declarations;
 mod demands;
 mod expressions;
 pub mod laws;
+mod parts;
 pub mod site;
 mod statements;
 mod templates;

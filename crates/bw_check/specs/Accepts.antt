@@ -1,5 +1,5 @@
 -- When a service is accepted, and when each refusal comes.
-use Rattle.std.specs.Prelude.{◌≡◌, ◌<◌, ◌≤◌, List, []}
+use Rattle.std.specs.Prelude.{◌≡◌, ◌<◌, ◌≤◌, List, [], ⊤}
 use Rattle.bw_analyse.specs.declared.facts.Facts.{Facts}
 use Rattle.bw_analyse.specs.Facts.{AreFacts}
 use Rattle.bw_analyse.specs.Least.{IsTooLarge}
@@ -32,6 +32,11 @@ Accepts service schema = (facts : Facts) × IsAccepted service schema facts
 -- these are its faults, in their order and without doubles
 abbrev pub AreFaults : Service → Schema → List Fault → Type 0
 AreFaults service schema l = (facts : Facts) × AreFacts service facts × Lists (IsServiceFault service schema facts) l
+
+-- the refusal is none by a list of faults
+abbrev pub HasNoList : CheckFault → Type 0
+HasNoList (Refused l) = ⊥
+HasNoList fault = ⊤
 
 -- when each refusal comes; want of memory is free
 abbrev pub IsCheckFault : Service → Schema → CheckFault → Type 0

@@ -4,7 +4,8 @@ ghost use Rattle.bw_analyse.specs.Facts.{AreFacts};
 ghost use Rattle.bw_analyse.specs.Least.{IsTooLarge};
 ghost use Rattle.bw_faults.specs.Lists.{Lists};
 ghost use Rattle.bw_flow.specs.Layout.{plan_of, points};
-ghost use Rattle.bw_check.specs.Accepts.{Accepts, IsAccepted, IsCheckFault};
+ghost use Rattle.bw_check.specs.Accepts.{Accepts, HasNoList, IsAccepted, IsCheckFault};
+ghost use Rattle.bw_check.specs.Findings.{AreFindings};
 ghost use Rattle.bw_check.specs.Faults.{IsServiceFault};
 ghost use Rattle.bw_schema.specs.declared.schema.Schema.{Schema};
 ghost use Rattle.bw_flow.specs.declared.lowering.TheConstants.{MAX_POINTS};
@@ -88,6 +89,7 @@ fn faults_of<R: Threads + Sync, P: Pulse>(
 fn flow_of(alloc: Global, typed: &Typed) -> Result<Flow, CheckFault>
     ensures flow { IfOk result (λ f. (f ≡ plan_of typed.now.service) × (points typed.now.service.sessions ≤ MAX_POINTS)) }
     ensures fault { IfErr result (λ e. (schema : Schema) → IsCheckFault typed.now.service schema e) }
+    ensures limit { IfErr result HasNoList }
 {
     match lower(alloc, typed) {
         Ok(flow) => Ok(flow),
@@ -103,12 +105,50 @@ fn facts_of(alloc: Global, typed: &Typed, flow: &Flow) -> Result<Facts, CheckFau
     ensures facts { IfOk result (AreFacts typed.now.service) }
     ensures within { IfOk result (λ f. ¬ (IsTooLarge typed.now.service MAX_MEMBERS)) }
     ensures fault { IfErr result (λ e. (schema : Schema) → IsCheckFault typed.now.service schema e) }
+    ensures limit { IfErr result HasNoList }
 {
     match analyse(alloc, typed, flow) {
         Ok(facts) => Ok(facts),
         Err(AnalyseFault::TooLarge(members)) => Err(CheckFault::TooLarge(members)),
         Err(AnalyseFault::Memory) => Err(CheckFault::Memory),
     }
+}
+
+/// What is found of a service that keeps its limits.
+#[derive(Drop)]
+pub struct Findings {
+    /// Its flow.
+    pub flow: Flow,
+    /// What is known of its variables and pages.
+    pub facts: Facts,
+    /// All its faults by the schema, in their order and without doubles. The service is accepted where there is none.
+    pub faults: Faults,
+}
+
+/// Finds all faults of a service by a schema, as `check` does, which are lent: so what was found can be shown.
+///
+/// `TooMany` and `TooLarge` come exactly where the service is past these limits, in this order, `Memory` may come at any
+/// place, and `Refused` never comes.
+pub fn find_faults<R: Threads + Sync, P: Pulse>(
+    rt: &R,
+    alloc: Global,
+    typed: &Typed,
+    schema: &Schema,
+    workers: u32,
+    pulse: &P,
+) -> Result<Findings, CheckFault>
+    ensures found { IfOk result (AreFindings typed.now.service schema.now) }
+    ensures fault { IfErr result (IsCheckFault typed.now.service schema.now) }
+    ensures limit { IfErr result HasNoList }
+{
+    let flow = flow_of(alloc, typed)?;
+    let facts = facts_of(alloc, typed, &flow)?;
+    let faults = faults_of(rt, alloc, typed, &flow, &facts, schema, workers, pulse)?;
+    Ok(Findings {
+        flow,
+        facts,
+        faults,
+    })
 }
 
 /// The flow and the facts of a service that is accepted by a schema, or why it isn't.
@@ -123,9 +163,12 @@ fn judged<R: Threads + Sync, P: Pulse>(
     ensures accepted { IfOk result (λ r. (r.0 ≡ plan_of typed.now.service) × IsAccepted typed.now.service schema.now r.1) }
     ensures fault { IfErr result (IsCheckFault typed.now.service schema.now) }
 {
-    let flow = flow_of(alloc, typed)?;
-    let facts = facts_of(alloc, typed, &flow)?;
-    let faults = faults_of(rt, alloc, typed, &flow, &facts, schema, workers, pulse)?;
+    let found = find_faults(rt, alloc, typed, schema, workers, pulse)?;
+    let Findings {
+        flow,
+        facts,
+        faults,
+    } = found;
     if faults.len() > 0 {
         return Err(CheckFault::Refused(faults));
     }

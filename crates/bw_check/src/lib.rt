@@ -10,5 +10,5 @@ pub mod laws;
 mod pieces;
 
 pub use checked::Checked;
-pub use checking::check;
+pub use checking::{Findings, check, find_faults};
 pub use fault::CheckFault;

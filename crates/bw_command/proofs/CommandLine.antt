@@ -28,8 +28,9 @@ pub same_line : (l : Line) (rows : List Row) → text_of l.command ≡ first_of 
     → text_of l.schema ≡ first_of (codes "schema") rows → text_of l.workers ≡ first_of (codes "workers") rows
     → text_of l.limit ≡ first_of (codes "limit") rows → text_of l.port ≡ first_of (codes "port") rows
     → text_of l.formats ≡ first_of (codes "formats") rows → text_of l.journal ≡ first_of (codes "journal") rows
-    → text_of l.load ≡ first_of (codes "load") rows → text_of l.source ≡ first_of (codes "show-source") rows → line_of l ≡ written_in rows
-same_line l rows a b c d e f g h j m k =
+    → text_of l.load ≡ first_of (codes "load") rows → text_of l.rotate ≡ first_of (codes "rotate") rows
+    → text_of l.source ≡ first_of (codes "show-source") rows → line_of l ≡ written_in rows
+same_line l rows a b c d e f g h j m n k =
     λ i. record {
       command = a i;
       first = b i;
@@ -41,6 +42,7 @@ same_line l rows a b c d e f g h j m k =
       formats = h i;
       journal = j i;
       load = m i;
+      rotate = n i;
       source = k i;
     }
 

@@ -2,12 +2,12 @@
 use Rattle.std.specs.Prelude.{◌≤◌, ⊤, ℕ, Bool, false, not, ◌&&◌, ◌||◌, is_none, List, [], ◌∷◌, Option, None, Some, bytes_eq, codes, if◌then◌else◌}
 use Rattle.clap.specs.Kinds.{Kinds}
 use Rattle.clap.specs.Words.{fault_of}
-use Rattle.bw_command.specs.Numbers.{number_in, number_or}
+use Rattle.bw_command.specs.Numbers.{number_if, number_in, number_or}
 use Rattle.bw_command.specs.Words.{Written, bigwig, written_by}
 use Rattle.bw_command.specs.declared.command.Command.{Command}
-use Rattle.bw_command.specs.declared.command.Command.TheVariants.{Check, Replay, Resume, Serve, Keep, Valid, Make, Light, Freeze, Visit}
+use Rattle.bw_command.specs.declared.command.Command.TheVariants.{Check, Replay, Resume, Serve, Keep, Valid, Make, Light, Freeze, Preserve, Visit}
 use Rattle.bw_command.specs.declared.command.Judging.{Judging}
-use Rattle.bw_command.specs.declared.command.TheConstants.{DEFAULT_PORT, MAX_LINKS, MAX_PORT, MAX_REQUESTS, MAX_WORKERS}
+use Rattle.bw_command.specs.declared.command.TheConstants.{DEFAULT_PORT, MAX_LINKS, MAX_PORT, MAX_REQUESTS, MAX_ROTATE, MAX_WORKERS}
 use Rattle.bw_make.specs.declared.TheConstants.{MAX_PAGES}
 
 -- a flag is written
@@ -26,7 +26,7 @@ judging_by w = judging_of w.schema (number_or 1 MAX_WORKERS 1 w.workers) (is_wri
 
 -- no option is there but the schema, the workers and the flag
 abbrev pub has_judging_alone : Written → Bool
-has_judging_alone w = is_none w.limit && (is_none w.port && (is_none w.formats && (is_none w.journal && is_none w.load)))
+has_judging_alone w = is_none w.limit && (is_none w.port && (is_none w.formats && (is_none w.journal && (is_none w.load && is_none w.rotate))))
 
 -- check SERVICE
 abbrev pub check_of : Option (List ℕ) → Option (List ℕ) → Option Judging → Option Command
@@ -52,24 +52,30 @@ replay_of service requests judging formats journal load most = None
 
 abbrev pub replay_by : Written → Option Command
 replay_by w =
-    if is_none w.port && begins_once w
+    if is_none w.port && (is_none w.rotate && begins_once w)
     then replay_of w.first w.second (judging_by w) w.formats w.journal w.load (number_or 1 MAX_REQUESTS MAX_REQUESTS w.limit) else None
 
+-- where it is said when a journal is begun anew, one is named
+abbrev pub rotates_one : Written → Bool
+rotates_one w = is_none w.rotate || not (is_none w.journal)
+
 -- the command that serves a service, beside a journal where one is named
-abbrev pub serving : List ℕ → Judging → Option (List ℕ) → Option (List ℕ) → Option (List ℕ) → ℕ → ℕ → Command
-serving service judging formats None load port most = Serve service judging formats load port most
-serving service judging formats (Some journal) load port most = Keep service judging formats journal port most
+abbrev pub serving : List ℕ → Judging → Option (List ℕ) → Option (List ℕ) → Option (List ℕ) → Option ℕ → ℕ → ℕ → Command
+serving service judging formats None load rotate port most = Serve service judging formats load port most
+serving service judging formats (Some journal) load rotate port most = Keep service judging formats journal rotate port most
 
 -- serve SERVICE, with the formats, beside the journal and from the saved sessions that are named, if they are
-abbrev pub serve_of : Option (List ℕ) → Option (List ℕ) → Option Judging → Option (List ℕ) → Option (List ℕ) → Option (List ℕ) → Option ℕ → Option ℕ
-    → Option Command
-serve_of (Some service) None (Some judging) formats journal load (Some port) (Some most) = Some (serving service judging formats journal load port most)
-serve_of service second judging formats journal load port most = None
+abbrev pub serve_of : Option (List ℕ) → Option (List ℕ) → Option Judging → Option (List ℕ) → Option (List ℕ) → Option (List ℕ) → Option (Option ℕ)
+    → Option ℕ → Option ℕ → Option Command
+serve_of (Some service) None (Some judging) formats journal load (Some rotate) (Some port) (Some most) =
+    Some (serving service judging formats journal load rotate port most)
+serve_of service second judging formats journal load rotate port most = None
 
 abbrev pub serve_by : Written → Option Command
 serve_by w =
-    if begins_once w
-    then serve_of w.first w.second (judging_by w) w.formats w.journal w.load (number_or 1 MAX_PORT DEFAULT_PORT w.port) (number_or 1 MAX_LINKS MAX_LINKS w.limit)
+    if begins_once w && rotates_one w
+    then serve_of w.first w.second (judging_by w) w.formats w.journal w.load (number_if 1 MAX_ROTATE w.rotate)
+    (number_or 1 MAX_PORT DEFAULT_PORT w.port) (number_or 1 MAX_LINKS MAX_LINKS w.limit)
     else None
 
 -- freeze SERVICE REQUESTS, with the formats and from the saved sessions that are named, if they are
@@ -77,16 +83,32 @@ abbrev pub freeze_of : Option (List ℕ) → Option (List ℕ) → Option Judgin
 freeze_of (Some service) (Some requests) (Some judging) formats load (Some most) = Some (Freeze service requests judging formats load most)
 freeze_of service requests judging formats load most = None
 
+abbrev pub requests_by : Written → Option Command
+requests_by w = freeze_of w.first w.second (judging_by w) w.formats w.load (number_or 1 MAX_REQUESTS MAX_REQUESTS w.limit)
+
+-- freeze SERVICE, where a journal is named: what waits in the world that it brings about is saved
+abbrev pub preserve_of : Option (List ℕ) → Option (List ℕ) → Option Judging → Option (List ℕ) → List ℕ → Option Command
+preserve_of (Some service) None (Some judging) formats journal = Some (Preserve service judging formats journal)
+preserve_of service second judging formats journal = None
+
+abbrev pub preserve_by : Written → List ℕ → Option Command
+preserve_by w journal =
+    if is_none w.limit && is_none w.load then preserve_of w.first w.second (judging_by w) w.formats journal else None
+
+-- one of both, by the journal that is named, if one is
+abbrev pub freezing_by : Written → Option (List ℕ) → Option Command
+freezing_by w None = requests_by w
+freezing_by w (Some journal) = preserve_by w journal
+
 abbrev pub freeze_by : Written → Option Command
-freeze_by w =
-    if is_none w.port && is_none w.journal
-    then freeze_of w.first w.second (judging_by w) w.formats w.load (number_or 1 MAX_REQUESTS MAX_REQUESTS w.limit) else None
+freeze_by w = if is_none w.port && is_none w.rotate then freezing_by w w.journal else None
 
 -- no option is there but the schema
 abbrev pub has_schema_alone : Written → Bool
 has_schema_alone w =
     is_none w.workers
-    && (is_none w.limit && (is_none w.port && (is_none w.formats && (is_none w.journal && (is_none w.load && not (is_written w.source))))))
+    && (is_none w.limit
+    && (is_none w.port && (is_none w.formats && (is_none w.journal && (is_none w.load && (is_none w.rotate && not (is_written w.source)))))))
 
 -- valid PAGE
 abbrev pub valid_of : Option (List ℕ) → Option (List ℕ) → Option (List ℕ) → Option Command
@@ -100,7 +122,8 @@ valid_by w = if has_schema_alone w then valid_of w.first w.second w.schema else 
 abbrev pub has_workers_alone : Written → Bool
 has_workers_alone w =
     is_none w.schema
-    && (is_none w.limit && (is_none w.port && (is_none w.formats && (is_none w.journal && (is_none w.load && not (is_written w.source))))))
+    && (is_none w.limit
+    && (is_none w.port && (is_none w.formats && (is_none w.journal && (is_none w.load && (is_none w.rotate && not (is_written w.source)))))))
 
 -- make N
 abbrev pub make_of : Option ℕ → Option (List ℕ) → Option ℕ → Option Command
@@ -120,7 +143,8 @@ abbrev pub has_no_option : Written → Bool
 has_no_option w =
     is_none w.schema
     && (is_none w.workers
-    && (is_none w.limit && (is_none w.port && (is_none w.formats && (is_none w.journal && (is_none w.load && not (is_written w.source)))))))
+    && (is_none w.limit
+    && (is_none w.port && (is_none w.formats && (is_none w.journal && (is_none w.load && (is_none w.rotate && not (is_written w.source))))))))
 
 -- light FORMATS TEXTS
 abbrev pub light_of : Option (List ℕ) → Option (List ℕ) → Option Command
@@ -132,7 +156,7 @@ light_by w = if has_no_option w then light_of w.first w.second else None
 
 -- no option is there but the schema, the workers, the formats and the flag
 abbrev pub has_visiting_alone : Written → Bool
-has_visiting_alone w = is_none w.limit && (is_none w.port && (is_none w.journal && is_none w.load))
+has_visiting_alone w = is_none w.limit && (is_none w.port && (is_none w.journal && (is_none w.load && is_none w.rotate)))
 
 -- visit SERVICE SCRIPT, with the formats that are named, if they are
 abbrev pub visit_of : Option (List ℕ) → Option (List ℕ) → Option Judging → Option (List ℕ) → Option Command
@@ -180,11 +204,12 @@ IsInRange (Check service judging) = AreWorkers judging.workers
 IsInRange (Replay service requests judging formats load most) = AreWorkers judging.workers
 IsInRange (Resume service requests judging formats journal most) = AreWorkers judging.workers
 IsInRange (Serve service judging formats load port most) = AreWorkers judging.workers
-IsInRange (Keep service judging formats journal port most) = AreWorkers judging.workers
+IsInRange (Keep service judging formats journal rotate port most) = AreWorkers judging.workers
 IsInRange (Valid page schema) = ⊤
 IsInRange (Make count workers) = (1 ≤ count) × (count ≤ MAX_PAGES) × AreWorkers workers
 IsInRange (Light formats texts) = ⊤
 IsInRange (Freeze service requests judging formats load most) = AreWorkers judging.workers
+IsInRange (Preserve service judging formats journal) = AreWorkers judging.workers
 IsInRange (Visit service script judging formats) = AreWorkers judging.workers
 
 -- ---- groups
@@ -195,14 +220,15 @@ AsksToReplay (Replay service requests judging formats load most) = ⊤
 AsksToReplay (Resume service requests judging formats journal most) = ⊤
 AsksToReplay _ = ⊥
 
--- the command is `freeze` or `visit`
+-- the command is `freeze`, beside a journal or not, or `visit`
 abbrev pub AsksApart : Command → Type 0
 AsksApart (Freeze service requests judging formats load most) = ⊤
+AsksApart (Preserve service judging formats journal) = ⊤
 AsksApart (Visit service script judging formats) = ⊤
 AsksApart _ = ⊥
 
 -- the command is `serve`, beside a journal or not
 abbrev pub AsksToServe : Command → Type 0
 AsksToServe (Serve service judging formats load port most) = ⊤
-AsksToServe (Keep service judging formats journal port most) = ⊤
+AsksToServe (Keep service judging formats journal rotate port most) = ⊤
 AsksToServe _ = ⊥

@@ -1,5 +1,5 @@
 -- The numbers of options.
-use Rattle.std.specs.Prelude.{ℕ, Bool, cond, not, ◌&&◌, ◌||◌, ◌==◌, nat_lt, nat_le, List, length, Option, Some, None, slice_index}
+use Rattle.std.specs.Prelude.{ℕ, Bool, cond, not, ◌&&◌, ◌||◌, ◌==◌, nat_lt, nat_le, List, length, Option, Some, None, slice_index, option_map}
 use Rattle.std.specs.List.{list_all}
 use Rattle.std.specs.Char.{is_ascii_digit}
 use Rattle.std.specs.Str.Parse.{digits_value}
@@ -16,3 +16,8 @@ number_in least most t = cond (is_number t && nat_le least (digits_value 10 t) &
 abbrev pub number_or : (least most other : ℕ) → Option (List ℕ) → Option ℕ
 number_or least most other None = Some other
 number_or least most other (Some t) = number_in least most t
+
+-- the number of an option that may be left out: none where it isn't there
+abbrev pub number_if : (least most : ℕ) → Option (List ℕ) → Option (Option ℕ)
+number_if least most None = Some None
+number_if least most (Some t) = option_map Some (number_in least most t)

@@ -14,6 +14,9 @@ pub const MAX_PORT: u32 = 65_535;
 /// The port that is served where none is named.
 pub const DEFAULT_PORT: u16 = 8080;
 
+/// The greatest number of bytes of a journal that isn't begun anew.
+pub const MAX_ROTATE: u32 = 4_000_000_000;
+
 /// The greatest number of workers.
 pub const MAX_WORKERS: u32 = 16;
 
@@ -98,6 +101,8 @@ pub enum Command {
         formats: Option<Text>,
         /// The name of the journal.
         journal: Text,
+        /// The journal is begun anew if it has more bytes than these. Where there is no number, it never is.
+        rotate: Option<u32>,
         /// The port.
         port: u16,
         /// The greatest number of links that are served.
@@ -137,6 +142,16 @@ pub enum Command {
         load: Option<Text>,
         /// The greatest number of requests that are answered.
         most: u32,
+    },
+    /// To save what waits in the world that a journal brings about.
+    Preserve {
+        /// The name of the service file.
+        service: Text,
+        judging: Judging,
+        /// The name of the file of formats. Where there is none, no field has a format.
+        formats: Option<Text>,
+        /// The name of the journal.
+        journal: Text,
     },
     /// To visit a session by a script.
     Visit {

@@ -8,7 +8,8 @@ mod reading;
 mod words;
 
 pub use command::{
-    Command, DEFAULT_PORT, Judging, MAX_LINKS, MAX_PORT, MAX_REQUESTS, MAX_WORKERS, Named,
+    Command, DEFAULT_PORT, Judging, MAX_LINKS, MAX_PORT, MAX_REQUESTS, MAX_ROTATE, MAX_WORKERS,
+    Named,
 };
 pub use reading::read_words;
 pub use words::WordsFault;

@@ -39,3 +39,16 @@ pub fn number_or(least: u32, most: u32, other: u32, text: Option<&str>) -> Optio
         Some(text) => number_in(least, most, text),
     }
 }
+
+/// The number of an option that may be left out, and none where it isn't there.
+pub fn number_if(least: u32, most: u32, text: Option<&str>) -> Option<Option<u32>>
+    ensures { result ≡ spec.number_if least most (text_of text.entry) }
+{
+    match text {
+        None => Some(None),
+        Some(text) => match number_in(least, most, text) {
+            Some(number) => Some(Some(number)),
+            None => None,
+        },
+    }
+}

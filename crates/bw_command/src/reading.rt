@@ -7,9 +7,9 @@ ghost use Rattle.bw_command.specs.declared.command.TheConstants.{DEFAULT_PORT, M
 
 use crate::apart::{freeze_by, visit_by};
 use crate::command::{
-    Command, DEFAULT_PORT, Judging, MAX_LINKS, MAX_PORT, MAX_REQUESTS, MAX_WORKERS,
+    Command, DEFAULT_PORT, Judging, MAX_LINKS, MAX_PORT, MAX_REQUESTS, MAX_ROTATE, MAX_WORKERS,
 };
-use crate::numbers::{number_in, number_or};
+use crate::numbers::{number_if, number_in, number_or};
 use crate::words::{Line, WordsFault, read_line, texts_of};
 use bw_lang::{Memory, Text, Words};
 use bw_make::MAX_PAGES;
@@ -114,6 +114,7 @@ fn check_by(alloc: Global, line: &Line<'_>) -> Result<Command, WordsFault>
         || line.formats.is_some()
         || line.journal.is_some()
         || line.load.is_some()
+        || line.rotate.is_some()
         || line.second.is_some()
     {
         return Err(WordsFault::Refused);
@@ -133,12 +134,19 @@ fn begins_once(line: &Line<'_>) -> bool
     line.journal.is_none() || line.load.is_none()
 }
 
+/// Whether a journal is named where it is said when it is begun anew.
+fn rotates_one(line: &Line<'_>) -> bool
+    ensures { result ≡ spec.rotates_one (words.line_of line.now) }
+{
+    line.rotate.is_none() || line.journal.is_some()
+}
+
 /// `replay SERVICE REQUESTS`, beside a journal or from saved sessions where they are named.
 fn replay_by(alloc: Global, line: &Line<'_>) -> Result<Command, WordsFault>
     ensures ok { IfOk result (λ c. (spec.replay_by (words.line_of line.now) ≡ Some c) × spec.IsInRange c) }
     ensures refused { IsErrOf result WordsFault.Refused → spec.replay_by (words.line_of line.now) ≡ None }
 {
-    if line.port.is_some() || !begins_once(line) {
+    if line.port.is_some() || line.rotate.is_some() || !begins_once(line) {
         return Err(WordsFault::Refused);
     }
     let service = line.first.ok_or(WordsFault::Refused)?;
@@ -173,10 +181,11 @@ fn serve_by(alloc: Global, line: &Line<'_>) -> Result<Command, WordsFault>
     ensures ok { IfOk result (λ c. (spec.serve_by (words.line_of line.now) ≡ Some c) × spec.IsInRange c) }
     ensures refused { IsErrOf result WordsFault.Refused → spec.serve_by (words.line_of line.now) ≡ None }
 {
-    if line.second.is_some() || !begins_once(line) {
+    if line.second.is_some() || !begins_once(line) || !rotates_one(line) {
         return Err(WordsFault::Refused);
     }
     let service = line.first.ok_or(WordsFault::Refused)?;
+    let rotate = number_if(1, MAX_ROTATE, line.rotate).ok_or(WordsFault::Refused)?;
     let port = port_of(line.port).ok_or(WordsFault::Refused)?;
     let most = number_or(1, MAX_LINKS, MAX_LINKS, line.limit).ok_or(WordsFault::Refused)?;
     let judging = judging_by(alloc, line)?;
@@ -196,6 +205,7 @@ fn serve_by(alloc: Global, line: &Line<'_>) -> Result<Command, WordsFault>
             judging,
             formats,
             journal: owned(alloc, journal)?,
+            rotate,
             port,
             most,
         }),
@@ -226,6 +236,7 @@ fn valid_by(alloc: Global, line: &Line<'_>) -> Result<Command, WordsFault>
         || line.formats.is_some()
         || line.journal.is_some()
         || line.load.is_some()
+        || line.rotate.is_some()
         || is_written(line.source)
         || line.second.is_some()
     {
@@ -249,6 +260,7 @@ fn make_by(line: &Line<'_>) -> Result<Command, WordsFault>
         || line.formats.is_some()
         || line.journal.is_some()
         || line.load.is_some()
+        || line.rotate.is_some()
         || is_written(line.source)
         || line.second.is_some()
     {
@@ -272,6 +284,7 @@ fn light_by(alloc: Global, line: &Line<'_>) -> Result<Command, WordsFault>
         || line.formats.is_some()
         || line.journal.is_some()
         || line.load.is_some()
+        || line.rotate.is_some()
         || is_written(line.source)
     {
         return Err(WordsFault::Refused);

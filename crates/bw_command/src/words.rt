@@ -21,6 +21,7 @@ pub struct Line<'a> {
     pub formats: Option<&'a str>,
     pub journal: Option<&'a str>,
     pub load: Option<&'a str>,
+    pub rotate: Option<&'a str>,
     /// `true` where the source of a refusal is shown, and else `false`.
     pub source: Option<&'a str>,
 }
@@ -77,7 +78,7 @@ fn bare<'a>(alloc: Global) -> Command<'a>
         .disable_version_flag(true)
 }
 
-/// The whole command line: a command word, up to two further words, seven options and a flag.
+/// The whole command line: a command word, up to two further words, eight options and a flag.
 fn whole<'a>(alloc: Global) -> Result<Command<'a>, AllocError>
     ensures { IfOk result (λ r. app_of r ≡ bigwig) }
 {
@@ -91,6 +92,7 @@ fn whole<'a>(alloc: Global) -> Result<Command<'a>, AllocError>
     let c = with_option(alloc, c, "formats")?;
     let c = with_option(alloc, c, "journal")?;
     let c = with_option(alloc, c, "load")?;
+    let c = with_option(alloc, c, "rotate")?;
     with_flag(alloc, c, "show-source")
 }
 
@@ -109,6 +111,7 @@ fn line_of<'a>(matches: &ArgMatches<'a>) -> Line<'a>
         formats: matches.get_str("formats"),
         journal: matches.get_str("journal"),
         load: matches.get_str("load"),
+        rotate: matches.get_str("rotate"),
         source: matches.get_str("show-source"),
     }
 }

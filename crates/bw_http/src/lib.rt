@@ -17,7 +17,9 @@ mod replies;
 mod request;
 mod settled;
 
+pub use form::read_form;
 pub use intake::Intake;
+pub use paths::is_word;
 pub use reading::{Lack, read_request};
 pub use replies::{Allow, Reply, write_reply};
 pub use request::{Method, Path, ReadOutcome, Request};

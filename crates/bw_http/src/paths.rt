@@ -71,8 +71,8 @@ fn are_word_bytes(text: &[u8]) -> bool
     text.iter().all(|b| is_word_byte(*b))
 }
 
-/// Whether it is a word, as sessions have for names.
-fn is_word(bytes: &[u8]) -> bool
+/// Whether it is a word, as sessions have for names: letters, digits and `_`, and no digit in front.
+pub fn is_word(bytes: &[u8]) -> bool
     ensures word { IsTrue result → IsWord bytes.now }
     ensures none { IsWord bytes.now → IsTrue result }
 {

@@ -1,9 +1,9 @@
 -- Checks over parts, and an entry that was put behind bytes.
 use Rattle.std.proofs.Common.{◌≡◌, ℕ, List, [], ◌∷◌, ◌++◌, length, refl, ap, ◌∙◌, append_assoc}
 use Rattle.bw_journal.specs.Layout.{four, eight, front_bytes, stirred, sum_of, front_sum, sum_after, entry_bytes}
-use Rattle.bw_journal.specs.Heads.{name_bytes, version_bytes, origin_bytes, head_of, start_sum}
+use Rattle.bw_journal.specs.Heads.{name_bytes, version_bytes, front_of}
 use Rattle.bw_journal.specs.Reading.{entry}
-use Rattle.bw_journal.proofs.HeadParts.{head_parts}
+use Rattle.bw_journal.proofs.HeadParts.{front_parts}
 
 pub sum_of-append : (sum : ℕ) (a b : List ℕ) → sum_of (sum_of sum a) b ≡ sum_of sum (a ++ b)
 unfolding sum_of
@@ -32,25 +32,28 @@ put_is sum key fs after m o o1 o2 o3 o4 o5 l k c e li ki fi ai ci ei p1 p2 p3 p4
     ∙ ap (λ (x : List ℕ). o ++ (front_bytes (length m) key ++ (x ++ (m ++ e)))) cs
     ∙ ap (λ (x : List ℕ). o ++ (front_bytes (length m) key ++ (eight (front_sum sum (entry key m)) ++ (m ++ x)))) es
 
--- the check over the parts of a head
-pub start_is : (text len : List ℕ) (a b c d : ℕ) → len ≡ four (length text) → a ≡ sum_of 0 (name_bytes ++ version_bytes) → b ≡ sum_of a len → c ≡ sum_of b text
-    → d ≡ sum_of c origin_bytes → d ≡ start_sum text
-start_is text len a b c d is p q r s =
+-- the check over the parts of what stands in front of where a journal begins
+pub start_is : (origin : ℕ) (text len : List ℕ) (a b c d : ℕ) → len ≡ four (length text) → a ≡ sum_of 0 (name_bytes ++ version_bytes) → b ≡ sum_of a len
+    → c ≡ sum_of b text
+    → d ≡ sum_of c (origin ∷ []) → d ≡ sum_of 0 (front_of origin text)
+start_is origin text len a b c d is p q r s =
     let ab : b ≡ sum_of 0 ((name_bytes ++ version_bytes) ++ four (length text)) =
     q ∙ ap (λ (n : ℕ). sum_of n len) p ∙ sum_of-append 0 (name_bytes ++ version_bytes) len
     ∙ ap (λ (l : List ℕ). sum_of 0 ((name_bytes ++ version_bytes) ++ l)) is in
     let abc : c ≡ sum_of 0 (((name_bytes ++ version_bytes) ++ four (length text)) ++ text) =
     r ∙ ap (λ (n : ℕ). sum_of n text) ab ∙ sum_of-append 0 ((name_bytes ++ version_bytes) ++ four (length text)) text in
-    s ∙ ap (λ (n : ℕ). sum_of n origin_bytes) abc ∙ sum_of-append 0 (((name_bytes ++ version_bytes) ++ four (length text)) ++ text) origin_bytes
-    ∙ ap (λ (l : List ℕ). sum_of 0 l) (head_parts text)
+    s ∙ ap (λ (n : ℕ). sum_of n (origin ∷ [])) abc ∙ sum_of-append 0 (((name_bytes ++ version_bytes) ++ four (length text)) ++ text) (origin ∷ [])
+    ∙ ap (λ (l : List ℕ). sum_of 0 l) (front_parts origin text)
 
--- the bytes over the parts of a head
-pub head_put : (o o1 o2 o3 o4 text len : List ℕ) → len ≡ four (length text) → o1 ≡ o ++ (name_bytes ++ version_bytes) → o2 ≡ o1 ++ len → o3 ≡ o2 ++ text
-    → o4 ≡ o3 ++ origin_bytes → o4 ≡ o ++ head_of text
-head_put o o1 o2 o3 o4 text len is p q r s =
+-- the bytes over the parts of it
+pub front_put : (origin : ℕ) (o o1 o2 o3 o4 text len : List ℕ) → len ≡ four (length text) → o1 ≡ o ++ (name_bytes ++ version_bytes) → o2 ≡ o1 ++ len
+    → o3 ≡ o2 ++ text
+    → o4 ≡ o3 ++ (origin ∷ []) → o4 ≡ o ++ front_of origin text
+front_put origin o o1 o2 o3 o4 text len is p q r s =
     let l = four (length text) in
-    s ∙ ap (λ (x : List ℕ). x ++ origin_bytes)
+    let last : List ℕ = origin ∷ [] in
+    s ∙ ap (λ (x : List ℕ). x ++ last)
     (r ∙ ap (λ (x : List ℕ). x ++ text) (q ∙ ap (λ (x : List ℕ). x ++ len) p ∙ ap (λ (x : List ℕ). (o ++ (name_bytes ++ version_bytes)) ++ x) is))
-    ∙ ap (λ (x : List ℕ). x ++ origin_bytes)
+    ∙ ap (λ (x : List ℕ). x ++ last)
     (ap (λ (x : List ℕ). x ++ text) (append_assoc o (name_bytes ++ version_bytes) l) ∙ append_assoc o ((name_bytes ++ version_bytes) ++ l) text)
-    ∙ append_assoc o (((name_bytes ++ version_bytes) ++ l) ++ text) origin_bytes ∙ ap (λ (x : List ℕ). o ++ x) (head_parts text)
+    ∙ append_assoc o (((name_bytes ++ version_bytes) ++ l) ++ text) last ∙ ap (λ (x : List ℕ). o ++ x) (front_parts origin text)

@@ -4,4 +4,6 @@ pub mod Lists
 pub mod Numbers
 pub mod Parts
 pub mod Readings
+pub mod SavedWorlds
 pub mod SoFar
+pub mod Starting

@@ -3,7 +3,8 @@ use Rattle.std.proofs.Common.{◌≡◌, ℕ, zero, suc, [], ◌∷◌, replicat
 use Rattle.std.proofs.Common.{arith, inl, inr}
 use Rattle.std.specs.Int.{w32, w64, from_be_bytes}
 use Rattle.std.proofs.lemmas.Bool.{cases_lt}
-use Rattle.std.proofs.lemmas.List.{take-append-drop, length-append, length-take, length-take-le, length-drop, get_or-drop, get_or-take, get_or_past}
+use Rattle.std.proofs.lemmas.List.{take-append-drop, take-append-le, length-append, length-take, length-take-le, length-drop}
+use Rattle.std.proofs.lemmas.List.{get_or-drop, get_or-take, get_or_past}
 use Rattle.std.proofs.lemmas.Nat.{be_bytes_4, be_bytes_8, from_be_bytes-to_be_bytes_4, from_be_bytes-to_be_bytes_8}
 use Rattle.std.proofs.Math.Seq.{take-length}
 use Rattle.bw_journal.specs.Layout.{four, eight, front_bytes}
@@ -138,3 +139,29 @@ least_four bytes more = omega (arith, byte_grows bytes more 0, byte_grows bytes 
 pub four_from_four : (n : ℕ) (more : List ℕ) → n < 2 ^ 32 → from_be_bytes w32 (four n ++ more) ≡ n
 unfolding four
 four_from_four n more lt = from_be_bytes-to_be_bytes_4 n lt
+
+-- ---- the same of eight bytes
+
+pub eight_from_front : (k : ℕ) (bytes : List ℕ) → 8 ≤ k → from_be_bytes w64 (take k bytes) ≡ from_be_bytes w64 bytes
+eight_from_front k bytes le =
+    omega (
+      arith,
+      get_or-take k bytes 0 0 (omega arith),
+      get_or-take k bytes 1 0 (omega arith),
+      get_or-take k bytes 2 0 (omega arith),
+      get_or-take k bytes 3 0 (omega arith),
+      get_or-take k bytes 4 0 (omega arith),
+      get_or-take k bytes 5 0 (omega arith),
+      get_or-take k bytes 6 0 (omega arith),
+      get_or-take k bytes 7 0 (omega arith),
+    )
+
+pub eight_from_eight : (n : ℕ) (more : List ℕ) → n < 2 ^ 64 → from_be_bytes w64 (eight n ++ more) ≡ n
+unfolding eight
+eight_from_eight n more lt = from_be_bytes-to_be_bytes_8 n lt
+
+-- more bytes behind eight make the same number
+pub eight_from_more : (bytes more : List ℕ) → 8 ≤ length bytes → from_be_bytes w64 (bytes ++ more) ≡ from_be_bytes w64 bytes
+eight_from_more bytes more le =
+    sym (eight_from_front 8 (bytes ++ more) (omega arith)) ∙ ap (λ (b : List ℕ). from_be_bytes w64 b) (take-append-le 8 bytes more le)
+    ∙ eight_from_front 8 bytes (omega arith)

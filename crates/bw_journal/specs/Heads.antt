@@ -3,7 +3,7 @@ use Rattle.std.specs.Prelude.{ℕ, ◌≡◌, ◌≢◌, ◌<◌, ◌≤◌, ◌
 use Rattle.bw_journal.specs.Layout.{four, sum_of}
 use Rattle.bw_journal.specs.Reading.{IsCut}
 use Rattle.bw_journal.specs.declared.heads.Head.{Head}
-use Rattle.bw_journal.specs.declared.heads.Head.TheVariants.{Begun, Whole, Version, Other, Damaged}
+use Rattle.bw_journal.specs.declared.heads.Head.TheVariants.{Begun, Whole, Saved, Version, Other, Damaged}
 
 -- what each journal begins with
 abbrev pub name_bytes : List ℕ
@@ -13,17 +13,21 @@ name_bytes = codes "BWJOURNAL"
 abbrev pub version_bytes : List ℕ
 version_bytes = 49 ∷ (10 ∷ [])
 
--- the journal begins at the world in which nothing was requested yet
-abbrev pub origin_bytes : List ℕ
-origin_bytes = 0 ∷ []
+-- a service's file behind its length, and a byte that says where the journal begins
+abbrev pub text_bytes : ℕ → List ℕ → List ℕ
+text_bytes origin text = four (length text) ++ (text ++ (origin ∷ []))
 
--- a service's file behind its length, and where the journal begins
-abbrev pub text_bytes : List ℕ → List ℕ
-text_bytes text = four (length text) ++ (text ++ origin_bytes)
+-- what stands in front of where a journal begins: the service whose file this is, and that byte
+abbrev pub front_of : ℕ → List ℕ → List ℕ
+front_of origin text = name_bytes ++ (version_bytes ++ text_bytes origin text)
 
--- the head of a journal of the service whose file this is
+-- the head of a journal of the service that begins at the world in which nothing was requested yet
 abbrev pub head_of : List ℕ → List ℕ
-head_of text = name_bytes ++ (version_bytes ++ text_bytes text)
+head_of text = front_of 0 text
+
+-- what stands in front of the saved world that a journal of the service begins at
+abbrev pub saved_front : List ℕ → List ℕ
+saved_front text = front_of 1 text
 
 -- the check behind the head
 abbrev pub start_sum : List ℕ → ℕ
@@ -33,12 +37,14 @@ start_sum text = sum_of 0 (head_of text)
 abbrev pub IsNamed : List ℕ → Type 0
 IsNamed text = length text < 2 ^ 32
 
--- the bytes begin with the head of some service
+-- the bytes begin with the head of some service, or with what stands there in front of a saved world
 pub record BeginsHead (bytes : List ℕ) : Type 0 where
   pub text : List ℕ
+  pub origin : ℕ
   pub rest : List ℕ
   pub named : IsNamed text
-  pub parts : bytes ≡ head_of text ++ rest
+  pub known : origin ≤ 1
+  pub parts : bytes ≡ front_of origin text ++ rest
 
 -- they begin with the head of no service, and are no first part of this one's
 pub record HasNone (text bytes : List ℕ) : Type 0 where
@@ -61,6 +67,7 @@ pub record HasVersion (bytes : List ℕ) (version : ℕ) : Type 0 where
 abbrev pub IsHead : List ℕ → List ℕ → Head → Type 0
 IsHead text bytes Begun = IsCut (head_of text) bytes
 IsHead text bytes (Whole rest) = bytes ≡ head_of text ++ rest.now
+IsHead text bytes (Saved rest) = bytes ≡ saved_front text ++ rest.now
 IsHead text bytes (Version n) = HasVersion bytes n
 IsHead text bytes Other = HasOther text bytes
 IsHead text bytes Damaged = HasNone text bytes
@@ -69,18 +76,21 @@ IsHead text bytes Damaged = HasNone text bytes
 abbrev pub IsForeign : List ℕ → Head → Type 0
 IsForeign bytes Begun = ⊥
 IsForeign bytes (Whole rest) = ⊥
+IsForeign bytes (Saved rest) = ⊥
 IsForeign bytes (Version n) = HasVersion bytes n
 IsForeign bytes Other = BeginsHead bytes
 IsForeign bytes Damaged = BeginsHead bytes → ⊥
 
 -- ---- the same behind the name
 
--- the bytes begin with those of some service's file
+-- the bytes begin with those of some service's file and with a byte that says where its journal begins
 pub record BeginsText (bytes : List ℕ) : Type 0 where
   pub text : List ℕ
+  pub origin : ℕ
   pub rest : List ℕ
   pub named : IsNamed text
-  pub parts : bytes ≡ text_bytes text ++ rest
+  pub known : origin ≤ 1
+  pub parts : bytes ≡ text_bytes origin text ++ rest
 
 -- they begin with the digit of a version from 2 to 9
 pub record BeginsVersion (bytes : List ℕ) (version : ℕ) : Type 0 where
@@ -99,6 +109,7 @@ pub record BeginsVersioned (bytes : List ℕ) : Type 0 where
 abbrev pub IsVersioned : List ℕ → Head → Type 0
 IsVersioned bytes Begun = ⊥
 IsVersioned bytes (Whole rest) = ⊥
+IsVersioned bytes (Saved rest) = ⊥
 IsVersioned bytes (Version n) = BeginsVersion bytes n
 IsVersioned bytes Other = BeginsVersioned bytes
 IsVersioned bytes Damaged = BeginsVersioned bytes → ⊥

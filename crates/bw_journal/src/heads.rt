@@ -1,7 +1,8 @@
 //! The head of a journal: that it is one, and the service that it is of.
-ghost use Rattle.std.specs.Prelude.{◌≡◌, ◌<◌, ◌≤◌, ◌+◌, ◌^◌, ◌++◌, ◌↔◌, length, vec_len, vec_capacity, IsTrue, OnOk, OnErr, IfSome};
-ghost use Rattle.bw_journal.specs.Heads.{BeginsText, BeginsVersion, IsForeign, IsHead, IsVersioned, head_of};
+ghost use Rattle.std.specs.Prelude.{◌≡◌, ◌<◌, ◌≤◌, ◌+◌, ◌^◌, ◌++◌, ◌↔◌, length, vec_len, vec_capacity, ℕ, List, IsTrue, MatchOption, OnOk, OnErr, IfSome};
+ghost use Rattle.bw_journal.specs.Heads.{BeginsText, BeginsVersion, IsForeign, IsHead, IsVersioned, front_of, head_of, saved_front};
 ghost use Rattle.bw_journal.specs.Heads.{start_sum as start_sum_of};
+ghost use Rattle.bw_journal.specs.Layout.{sum_of};
 ghost use Rattle.bw_journal.specs.Reading.{IsPassed};
 
 use crate::passing::{Passed, pass, pass_next};
@@ -15,8 +16,10 @@ use std::alloc::AllocError;
 pub enum Head<'a> {
     /// A first part of the head, and less than all of it: nothing was kept yet.
     Begun,
-    /// The head, and this follows.
+    /// The head of a journal that begins at the world in which nothing was requested yet, and this follows.
     Whole(&'a [u8]),
+    /// What stands in front of the saved world that a journal begins at, and this follows.
+    Saved(&'a [u8]),
     /// The head of another version.
     Version(u8),
     /// The head of another service.
@@ -26,7 +29,7 @@ pub enum Head<'a> {
 }
 
 /// The bytes of a head beside those of the service's file.
-const FIXED_BYTES: usize = 16;
+pub(crate) const FIXED_BYTES: usize = 16;
 
 /// How many bytes the head of a journal of the service has whose file is the text.
 pub fn head_bytes(text: &[u8]) -> usize
@@ -43,23 +46,38 @@ pub fn read_head<'a>(bytes: &'a [u8], text: &[u8]) -> Head<'a>
     requires { length text.now < 2 ^ 32 }
     ensures { IsHead text.now bytes.now result }
 {
-    match pass_head(bytes, text) {
+    match pass_front(bytes, text, 0) {
         Passed::Behind(rest) => Head::Whole(rest),
         Passed::Cut => Head::Begun,
-        Passed::Differs => read_foreign(bytes),
+        Passed::Differs => match behind_saved_front(bytes, text) {
+            Some(rest) => Head::Saved(rest),
+            None => read_foreign(bytes),
+        },
     }
 }
 
-/// Passes the head of a journal of the service whose file is the text.
-fn pass_head<'a>(bytes: &'a [u8], text: &[u8]) -> Passed<'a>
+/// What follows what stands in front of a saved world, if the bytes begin with it.
+fn behind_saved_front<'a>(bytes: &'a [u8], text: &[u8]) -> Option<&'a [u8]>
     requires { length text.now < 2 ^ 32 }
-    ensures { IsPassed (head_of text.now) bytes.now result }
+    ensures { MatchOption result ((more : List ℕ) → bytes.now ≡ saved_front text.now ++ more → ⊥) (λ rest. bytes.now ≡ saved_front text.now ++ rest.now) }
+{
+    match pass_front(bytes, text, 1) {
+        Passed::Behind(rest) => Some(rest),
+        Passed::Cut => None,
+        Passed::Differs => None,
+    }
+}
+
+/// Passes the head of a journal of the service whose file is the text, as far as the byte that says where it begins.
+fn pass_front<'a>(bytes: &'a [u8], text: &[u8], origin: u8) -> Passed<'a>
+    requires { length text.now < 2 ^ 32 }
+    ensures { IsPassed (front_of origin text.now) bytes.now result }
 {
     let behind_name = pass(bytes, b"BWJOURNAL");
     let behind_version = pass_next(behind_name, b"1\n");
     let behind_length = pass_next(behind_version, &four_of(text.len() as u32));
     let behind_text = pass_next(behind_length, text);
-    pass_next(behind_text, &[0])
+    pass_next(behind_text, &[origin])
 }
 
 /// What the bytes begin with, where it is no head of this service.
@@ -110,7 +128,7 @@ fn version_of(bytes: &[u8]) -> Option<u8>
     Some(digit - b'0')
 }
 
-/// Whether the bytes begin with those of some service's file.
+/// Whether the bytes begin with those of some service's file and with where its journal begins.
 fn begins_with_text(bytes: &[u8]) -> bool
     ensures { IsTrue result ↔ BeginsText bytes.now }
 {
@@ -122,7 +140,10 @@ fn begins_with_text(bytes: &[u8]) -> bool
     if rest.len() <= len {
         return false;
     }
-    rest[len] == 0
+    if rest[len] > 1 {
+        return false;
+    }
+    true
 }
 
 /// Puts the head of a journal of the service whose file is the text behind the bytes.
@@ -136,11 +157,22 @@ pub fn put_head(out: &mut Vec<u8>, text: &[u8]) -> Result<(), AllocError>
     ensures capacity { vec_capacity out.old ≤ vec_capacity out.new }
 {
     out.reserve(FIXED_BYTES + text.len())?;
+    put_front(out, text, 0);
+    Ok(())
+}
+
+/// Puts the head as far as the byte that says where the journal begins behind the bytes, in room that was taken.
+pub(crate) fn put_front(out: &mut Vec<u8>, text: &[u8], origin: u8)
+    requires text { length text.now < 2 ^ 32 }
+    requires room { vec_len out.old + (16 + length text.now) ≤ vec_capacity out.old }
+    ensures items { out.new.items ≡ out.old.items ++ front_of origin text.now }
+    ensures len { vec_len out.new ≡ vec_len out.old + (16 + length text.now) }
+    ensures capacity { vec_capacity out.old ≤ vec_capacity out.new }
+{
     put(out, b"BWJOURNAL1\n");
     put(out, &four_of(text.len() as u32));
     put(out, text);
-    put(out, &[0]);
-    Ok(())
+    put(out, &[origin]);
 }
 
 /// The check behind the head of a journal of the service whose file is the text.
@@ -148,8 +180,16 @@ pub fn start_sum(text: &[u8]) -> u64
     requires { length text.now < 2 ^ 32 }
     ensures { result ≡ start_sum_of text.now }
 {
+    front_sum(text, 0)
+}
+
+/// The check behind the byte that says where a journal begins.
+pub(crate) fn front_sum(text: &[u8], origin: u8) -> u64
+    requires { length text.now < 2 ^ 32 }
+    ensures { result ≡ sum_of 0 (front_of origin text.now) }
+{
     let of_version = sum_over(0, b"BWJOURNAL1\n");
     let of_length = sum_over(of_version, &four_of(text.len() as u32));
     let of_text = sum_over(of_length, text);
-    sum_over(of_text, &[0])
+    sum_over(of_text, &[origin])
 }

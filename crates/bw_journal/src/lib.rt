@@ -2,8 +2,9 @@
 //! another, and only grows.
 //!
 //! **The head.** The letters `BWJOURNAL`, the version `1` and a line end; the service's file behind its length in four
-//! bytes; and a byte 0, which says that the journal begins at the world in which nothing was requested yet. Numbers are
-//! written with their highest byte first.
+//! bytes; and a byte that says where the journal begins: 0, at the world in which nothing was requested yet, or 1, at a saved
+//! world. Its bytes follow then behind their length in eight bytes, with a check of eight behind them. Numbers are written with
+//! their highest byte first.
 //!
 //! **An entry.** The length of its message in four bytes, its key in eight, and a check of eight; the bytes of its
 //! message, and a check of eight. A check is that of all that stands before it, but for the checks themselves: so an
@@ -22,10 +23,12 @@ pub mod laws;
 mod limits;
 mod passing;
 mod putting;
+mod saving;
 mod sums;
 mod words;
 
 pub use entries::{Found, Next, next_entry, put_entry};
 pub use heads::{Head, head_bytes, put_head, read_head, start_sum};
-pub use limits::{MAX_ENTRY_BYTES, MAX_MESSAGE_BYTES};
+pub use limits::{MAX_ENTRY_BYTES, MAX_MESSAGE_BYTES, MAX_SAVED_BYTES};
+pub use saving::{FoundSaved, front_check, next_saved, put_saved_head, saved_size};
 pub use sums::sum_over;

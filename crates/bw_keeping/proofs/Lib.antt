@@ -7,6 +7,7 @@ mod Ending
 pub mod Entering
 mod Fitting
 mod Giving
+pub mod Headed
 pub mod LinksBring
 pub mod Lists
 pub mod Messages
@@ -16,9 +17,11 @@ pub mod Parting
 pub mod Pieces
 mod Queued
 pub mod Restarting
+pub mod Rotating
 mod Sending
 mod ServedSoFar
 pub mod SoFar
+pub mod Begun
 mod StreamLists
 mod StreamSoFar
 mod StreamTurns

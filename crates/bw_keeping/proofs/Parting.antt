@@ -2,7 +2,7 @@
 use Rattle.std.proofs.Common.{ℕ, List, [], ◌∷◌, ◌++◌, refl, sym, ap, ◌∙◌, subst, append-nil}
 use Rattle.bw_journal.specs.Layout.{Entry, last_sum}
 use Rattle.bw_out.specs.Doors.{Returned}
-use Rattle.bw_stable.specs.Deeds.Deed.{cut, kept}
+use Rattle.bw_stable.specs.Deeds.Deed.{cut, kept, moved}
 use Rattle.bw_keeping.specs.Answered.{Exchange, backs_of, entries_of}
 use Rattle.bw_keeping.specs.Kept.{AreKept}
 use Rattle.bw_keeping.specs.Laws.{KeptInParts, PiecesAreGroups}
@@ -12,6 +12,7 @@ use Rattle.bw_keeping.proofs.Pieces.{all_later, entries_later, given_later, sum_
 pub pieces_are_groups : PiecesAreGroups
 pieces_are_groups sum given xs [] none = record { groups = []; kept = refl; all = sym none }
 pieces_are_groups sum given xs (cut len ∷ deeds) (quiet, group, later, all, none, piece, more) = absurd piece
+pieces_are_groups sum given xs (moved move ∷ deeds) (quiet, group, later, all, none, piece, more) = absurd piece
 pieces_are_groups sum given xs (kept bytes returned unsent ∷ deeds) (quiet, group, later, all, none, piece, more) =
     let rec = pieces_are_groups (last_sum sum (entries_of group)) (given ++ backs_of (quiet ++ group)) later deeds more in
     record {

@@ -1,8 +1,8 @@
 -- What is kept of a stream brings about the world that its messages left, also where a crash came.
 use Rattle.std.proofs.Common.{◌≡◌, ℕ, List, [], ◌∷◌, ◌++◌, Option, Some, refl, sym, ap, ◌∙◌, subst, append-nil}
 use Rattle.std.specs.List.{AllByRecursion}
-use Rattle.bw_journal.specs.Heads.{start_sum}
 use Rattle.bw_journal.specs.Layout.{Entry, Fits, entries_bytes, last_sum}
+use Rattle.bw_journal.specs.Starts.{sum_at}
 use Rattle.bw_journal.proofs.Readings.{fits_then, sum_then}
 use Rattle.bw_lang.specs.declared.service.Service.{Service}
 use Rattle.bw_model.specs.Runs.{At, answer_of}
@@ -100,14 +100,14 @@ kept_first_in_parts service sum returned written (x ∷ xs) (deed ∷ done) undo
 
 -- whenever a crash comes
 pub streams_survive : StreamsSurvive
-streams_survive formats service origin text before at messages to returned written deeds left fits brings handled are may =
-    let sum = last_sum (start_sum text) before in
+streams_survive formats service origin start before at messages to returned written deeds left fits brings handled are may =
+    let sum = last_sum (sum_at start) before in
     let p : AreParted service sum returned written messages may.done may.undone =
     kept_first_in_parts service sum returned written messages may.done may.undone
     (subst (λ (ds : List Deed). AreKeptFirst service sum returned written messages ds) (sym may.all) are) in
     let all : entries_of messages ≡ entries_of p.first ++ entries_of p.others =
     ap (λ (xs : List Message). entries_of xs) p.all ∙ entries_then p.first p.others in
-    let l = left_so formats service origin at.world to.world text before (entries_of p.first) (entries_of p.others) deeds left fits
+    let l = left_so formats service origin at.world to.world start before (entries_of p.first) (entries_of p.others) deeds left fits
     (subst (AllByRecursion Fits) all (handled_fit formats service at messages to handled)) brings
     (subst (λ (es : List Entry). Brings formats service at.world es to.world) all (handled_bring formats service at messages to handled)) may
     (messages_are_groups service sum returned written p.first may.done p.before)

@@ -9,7 +9,9 @@ pub mod Laws
 pub mod Noting
 pub mod Recalling
 pub mod Restarts
+pub mod Rotating
 pub mod Served
+pub mod Starting
 pub mod Steps
 pub mod StreamLaws
 pub mod StreamSteps

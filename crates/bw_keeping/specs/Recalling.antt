@@ -2,10 +2,9 @@
 use Rattle.std.specs.Prelude.{◌≡◌, ◌⊎◌, ◌≤◌, ◌<◌, ◌+◌, ℕ, true, List, [], ◌++◌, length, Option, Some, Result, Ok, Err, ⊤}
 use Rattle.bw_format.specs.declared.format.Format.{Format}
 use Rattle.bw_http.specs.declared.request.Request.{Request}
-use Rattle.bw_journal.specs.Heads.{BeginsHead, HasOther, HasVersion, head_of, start_sum}
 use Rattle.bw_journal.specs.Journals.{Ends, Splits}
 use Rattle.bw_journal.specs.Layout.{Entry, entry_bytes}
-use Rattle.bw_journal.specs.Reading.{Begins, IsCut, IsShort, IsUnsound}
+use Rattle.bw_journal.specs.Reading.{Begins, IsShort, IsUnsound}
 use Rattle.bw_journal.specs.declared.limits.TheConstants.{MAX_ENTRY_BYTES}
 use Rattle.bw_model.specs.Guards.{IsGuarded}
 use Rattle.bw_model.specs.Sessions.{World}
@@ -20,7 +19,6 @@ use Rattle.bw_keeping.specs.declared.recalling.Advance.{Advance}
 use Rattle.bw_keeping.specs.declared.recalling.Advance.TheVariants as advances
 use Rattle.bw_keeping.specs.declared.handling.One.{One}
 use Rattle.bw_keeping.specs.declared.handling.One.TheVariants as ones
-use Rattle.bw_keeping.specs.declared.window.TheConstants.{MAX_TEXT_BYTES}
 
 -- ---- one message
 
@@ -117,25 +115,3 @@ IsRecalledBehind formats before now from sum bytes result = ⊥
 abbrev pub Recalls : List Format → Seen → Seen → ℕ → ℕ → Hand → Option (List ℕ) → Recalled → Type 0
 Recalls formats before now from sum hand left result =
     (unread : List ℕ) → left ≡ Some unread → (hand.ended ≡ true → unread ≡ []) → IsRecalledBehind formats before now from sum (hand.bytes ++ unread) result
-
--- the bytes are the head of this text, and behind it that came of the entries
-pub record IsRecalledWhole (formats : List Format) (before now : Seen) (text bytes : List ℕ) (result : Recalled) : Type 0 where
-  pub behind : List ℕ
-  pub head : bytes ≡ head_of text ++ behind
-  pub recalled : IsRecalledBehind formats before now (length (head_of text)) (start_sum text) behind result
-
--- the bytes begin with the head of no service whose file is within the limit, and are no first part of this one's
-pub record HasNoHead (text bytes : List ℕ) : Type 0 where
-  pub none : (head : BeginsHead bytes) → length head.text ≤ MAX_TEXT_BYTES → ⊥
-  pub not_cut : IsCut (head_of text) bytes → ⊥
-
--- what came of a journal of these bytes, where the service's file is this text
-abbrev pub IsRecalled : List Format → Seen → Seen → List ℕ → List ℕ → Recalled → Type 0
-IsRecalled formats before now text bytes recalled.New = IsCut (head_of text) bytes × (now ≡ before)
-IsRecalled formats before now text bytes (recalled.Done len sum) = IsRecalledWhole formats before now text bytes (recalled.Done len sum)
-IsRecalled formats before now text bytes (recalled.Damaged len) =
-    ((len ≡ 0) × HasNoHead text bytes × (now ≡ before)) ⊎ IsRecalledWhole formats before now text bytes (recalled.Damaged len)
-IsRecalled formats before now text bytes (recalled.Version version) = HasVersion bytes version × (now ≡ before)
-IsRecalled formats before now text bytes recalled.Other = HasOther text bytes × (now ≡ before)
-IsRecalled formats before now text bytes recalled.ReadFault = (entries : List Entry) × Brought formats before now entries
-IsRecalled formats before now text bytes recalled.Memory = (entries : List Entry) × Brought formats before now entries

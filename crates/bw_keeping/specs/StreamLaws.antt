@@ -2,8 +2,8 @@
 use Rattle.std.specs.Prelude.{◌≡◌, ℕ, List, ◌++◌, Option}
 use Rattle.std.specs.List.{AllByRecursion}
 use Rattle.bw_format.specs.declared.format.Format.{Format}
-use Rattle.bw_journal.specs.Heads.{start_sum}
 use Rattle.bw_journal.specs.Layout.{Entry, Fits, last_sum}
+use Rattle.bw_journal.specs.Starts.{Start, sum_at}
 use Rattle.bw_lang.specs.declared.service.Service.{Service}
 use Rattle.bw_model.specs.Runs.{At, answer_of}
 use Rattle.bw_model.specs.Sessions.{World}
@@ -47,13 +47,13 @@ KeptFirstInParts =
 -- the first entries of what is kept of the others. No byte of a reply was written by then but to these, and to those of which nothing
 -- is kept, since the next piece was to be kept before. From the world that these entries bring about, the lost ones bring about the
 -- world that all messages left.
-pub record Survives (formats : List Format) (service : Service) (origin to : World) (text : List ℕ) (before : List Entry)
+pub record Survives (formats : List Format) (service : Service) (origin to : World) (start : Start) (before : List Entry)
     (returned : Option (List Returned)) (written : List ℕ) (messages : List Message) (done undone : List Deed) (file : List ℕ) : Type 0 where
-  pub parts : AreParted service (last_sum (start_sum text) before) returned written messages done undone
+  pub parts : AreParted service (last_sum (sum_at start) before) returned written messages done undone
   pub found : List Entry
   pub lost : List Entry
   pub others_are : entries_of parts.others ≡ found ++ lost
-  pub is_file : IsFileOf text (before ++ (entries_of parts.first ++ found)) file
+  pub is_file : IsFileOf start (before ++ (entries_of parts.first ++ found)) file
   pub world : World
   pub brings : Brings formats service origin (before ++ (entries_of parts.first ++ found)) world
   pub goes_on : Brings formats service world lost to
@@ -61,11 +61,11 @@ pub record Survives (formats : List Format) (service : Service) (origin to : Wor
 -- so it is whenever a crash comes, and whatever it leaves of the piece that was in flight
 abbrev pub StreamsSurvive : Type 0
 StreamsSurvive =
-    (formats : List Format) (service : Service) (origin : World) (text : List ℕ) (before : List Entry) (at : At) (messages : List Message) (to : At)
+    (formats : List Format) (service : Service) (origin : World) (start : Start) (before : List Entry) (at : At) (messages : List Message) (to : At)
     (returned : Option (List Returned)) (written : List ℕ) (deeds : List Deed) (left : List ℕ) → AllByRecursion Fits before
     → Brings formats service origin before at.world → AreHandled formats service at messages to
-    → AreKeptFirst service (last_sum (start_sum text) before) returned written messages deeds → (may : MayLeave deeds (file_of text before) left)
-    → Survives formats service origin to.world text before returned written messages may.done may.undone left
+    → AreKeptFirst service (last_sum (sum_at start) before) returned written messages deeds → (may : MayLeave deeds (file_of start before) left)
+    → Survives formats service origin to.world start before returned written messages may.done may.undone left
 
 -- however a stream was answered beside a journal, what sessions stored stays within the formats
 abbrev pub StreamsKeepWithin : Type 0

@@ -1,5 +1,5 @@
 //! Entries that are to be kept together.
-ghost use Rattle.std.specs.Prelude.{◌≡◌, ◌≤◌, ◌<◌, ◌^◌, ◌↔◌, ◌==◌, [], ◌∷◌, length, IsTrue, IfOk};
+ghost use Rattle.std.specs.Prelude.{◌≡◌, ◌≤◌, ◌<◌, ◌^◌, ◌↔◌, [], ◌∷◌, length, IsTrue, IfOk};
 ghost use Rattle.bw_journal.specs.Reading.{entry};
 ghost use Rattle.bw_keeping.specs.Groups.{Grows, HasRoom};
 

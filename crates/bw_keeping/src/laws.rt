@@ -2,6 +2,8 @@
 ghost use Rattle.bw_keeping.specs.EntryLaws.{BringsByParts, BringsInParts, BringsKeepSound, BringsKeepWithin, BringsOnce, BringsReach};
 ghost use Rattle.bw_keeping.specs.Laws.{AnsweredBring, AnsweredFit, KeptInParts, PiecesAreGroups};
 ghost use Rattle.bw_keeping.specs.Restarts.{CutsLeaveEntries, HeadsAreBegun, RestartsGoOn};
+ghost use Rattle.bw_keeping.specs.Rotating.{BringsBackOnce, RotationsGoOn};
+ghost use Rattle.bw_keeping.specs.Starting.{RecalledFrom};
 ghost use Rattle.bw_keeping.specs.StreamLaws.{HandledBring, HandledFit, KeptFirstInParts, StreamsKeepWithin, StreamsSurvive};
 ghost use Rattle.bw_keeping.specs.Surviving.{LinksSurvive};
 
@@ -36,6 +38,19 @@ pub fn restarts_go_on()
 pub fn openings_go_on()
     ensures cuts { CutsLeaveEntries }
     ensures heads { HeadsAreBegun }
+{}
+
+/// What came of the entries behind a mark came of the journal, from the world that it begins at.
+pub fn recalled_behind_heads()
+    ensures { RecalledFrom }
+{}
+
+/// Where a journal is begun anew, as often as may be, at saved worlds that are loaded as those that were reached: whenever a
+/// crash comes, and whatever it leaves, the file brings back the world of all groups that were kept whole, and of the first entries
+/// of at most one group more. From there the others go on to the world that all led to. And a file brings back one world.
+pub fn rotations_go_on()
+    ensures rotations { RotationsGoOn }
+    ensures once { BringsBackOnce }
 {}
 
 /// What is kept of links that were answered one after another brings about the world that they left.

@@ -1,15 +1,15 @@
 //! A world is brought back from its journal.
-ghost use Rattle.std.specs.Prelude.{◌≡◌, ◌≤◌, ◌<◌, ◌+◌, ◌^◌, length, IfOk, IfSome};
-ghost use Rattle.bw_journal.specs.Heads.{head_of};
+ghost use Rattle.std.specs.Prelude.{◌≡◌, ◌≤◌, ◌<◌, ◌+◌, ◌^◌, IfOk};
 ghost use Rattle.bw_out.specs.Sends.{Takes};
-ghost use Rattle.bw_keeping.specs.Recalling.{Advances, IsAdvance, IsFew, IsRecalled, IsShortEntry, Recalls};
+ghost use Rattle.bw_keeping.specs.Recalling.{Advances, IsAdvance, IsFew, IsShortEntry, Recalls};
 ghost use Rattle.bw_keeping.specs.Windows.{fresh};
 
 use crate::handling::{One, handle_entry};
+use crate::starting::{Mark, Reader};
 use crate::window::{MAX_TEXT_BYTES, Window};
 use bw_format::Formats;
 use bw_http::Intake;
-use bw_journal::{Head, MAX_ENTRY_BYTES, Next, head_bytes, next_entry, read_head, start_sum};
+use bw_journal::{MAX_ENTRY_BYTES, Next, next_entry};
 use bw_lang::Memory;
 use bw_out::{Failed, Source, Steps};
 use bw_world::World;
@@ -50,13 +50,6 @@ pub(crate) enum Advance {
     ReadFault,
     /// There was no memory.
     Memory,
-}
-
-/// How far a journal was read: behind so many bytes of the file, with this check.
-#[derive(Clone, Copy)]
-struct Mark {
-    len: u64,
-    sum: u64,
 }
 
 /// More entries than any file has: so many of them have 3,900 TB at least.
@@ -145,7 +138,7 @@ fn recall_entries<S: Source, L: Ledger>(
     steps: &mut Steps<L>,
 ) -> Recalled
     requires room { MAX_ENTRY_BYTES ≤ window.old.size }
-    requires start { start.len < 2 ^ 33 }
+    requires start { start.len < 2 ^ 34 }
     ensures recalled { Recalls formats.now world.old world.new start.len start.sum window.old (S.left source.old) result }
     ensures takes { Takes S.Channel source.old source.new (result ≡ Recalled.ReadFault) }
     ensures service { world.new.service ≡ world.old.service }
@@ -171,85 +164,45 @@ fn recall_entries<S: Source, L: Ledger>(
     Recalled::Memory
 }
 
-/// Reads the head, and handles the requests of the entries behind it.
-fn recall_file<S: Source, L: Ledger>(
+/// Handles the requests of the entries behind the mark, each by its key, from the world that the journal begins at, and sends
+/// no reply. The steps never fall.
+///
+/// `ReadFault` comes exactly where the count of the source rose; the world is then, and without memory, that of some of the
+/// entries, and is of no use.
+pub fn recall_behind<S: Source, L: Ledger>(
     alloc: Global,
     world: &mut World,
     formats: &Formats,
-    intake: &mut Intake,
-    window: &mut Window,
+    reader: &mut Reader,
     source: &mut S,
-    text: &[u8],
+    start: Mark,
     steps: &mut Steps<L>,
 ) -> Recalled
-    requires text { length text.now < 2 ^ 32 }
-    requires window { window.old ≡ fresh (length (head_of text.now) + MAX_TEXT_BYTES) }
-    ensures recalled { IfSome (S.left source.old) (λ bytes. IsRecalled formats.now world.old world.new text.now bytes result) }
+    requires room { MAX_ENTRY_BYTES ≤ reader.old.window.size }
+    requires start { start.len < 2 ^ 34 }
+    ensures recalled { Recalls formats.now world.old world.new start.len start.sum reader.old.window (S.left source.old) result }
     ensures takes { Takes S.Channel source.old source.new (result ≡ Recalled.ReadFault) }
     ensures service { world.new.service ≡ world.old.service }
     ensures steps { steps.old ≤ steps.new }
 {
-    let from = head_bytes(text);
-    match window.hold(source, from + MAX_TEXT_BYTES) {
-        Err(Failed) => Recalled::ReadFault,
-        Ok(()) => match read_head(window.bytes(), text) {
-            Head::Begun => Recalled::New,
-            Head::Version(version) => Recalled::Version(version),
-            Head::Other => Recalled::Other,
-            Head::Damaged => Recalled::Damaged(0),
-            Head::Whole(_) => {
-                window.consume(from);
-                let start = Mark {
-                    len: from as u64,
-                    sum: start_sum(text),
-                };
-                recall_entries(alloc, world, formats, intake, window, source, start, steps)
-            }
-        },
-    }
+    recall_entries(
+        alloc,
+        world,
+        formats,
+        &mut reader.intake,
+        &mut reader.window,
+        source,
+        start,
+        steps,
+    )
 }
 
 /// The memory for reading a journal whose head has so many bytes.
-fn room_for(alloc: Global, head: usize) -> Result<(Window, Intake), Memory>
+pub(crate) fn room_for(alloc: Global, head: usize) -> Result<(Window, Intake), Memory>
     requires { head < 2 ^ 33 }
     ensures { IfOk result (λ room. room.0 ≡ fresh (head + MAX_TEXT_BYTES)) }
 {
     let window = Window::new(alloc, head + MAX_TEXT_BYTES)?;
     let intake = Intake::new(alloc)?;
     Ok((window, intake))
-}
-
-/// Brings a world back from the journal of the service whose file is the text, where the source is at the journal's first
-/// byte: from the world as it is, it handles the request of each entry by the entry's key, and sends no reply. The steps
-/// never fall.
-///
-/// It holds about 1 MiB of the file at a time. `ReadFault` comes exactly where the count of the source rose; the world is
-/// then, and without memory, that of some of the entries, and is of no use.
-pub fn recall<S: Source, L: Ledger>(
-    alloc: Global,
-    world: &mut World,
-    formats: &Formats,
-    text: &[u8],
-    source: &mut S,
-    steps: &mut Steps<L>,
-) -> Recalled
-    requires { length text.now < 2 ^ 32 }
-    ensures recalled { IfSome (S.left source.old) (λ bytes. IsRecalled formats.now world.old world.new text.now bytes result) }
-    ensures takes { Takes S.Channel source.old source.new (result ≡ Recalled.ReadFault) }
-    ensures service { world.new.service ≡ world.old.service }
-    ensures steps { steps.old ≤ steps.new }
-{
-    match room_for(alloc, head_bytes(text)) {
-        Err(Memory) => Recalled::Memory,
-        Ok((mut window, mut intake)) => recall_file(
-            alloc,
-            world,
-            formats,
-            &mut intake,
-            &mut window,
-            source,
-            text,
-            steps,
-        ),
-    }
 }

@@ -68,6 +68,19 @@ impl Window {
         self.start += count;
     }
 
+    /// Makes room for so many bytes, if there is less. Where there is no memory for it, nothing has changed.
+    pub fn grow(&mut self, size: usize) -> Result<(), Memory>
+        ensures bytes { self.new.bytes ≡ self.old.bytes }
+        ensures ended { self.new.ended ≡ self.old.ended }
+        ensures room { OnOk result (size ≤ self.new.size) }
+        ensures size { self.old.size ≤ self.new.size }
+    {
+        if self.buffer.len() < size {
+            self.buffer.resize(size, 0)?;
+        }
+        Ok(())
+    }
+
     /// Takes bytes from the source, where fewer than so many are at hand and it hasn't ended: until the room is full or it
     /// has. `Failed` comes only where the count of the source rose.
     pub fn hold<S: Source>(&mut self, source: &mut S, need: usize) -> Result<(), Failed>

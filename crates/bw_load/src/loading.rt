@@ -17,7 +17,8 @@ use bw_saved::{FileFault, Record, Saved, read_file};
 use bw_strings::Literals;
 use std::alloc::Global;
 
-/// Why a file isn't loaded: the first of these that holds. `Memory` may come at any place.
+/// Why a file isn't loaded. What it begins with decides first, in this order, then whether what follows is what a file of the
+/// version has, and then its sessions. `Memory` may come at any place.
 #[derive(Drop)]
 pub enum LoadFault {
     /// It has more than 69,206,016 bytes.

@@ -146,10 +146,12 @@ accepted_file disk name judging form =
     service_file (shown_file judging.source disk name) disk name
     >>= checked_by (shown_file judging.source disk name) disk judging.schema form
 
--- what is done beside a journal: at most so many links are served at a port, or at most so many requests of a stream are answered
+-- What is done with a journal: at most so many links are served at a port beside it, where it may be begun anew if it has more bytes
+-- than these; or at most so many requests of a stream are answered beside it; or what waits in the world that it brings about is saved.
 pub data Task : Type 0 where
-  to_serve : (port most : ℕ) → Task
+  to_serve : (port most : ℕ) (rotate : Option ℕ) → Task
   to_answer : (stream : List ℕ) (most : ℕ) → Task
+  to_save : Task
 
 -- a script: the name of the session that is visited, and the lines of answers
 pub record Script : Type 0 where
@@ -157,7 +159,7 @@ pub record Script : Type 0 where
   pub lines : List ℕ
 
 -- What is left to do where every question went well: to print; to answer a stream of at most so many requests, from a world on;
--- to serve at most so many links at a port; to do one of these beside a journal that has this content, of the service with this
+-- to serve at most so many links at a port; to do a task with a journal that has this content, of the service with this
 -- text; to save what waits behind a stream of at most so many requests; or to visit by a script.
 pub data Work : Type 0 where
   prints : List ℕ → Work

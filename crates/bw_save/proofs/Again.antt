@@ -34,6 +34,16 @@ of_records (r ∷ rs) = ap (λ (ss : List Record). r ∷ ss) (of_records rs)
 pub saved_again : (checked : Checked) (s : Saved) → saved_of (seen_of (parts_of checked s)) ≡ s
 saved_again checked s = ap (λ (rs : List Record). record { next = s.next; first = s.first; shared = s.shared; records = rs }) (of_records s.records)
 
+-- the parts of a world, made again of what is saved of them
+live_same : (live : List Suspended) → map suspended_of (map record_of live) ≡ live
+live_same [] = refl
+live_same (s ∷ live) = ap (λ (ss : List Suspended). s ∷ ss) (live_same live)
+
+pub parts_again : (p : Parts) (s : Saved) → s ≡ record { next = p.next; first = p.first; shared = p.shared; records = map record_of p.live } →
+    parts_of p.checked s ≡ p
+parts_again p s is =
+    ap (λ (x : Saved). parts_of p.checked x) is ∙ ap (λ (live : List Suspended). let q : Parts = record p { live = live } in q) (live_same p.live)
+
 -- so it is in the world that is made of these parts
 pub thawed_saved : (checked : Checked) (s : Saved) (p : Parts) (w : Seen) → p ≡ parts_of checked s → w ≡ seen_of p → saved_of w ≡ s
 thawed_saved checked s p w is same = ap saved_of (same ∙ ap seen_of is) ∙ saved_again checked s

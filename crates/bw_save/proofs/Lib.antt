@@ -3,6 +3,7 @@ pub mod Chains
 pub mod Filling
 pub mod Fit
 pub mod Fits
+pub mod GoingOn
 pub mod OneFacts
 pub mod Saved
 pub mod Stood

@@ -77,7 +77,7 @@ fn records_of(alloc: Global, live: Suspendeds) -> Result<Records, Memory>
 }
 
 /// What is saved of the parts of a world, but for its service.
-fn saved_of(
+pub(crate) fn saved_of(
     alloc: Global,
     next: u64,
     first: u32,
@@ -99,7 +99,7 @@ fn saved_of(
 }
 
 /// The file of what is saved, if each plug of its documents filled a gap.
-fn file_of(
+pub(crate) fn file_of(
     alloc: Global,
     text: &[u8],
     checked: &Checked,

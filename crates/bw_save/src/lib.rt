@@ -9,6 +9,7 @@ mod fields;
 mod filled;
 mod freezing;
 pub mod laws;
+mod onward;
 mod saving;
 mod sessions;
 mod thawing;
@@ -17,5 +18,6 @@ mod weights;
 
 pub use filled::is_all_filled;
 pub use freezing::{FreezeFault, freeze};
+pub use onward::{Frozen, freeze_on};
 pub use saving::{SaveFault, save};
 pub use thawing::thaw;

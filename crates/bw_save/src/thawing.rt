@@ -49,7 +49,7 @@ fn suspendeds_of(alloc: Global, records: Records) -> Result<Suspendeds, Memory>
 }
 
 /// The parts of the world that goes on from what was saved.
-fn parts_of(alloc: Global, checked: Checked, saved: Saved) -> Result<Parts, Memory>
+pub(crate) fn parts_of(alloc: Global, checked: Checked, saved: Saved) -> Result<Parts, Memory>
     ensures { IfOk result (λ p. p ≡ spec.parts_of checked saved) }
 {
     let Saved {

@@ -13,7 +13,8 @@ use bw_flow::Flow;
 use bw_types::Typed;
 use std::alloc::Global;
 
-/// Why a file isn't read: the first of these that holds. `Memory` may come at any place.
+/// Why a file isn't read. What it begins with decides first, in this order, and behind all others whether what follows is what a
+/// file of the version has. `Memory` may come at any place.
 #[derive(Drop)]
 pub enum FileFault {
     /// It has more than 69,206,016 bytes.

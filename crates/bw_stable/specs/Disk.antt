@@ -6,11 +6,11 @@ use Rattle.bw_stable.specs.declared.disk.DiskJournal.{DiskJournal}
 use Rattle.bw_stable.specs.declared.disk.DiskJournals.{DiskJournals}
 
 -- the count of a journal's calls that failed
-abbrev pub faults_of : DiskJournal → ℕ
+abbrev pub faults_of : {R : Type 0} → DiskJournal R → ℕ
 faults_of journal = journal.faults
 
 -- why its last call that failed did, where one did
-abbrev pub trouble_of : DiskJournal → Option ErrorKind
+abbrev pub trouble_of : {R : Type 0} → DiskJournal R → Option ErrorKind
 trouble_of journal = journal.trouble
 
 -- the count of openings that failed and of journals that had a fault as they were closed

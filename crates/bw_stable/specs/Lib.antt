@@ -3,3 +3,4 @@ pub mod Deeds
 pub mod Disk
 pub mod MemJournals
 pub mod Memory
+pub mod Replacing

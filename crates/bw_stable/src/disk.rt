@@ -5,31 +5,43 @@ ghost use Rattle.bw_out.specs.Causes.{HasCause, Rose};
 ghost use Rattle.bw_stable.specs.Disk.{faults_of, trouble_of, journal_faults_of, journal_name_of, journal_trouble_of};
 
 use crate::outside::{Journal, Journals};
-use bw_out::{Channel, Door, Failed, WriteFault, Writing, write_all};
+use crate::system::{
+    Names, cut_file, kind_of, make_file, open_named, sync_beside, sync_folder, write_to,
+};
+use bw_out::{Channel, Door, Failed, Writing};
 use std::alloc::Global;
 use std::fs::File;
 use std::io::ErrorKind;
-use std::os::unix::fs::OpenOptionsExt;
-use std::path::Path;
-use std::{io, rt};
+use std::{fs, rt};
 
 /// A file of the system that is open for this process alone. It tells nothing of what the file holds.
 ///
 /// A write that is interrupted is tried again up to 100 times in a row. A write or a sync that failed is never tried
 /// again.
-pub struct DiskJournal {
+pub struct DiskJournal<R> {
+    rt: R,
+    // Its name, and that of the file beside it.
+    name: String,
+    new_name: String,
     file: Writing<File>,
+    // The file beside it, if one was made. It is locked as it is made, and keeps its lock as it takes the name.
+    beside: Option<Writing<File>>,
     trouble: Option<ErrorKind>,
     faults: u64,
 }
 
-impl DiskJournal {
+impl<R> DiskJournal<R> {
     /// A file that was opened, of which no call failed yet.
-    fn new(file: File) -> DiskJournal
+    fn new(rt: R, names: Names, file: File) -> DiskJournal<R>
         ensures { faults_of result ≡ 0 }
     {
+        let Names { name, new_name } = names;
         DiskJournal {
+            rt,
+            name,
+            new_name,
             file: Writing::new(file),
+            beside: None,
             trouble: None,
             faults: 0,
         }
@@ -45,6 +57,19 @@ impl DiskJournal {
         Failed
     }
 
+    /// Counts a failure, if there was one, and notes why it came.
+    fn tell(&mut self, outcome: Result<(), ErrorKind>) -> Result<(), Failed>
+        requires { faults_of self.old ≡ 0 }
+        ensures sound { OnOk result (faults_of self.new ≡ 0) }
+        ensures cause { HasCause (faults_of self.old) (faults_of self.new) result }
+        ensures noted { OnErr result (IsSome (trouble_of self.new)) }
+    {
+        match outcome {
+            Ok(()) => Ok(()),
+            Err(kind) => Err(self.fail(kind)),
+        }
+    }
+
     /// Writes bytes behind those that are there.
     fn write(&mut self, bytes: &[u8]) -> Result<(), Failed>
         requires { faults_of self.old ≡ 0 }
@@ -52,13 +77,8 @@ impl DiskJournal {
         ensures cause { HasCause (faults_of self.old) (faults_of self.new) result }
         ensures noted { OnErr result (IsSome (trouble_of self.new)) }
     {
-        match write_all(&mut self.file, bytes) {
-            Ok(()) => Ok(()),
-            Err(WriteFault) => {
-                let kind = self.file.trouble().unwrap_or(ErrorKind::Other);
-                Err(self.fail(kind))
-            }
-        }
+        let outcome = write_to(&mut self.file, bytes);
+        self.tell(outcome)
     }
 
     /// Cuts the file, if it is longer.
@@ -68,10 +88,8 @@ impl DiskJournal {
         ensures cause { HasCause (faults_of self.old) (faults_of self.new) result }
         ensures noted { OnErr result (IsSome (trouble_of self.new)) }
     {
-        match cut_file(&self.file.inner, len) {
-            Ok(()) => Ok(()),
-            Err(e) => Err(self.fail(e.kind())),
-        }
+        let outcome = kind_of(cut_file(&self.file.inner, len));
+        self.tell(outcome)
     }
 
     /// Returns once what was written and cut is on the disk. After a failure the next sync may say that all is well,
@@ -82,22 +100,12 @@ impl DiskJournal {
         ensures cause { HasCause (faults_of self.old) (faults_of self.new) result }
         ensures noted { OnErr result (IsSome (trouble_of self.new)) }
     {
-        match self.file.inner.sync_data() {
-            Ok(()) => Ok(()),
-            Err(e) => Err(self.fail(e.kind())),
-        }
+        let outcome = kind_of(self.file.inner.sync_data());
+        self.tell(outcome)
     }
 }
 
-/// Cuts a file behind its first bytes, so many, if it has more.
-fn cut_file(file: &File, len: u64) -> io::Result<()> {
-    if len < file.metadata()?.len() {
-        file.set_len(len)?;
-    }
-    Ok(())
-}
-
-impl Journal for DiskJournal {
+impl<R: rt::Files<File = File>> Journal for DiskJournal<R> {
     ghost deeds = { λ _. None };
 
     ghost is_sound = { λ journal. faults_of journal ≡ 0 };
@@ -118,14 +126,55 @@ impl Journal for DiskJournal {
         self.write(bytes)?;
         self.sync()
     }
+
+    fn write_beside(&mut self, bytes: &[u8]) -> Result<(), Failed> {
+        match make_file(&self.rt, self.new_name.as_str(), bytes) {
+            Ok(file) => {
+                self.beside = Some(file);
+                Ok(())
+            }
+            Err(kind) => Err(self.fail(kind)),
+        }
+    }
+
+    fn settle_beside(&mut self) -> Result<(), Failed> {
+        let outcome = sync_beside(&self.beside);
+        self.tell(outcome)
+    }
+
+    /// Where no file was made beside it by this journal, no name changes.
+    fn take_name(&mut self) -> Result<(), Failed> {
+        match self.beside.take() {
+            None => Err(self.fail(ErrorKind::NotFound)),
+            Some(file) => {
+                match kind_of(fs::rename(&self.rt, self.new_name.as_str(), self.name.as_str())) {
+                    Ok(()) => {
+                        self.file = file;
+                        Ok(())
+                    }
+                    Err(kind) => {
+                        self.beside = Some(file);
+                        Err(self.fail(kind))
+                    }
+                }
+            }
+        }
+    }
+
+    fn settle_names(&mut self) -> Result<(), Failed> {
+        let outcome = kind_of(sync_folder(&self.rt, self.name.as_str()));
+        self.tell(outcome)
+    }
 }
 
 /// Journals in files of the system. It counts the openings that failed and the journals that had a fault as they were
 /// closed, and notes why, with the name that was last asked for.
 ///
-/// A journal's file is made for its owner alone, who may read and write it, and locked while it is open.
+/// A journal's file is made for its owner alone, who may read and write it, and locked while it is open. So is the file that
+/// takes its place.
 #[derive(Drop)]
 pub struct DiskJournals<R> {
+    alloc: Global,
     rt: R,
     name: String,
     trouble: Option<ErrorKind>,
@@ -138,6 +187,7 @@ impl<R> DiskJournals<R> {
         ensures { journal_faults_of result ≡ 0 }
     {
         DiskJournals {
+            alloc,
             rt,
             name: String::new(alloc),
             trouble: None,
@@ -161,14 +211,14 @@ impl<R> DiskJournals<R> {
     }
 }
 
-impl<R: rt::Files<File = File>> Journals for DiskJournals<R> {
-    type Journal = DiskJournal;
+impl<R: rt::Files<File = File> + Copy> Journals for DiskJournals<R> {
+    type Journal = DiskJournal<R>;
 
     ghost deeds = { λ _. None };
 
     ghost faults = { journal_faults_of };
 
-    fn open_journal(&mut self, name: &str) -> Result<DiskJournal, Failed>
+    fn open_journal(&mut self, name: &str) -> Result<DiskJournal<R>, Failed>
         ensures quiet { IfOk result (λ journal. faults_of journal ≡ 0) }
         ensures sound { IfOk result (λ journal. faults_of journal ≡ 0) }
         ensures cause { HasCause (journal_faults_of self.old) (journal_faults_of self.new) result }
@@ -179,20 +229,20 @@ impl<R: rt::Files<File = File>> Journals for DiskJournals<R> {
         ensures named { IsNoted (journal_name_of self.new) name.now }
     {
         note_name(&mut self.name, name);
-        match open_locked(&self.rt, name) {
-            Ok(file) => {
+        match open_named(self.alloc, &self.rt, name) {
+            Ok((names, file)) => {
                 self.trouble = None;
-                Ok(DiskJournal::new(file))
+                Ok(DiskJournal::new(self.rt, names, file))
             }
-            Err(e) => {
-                self.trouble = Some(e.kind());
+            Err(kind) => {
+                self.trouble = Some(kind);
                 self.faults = self.faults.saturating_add(1);
                 Err(Failed)
             }
         }
     }
 
-    fn close_journal(&mut self, journal: DiskJournal)
+    fn close_journal(&mut self, journal: DiskJournal<R>)
         ensures failed { 0 < faults_of journal → Rose (journal_faults_of self.old) (journal_faults_of self.new) }
         ensures quiet { faults_of journal ≡ 0 → journal_faults_of self.new ≡ journal_faults_of self.old }
         ensures later { journal_faults_of self.old ≤ journal_faults_of self.new }
@@ -203,11 +253,16 @@ impl<R: rt::Files<File = File>> Journals for DiskJournals<R> {
         ensures named { journal_name_of self.new ≡ journal_name_of self.old }
     {
         let DiskJournal {
+            rt: _,
+            name: _,
+            new_name: _,
             file,
+            beside,
             trouble,
             faults,
         } = journal;
         drop(file);
+        drop(beside);
         if faults > 0 {
             self.trouble = trouble;
             self.faults = self.faults.saturating_add(1);
@@ -221,26 +276,4 @@ fn note_name(noted: &mut String, name: &str)
 {
     noted.clear();
     let _ = noted.push_str(name);
-}
-
-/// The file of a name, which is made if there is none, at its end and for this process alone.
-fn open_locked<R: rt::Files<File = File>>(rt: &R, name: &str) -> io::Result<File> {
-    let file = File::options()
-        .read(true)
-        .append(true)
-        .create(true)
-        .mode(0o600)
-        .open(rt, name)?;
-    file.try_lock()?;
-    sync_folder(rt, name)?;
-    Ok(file)
-}
-
-/// Returns once the name of a file that was made is on the disk.
-fn sync_folder<R: rt::Files<File = File>>(rt: &R, name: &str) -> io::Result<()> {
-    let folder = match Path::new(name).parent() {
-        Some(parent) if !parent.as_str().is_empty() => parent,
-        _ => Path::new("."),
-    };
-    File::open(rt, folder)?.sync_all()
 }

@@ -8,6 +8,9 @@
 //! **What a crash may leave** (`MayLeave`): what some first deeds made of the file, and of the next one a part: some
 //! first bytes of those that were to be kept, or a file that is cut less far.
 //!
+//! **A new file in its place** (`replace`): it is written beside, comes onto the disk, takes the name, and then the names come
+//! onto the disk. So a crash leaves the whole old file or the whole new one, which is a law.
+//!
 //! **After a failure** a journal is never used again. Nobody knows then what of the file is on the disk, and another try
 //! may say that all is well: so a call demands that none before it has failed.
 //!
@@ -19,10 +22,14 @@
 #![tactic(auto)]
 
 mod disk;
+pub mod laws;
 mod log;
 mod memory;
 mod outside;
+mod replacing;
+mod system;
 
 pub use disk::{DiskJournal, DiskJournals};
 pub use memory::{MemJournal, MemJournals};
 pub use outside::{Journal, Journals, ReadyDoor};
+pub use replacing::replace;

@@ -12,12 +12,15 @@ use std::marker::Model;
 pub struct MemJournal<'a> {
     log: Log,
     file: Vec<u8>,
+    // The file beside it, if there is one.
+    beside: Option<Vec<u8>>,
     failing: &'a [u64],
     calls: u64,
     faults: u64,
 }
 
 impl<'a> Model for MemJournal<'a> {
+    ghost use Rattle.std.specs.Option.{option_map};
     ghost use Rattle.bw_stable.specs.Memory.{JournalValue};
 
     ghost Value = { JournalValue };
@@ -25,6 +28,7 @@ impl<'a> Model for MemJournal<'a> {
     ghost view = { λ journal. record {
       deeds = journal.log.deeds;
       file = journal.file.items;
+      beside = option_map (λ file. file.items) journal.beside;
       failing = journal.failing.now;
       calls = journal.calls;
       faults = journal.faults;
@@ -51,7 +55,7 @@ impl MemJournal<'_> {
 }
 
 impl Journal for MemJournal<'_> {
-    ghost use Rattle.bw_stable.specs.Deeds.{Does, cut, kept};
+    ghost use Rattle.bw_stable.specs.Deeds.{Does, cut, kept, moved, named, renamed, settled, wrote};
     ghost use Rattle.bw_stable.specs.Memory.{with_deed};
 
     ghost deeds = { λ journal. Some journal.deeds };
@@ -97,6 +101,78 @@ impl Journal for MemJournal<'_> {
             return Err(Failed);
         }
         self.log = self.log.and(&(door, channel, bytes));
+        Ok(())
+    }
+
+    fn write_beside(&mut self, bytes: &[u8]) -> Result<(), Failed>
+        requires { self.old.faults ≡ 0 }
+        ensures done { OnOk result (Does (Some self.old.deeds) (Some self.new.deeds) (moved (wrote bytes.now))) }
+        ensures untold { OnErr result (Some self.new.deeds ≡ Some self.old.deeds) }
+        ensures sound { OnOk result (self.new.faults ≡ 0) }
+        ensures cause { HasCause self.old.faults self.new.faults result }
+
+        // Nothing else is done.
+        ensures whole { OnOk result (self.new ≡ with_deed (moved (wrote bytes.now)) self.old) }
+    {
+        self.begin()?;
+        match Vec::from_slice(*self.file.allocator(), bytes) {
+            Ok(file) => {
+                self.log = self.log.and(&file);
+                self.beside = Some(file);
+                Ok(())
+            }
+            Err(_) => {
+                self.faults = self.faults.saturating_add(1);
+                Err(Failed)
+            }
+        }
+    }
+
+    fn settle_beside(&mut self) -> Result<(), Failed>
+        requires { self.old.faults ≡ 0 }
+        ensures done { OnOk result (Does (Some self.old.deeds) (Some self.new.deeds) (moved settled)) }
+        ensures untold { OnErr result (Some self.new.deeds ≡ Some self.old.deeds) }
+        ensures sound { OnOk result (self.new.faults ≡ 0) }
+        ensures cause { HasCause self.old.faults self.new.faults result }
+
+        // Nothing else is done.
+        ensures whole { OnOk result (self.new ≡ with_deed (moved settled) self.old) }
+    {
+        self.begin()?;
+        self.log = self.log.and(&());
+        Ok(())
+    }
+
+    fn take_name(&mut self) -> Result<(), Failed>
+        requires { self.old.faults ≡ 0 }
+        ensures done { OnOk result (Does (Some self.old.deeds) (Some self.new.deeds) (moved renamed)) }
+        ensures untold { OnErr result (Some self.new.deeds ≡ Some self.old.deeds) }
+        ensures sound { OnOk result (self.new.faults ≡ 0) }
+        ensures cause { HasCause self.old.faults self.new.faults result }
+
+        // Nothing else is done.
+        ensures whole { OnOk result (self.new ≡ with_deed (moved renamed) self.old) }
+    {
+        self.begin()?;
+        if let Some(file) = self.beside.take() {
+            self.file = file;
+        }
+        self.log = self.log.and(&());
+        Ok(())
+    }
+
+    fn settle_names(&mut self) -> Result<(), Failed>
+        requires { self.old.faults ≡ 0 }
+        ensures done { OnOk result (Does (Some self.old.deeds) (Some self.new.deeds) (moved named)) }
+        ensures untold { OnErr result (Some self.new.deeds ≡ Some self.old.deeds) }
+        ensures sound { OnOk result (self.new.faults ≡ 0) }
+        ensures cause { HasCause self.old.faults self.new.faults result }
+
+        // Nothing else is done.
+        ensures whole { OnOk result (self.new ≡ with_deed (moved named) self.old) }
+    {
+        self.begin()?;
+        self.log = self.log.and(&());
         Ok(())
     }
 }
@@ -159,6 +235,7 @@ impl<'a> Journals for MemJournals<'a> {
             Some(file) => Ok(MemJournal {
                 log: Log::new(),
                 file,
+                beside: None,
                 failing: self.failing,
                 calls: 0,
                 faults: 0,
@@ -174,6 +251,7 @@ impl<'a> Journals for MemJournals<'a> {
         let MemJournal {
             log,
             file,
+            beside: _,
             failing: _,
             calls: _,
             faults,

@@ -2,7 +2,7 @@
 ghost use Rattle.std.specs.Prelude.{◌≡◌, ◌≤◌, ◌<◌, ℕ, List, [], IfOk, IfSome, OnOk, OnErr};
 ghost use Rattle.std.specs.declared.option.Option.{Option};
 ghost use Rattle.bw_out.specs.Causes.{Rose, HasCause};
-ghost use Rattle.bw_stable.specs.Deeds.{Deed, Does, cut, kept};
+ghost use Rattle.bw_stable.specs.Deeds.{Deed, Does, cut, kept, moved, named, renamed, settled, wrote};
 
 use bw_out::{Channel, Door, Failed};
 
@@ -41,6 +41,42 @@ pub trait Journal {
     ) -> Result<(), Failed>
         requires { is_sound self.old }
         ensures done { OnOk result (Does (deeds self.old) (deeds self.new) (kept bytes.now (D.returned door.now) (C.held channel.now))) }
+        ensures untold { OnErr result (deeds self.new ≡ deeds self.old) }
+        ensures sound { OnOk result (is_sound self.new) }
+        ensures cause { HasCause (faults self.old) (faults self.new) result };
+
+    /// Makes a file beside the journal's anew, with these bytes. The journal stays as it is.
+    ///
+    /// `Failed` comes only where the count rose. Anything may then be in the file beside.
+    fn write_beside(&mut self, bytes: &[u8]) -> Result<(), Failed>
+        requires { is_sound self.old }
+        ensures done { OnOk result (Does (deeds self.old) (deeds self.new) (moved (wrote bytes.now))) }
+        ensures untold { OnErr result (deeds self.new ≡ deeds self.old) }
+        ensures sound { OnOk result (is_sound self.new) }
+        ensures cause { HasCause (faults self.old) (faults self.new) result };
+
+    /// Returns once all of the file beside is on the disk. `Failed` comes only where the count rose.
+    fn settle_beside(&mut self) -> Result<(), Failed>
+        requires { is_sound self.old }
+        ensures done { OnOk result (Does (deeds self.old) (deeds self.new) (moved settled)) }
+        ensures untold { OnErr result (deeds self.new ≡ deeds self.old) }
+        ensures sound { OnOk result (is_sound self.new) }
+        ensures cause { HasCause (faults self.old) (faults self.new) result };
+
+    /// Gives the file beside the journal's name. It is the journal's file from then on, and the one before has no name.
+    ///
+    /// `Failed` comes only where the count rose. The name is then that of either.
+    fn take_name(&mut self) -> Result<(), Failed>
+        requires { is_sound self.old }
+        ensures done { OnOk result (Does (deeds self.old) (deeds self.new) (moved renamed)) }
+        ensures untold { OnErr result (deeds self.new ≡ deeds self.old) }
+        ensures sound { OnOk result (is_sound self.new) }
+        ensures cause { HasCause (faults self.old) (faults self.new) result };
+
+    /// Returns once the names are on the disk. `Failed` comes only where the count rose.
+    fn settle_names(&mut self) -> Result<(), Failed>
+        requires { is_sound self.old }
+        ensures done { OnOk result (Does (deeds self.old) (deeds self.new) (moved named)) }
         ensures untold { OnErr result (deeds self.new ≡ deeds self.old) }
         ensures sound { OnOk result (is_sound self.new) }
         ensures cause { HasCause (faults self.old) (faults self.new) result };

@@ -1,7 +1,6 @@
 //! A scripted user visits a service: it asks for a session's start, and fills in each page's form by a line of its script.
 #![tactic(auto)]
 
-mod answers;
 mod exchange;
 pub mod laws;
 pub mod lent;

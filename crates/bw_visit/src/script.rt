@@ -1,13 +1,11 @@
 //! Scripts.
 ghost use Rattle.std.specs.Prelude.{◌≡◌, IsTrue, MatchOption};
-ghost use Rattle.std.specs.List.{AllPass};
 ghost use Rattle.bw_http.specs.Paths.{IsCutAt, IsForm, HasNo};
 ghost use Rattle.bw_http.specs.declared.request.Path.TheVariants.{Start};
-ghost use Rattle.bw_lang.specs.Text.Bytes as bytes;
-ghost use Rattle.bw_lang.specs.Text.TokenForms.{IsWord};
 ghost use Rattle.bw_visit.specs.Scripts.{AreLines, HasLines, HasNoLines, IsScript, IsNoScript};
 
 use crate::limits::MAX_SCRIPT_BYTES;
+use bw_http::is_word;
 use bw_lang::limits::MAX_NAME_BYTES;
 use std::str;
 
@@ -64,34 +62,4 @@ fn is_name(text: &str) -> bool
     ensures none { IsForm (Start text.now) → IsTrue result }
 {
     text.len() <= MAX_NAME_BYTES as usize && is_word(text.as_bytes())
-}
-
-fn is_letter(b: u8) -> bool
-    ensures { result ≡ bytes.is_letter b }
-{
-    b.is_ascii_lowercase() || (b.is_ascii_uppercase() || b == b'_')
-}
-
-fn is_word_byte(b: u8) -> bool
-    ensures { result ≡ bytes.is_word_byte b }
-{
-    is_letter(b) || b.is_ascii_digit()
-}
-
-fn are_word_bytes(text: &[u8]) -> bool
-    ensures yes { IsTrue result → AllPass bytes.is_word_byte text.now }
-    ensures none { AllPass bytes.is_word_byte text.now → IsTrue result }
-{
-    text.iter().all(|b| is_word_byte(*b))
-}
-
-/// Whether it is a word, as sessions have for names.
-fn is_word(bytes: &[u8]) -> bool
-    ensures word { IsTrue result → IsWord bytes.now }
-    ensures none { IsWord bytes.now → IsTrue result }
-{
-    match bytes {
-        [] => false,
-        [first, rest @ ..] => is_letter(*first) && are_word_bytes(rest),
-    }
 }

@@ -3,10 +3,10 @@ ghost use Rattle.std.specs.Prelude.{◌≡◌, []};
 ghost use Rattle.bw_visit.specs.Scripts.{AreLines};
 ghost use Rattle.bw_visit.specs.Turns.{IsAnswered, IsNext, IsSent, Keeps, Shrinks};
 
-use crate::answers::read_answers;
 use crate::messages::put_post;
 use crate::script::first_line;
 use bw_agent::{AgentFault, Filled, fill};
+use bw_http::read_form;
 use bw_lang::{Memory, Text};
 use std::alloc::Global;
 
@@ -56,7 +56,7 @@ fn answer_line<'a>(
     ensures answered { IsAnswered body.now line.now later.now message.new.items result }
     ensures keeps { Keeps later.now message.new.items result }
 {
-    match read_answers(alloc, line.as_bytes()) {
+    match read_form(alloc, line.as_bytes()) {
         Ok(form) => match fill(alloc, body, &form) {
             Ok(filled) => send(&filled, later, message),
             Err(AgentFault::NotAPage) => After::Over,

@@ -1,6 +1,7 @@
 //! Failures of a journal.
-use crate::runs::{Beside, Kept, Wrong, keep};
+use crate::beside::{Beside, Kept, keep};
 use crate::serves::REQUESTS;
+use crate::wrongs::Wrong;
 use std::alloc::Global;
 use std::thread::Threads;
 
@@ -14,6 +15,9 @@ pub const JOURNAL_FAULT: u8 = 17;
 
 /// More calls than any run makes.
 const CALLS_MOST: u64 = 100_000;
+
+/// The calls by which a new file comes into a journal's place, up to the one that gives it the name.
+const CALLS_UP_TO_NAME: u64 = 3;
 
 /// Requests that come beside a journal.
 #[derive(Clone, Copy)]
@@ -39,13 +43,15 @@ impl<'a> Trial<'a> {
     }
 }
 
-/// Has each call of a journal fail in its turn: of one that isn't there yet and of one that has the first request, where each
-/// link is kept for itself and where all are kept together.
+/// Has each call of a journal fail in its turn: of one that isn't there yet and of one that has the first request, which goes on or is
+/// begun anew, where each link is kept for itself and where all are kept together.
 pub fn try_all<R: Threads + Sync>(rt: &R, alloc: Global) -> Result<u32, Wrong> {
     let mut tally = 0u32;
     for is_ready in [false, true] {
         tally = tally.saturating_add(try_new(rt, alloc, is_ready)?);
-        tally = tally.saturating_add(try_begun(rt, alloc, is_ready)?);
+        for rotates in [false, true] {
+            tally = tally.saturating_add(try_begun(rt, alloc, is_ready, rotates)?);
+        }
     }
     Ok(tally)
 }
@@ -54,18 +60,23 @@ pub fn try_all<R: Threads + Sync>(rt: &R, alloc: Global) -> Result<u32, Wrong> {
 fn try_new<R: Threads + Sync>(rt: &R, alloc: Global, is_ready: bool) -> Result<u32, Wrong> {
     let trial = Trial {
         requests: &REQUESTS,
-        beside: sound(&[], is_ready),
+        beside: sound(&[], is_ready, false),
     };
     try_calls(rt, alloc, trial)
 }
 
-/// The same of a journal that has the first request.
-fn try_begun<R: Threads + Sync>(rt: &R, alloc: Global, is_ready: bool) -> Result<u32, Wrong> {
+/// The same of a journal that has the first request, and is begun anew or not.
+fn try_begun<R: Threads + Sync>(
+    rt: &R,
+    alloc: Global,
+    is_ready: bool,
+    rotates: bool,
+) -> Result<u32, Wrong> {
     let (first, others) = REQUESTS.split_at(1);
-    let begun = keep(rt, alloc, first, sound(&[], is_ready))?;
+    let begun = keep(rt, alloc, first, sound(&[], is_ready, false))?;
     let trial = Trial {
         requests: others,
-        beside: sound(&begun.journal, is_ready),
+        beside: sound(&begun.journal, is_ready, rotates),
     };
     let tally = try_calls(rt, alloc, trial);
     drop(begun);
@@ -73,10 +84,11 @@ fn try_begun<R: Threads + Sync>(rt: &R, alloc: Global, is_ready: bool) -> Result
 }
 
 /// A journal that holds this, of which no call fails.
-fn sound(journal: &[u8], is_ready: bool) -> Beside<'_> {
+fn sound(journal: &[u8], is_ready: bool, rotates: bool) -> Beside<'_> {
     Beside {
         journal,
         is_ready,
+        rotates,
         openings: &[],
         failing: &[],
     }
@@ -98,7 +110,7 @@ fn fail_calls<R: Threads + Sync>(
     whole: &Kept,
 ) -> Result<u32, Wrong> {
     let unopened = trial.with(&[1], &[]).kept(rt, alloc)?;
-    let is_due = came_before(&unopened, 0, trial);
+    let is_due = came_before(rt, alloc, &unopened, 0, trial, whole);
     drop(unopened);
     is_due?;
     for call in 1..CALLS_MOST {
@@ -126,7 +138,7 @@ fn came<R: Threads + Sync>(
         return are_alike(got, whole, call);
     }
     if got.output.as_slice() == FAULT {
-        came_before(got, call, trial)?;
+        came_before(rt, alloc, got, call, trial, whole)?;
     } else {
         came_behind(rt, alloc, got, call, trial, whole)?;
     }
@@ -147,18 +159,28 @@ fn are_alike(got: &Kept, whole: &Kept, call: u64) -> Result<bool, Wrong> {
     Ok(true)
 }
 
-/// Looks at what came where a call failed before a port was asked for: the journal is as it was, and no link came.
-fn came_before(got: &Kept, call: u64, trial: Trial<'_>) -> Result<(), Wrong> {
+/// Looks at what came where a call failed before a port was asked for: no link came, the journal is as it was, or begun anew where the
+/// new file has its name, and who begins again with it answers all links as if nothing had been.
+fn came_before<R: Threads + Sync>(
+    rt: &R,
+    alloc: Global,
+    got: &Kept,
+    call: u64,
+    trial: Trial<'_>,
+    whole: &Kept,
+) -> Result<(), Wrong> {
     if got.status != JOURNAL_FAULT {
         return Err(Wrong::Status(call));
     }
     if got.output.as_slice() != FAULT || !got.held.is_empty() {
         return Err(Wrong::Output(call));
     }
-    if got.journal.as_slice() != trial.beside.journal {
+    if trial.beside.rotates && call > CALLS_UP_TO_NAME {
+        look_at_journal(rt, alloc, got, call, trial)?;
+    } else if got.journal.as_slice() != trial.beside.journal {
         return Err(Wrong::Journal(call));
     }
-    Ok(())
+    go_on(rt, alloc, got, call, trial, whole)
 }
 
 /// Looks at what came where a call failed behind: some first links were answered, and others, one at least, hold nothing.
@@ -243,7 +265,7 @@ fn go_on<R: Threads + Sync>(
     whole: &Kept,
 ) -> Result<(), Wrong> {
     let (_, others) = parts_of(trial, got);
-    let beside = sound(&got.journal, trial.beside.is_ready);
+    let beside = sound(&got.journal, trial.beside.is_ready, trial.beside.rotates);
     let later = keep(rt, alloc, others, beside)?;
     let is_due = later.status == 0 && are_last(&later, answered_of(got), whole);
     drop(later);

@@ -1,14 +1,17 @@
 //! Every call that may fail fails in its turn: the first read, the second, and so on until a run meets no failure, and then
 //! the writes, each in pieces of 1, 7 and 4,096 bytes. Requests of a file are answered up to the failure, each earlier reply
 //! whole. On a link the failure ends that link alone: the world is as after the last request that was taken, and the links
-//! behind it are answered as if nothing had been. Beside a journal, its opening fails, each cut, and each piece that is to be
-//! kept: the program ends, no link that waited holds a byte, and who begins again with the journal answers what was left.
+//! behind it are answered as if nothing had been. Beside a journal, its opening fails, each cut, each piece that is to be kept, and
+//! each step by which a new file comes into its place: the program ends, no link that waited holds a byte, and who begins again with
+//! the journal answers what was left.
 //!
 //! With the word `memory` it answers a guest book's requests, checks a service by four workers, shows why one is refused, tells
-//! lights, saves sessions and goes on from them, visits, and serves links beside a journal, for tools/without_memory. It ends with code 20 where a request for memory was refused
-//! and a run ended for it, with 21 where a request was answered by 503, and with 22 where there was no memory for the trial itself.
+//! lights, saves sessions, of a journal too, and goes on from them, visits, and serves links beside a journal, which is begun anew or
+//! not, for tools/without_memory. It ends with code 20 where a request for memory was refused and a run ended for it, with 21 where a
+//! request was answered by 503, and with 22 where there was no memory for the trial itself.
 #![tactic(auto)]
 
+mod beside;
 mod door;
 mod journals;
 mod memory;
@@ -17,9 +20,10 @@ mod replays;
 mod runs;
 mod serves;
 mod wanting;
+mod wrongs;
 
 use crate::memory::Came;
-use crate::runs::Wrong;
+use crate::wrongs::Wrong;
 use std::alloc::Global;
 use std::env;
 use std::process::ExitCode;
@@ -85,7 +89,9 @@ fn try_memory<R: Threads + Sync>(rt: &R, alloc: Global) -> Result<Came, Wrong> {
     let came = or(came, wanting::try_lights(rt, alloc)?);
     let came = or(came, wanting::try_saved(rt, alloc)?);
     let came = or(came, wanting::try_visit(rt, alloc)?);
-    Ok(or(came, wanting::try_kept(rt, alloc)?))
+    let came = or(came, wanting::try_kept(rt, alloc)?);
+    let came = or(came, wanting::try_preserved(rt, alloc)?);
+    Ok(or(came, wanting::try_anew(rt, alloc)?))
 }
 
 /// The first, unless it came to nothing.

@@ -1,7 +1,8 @@
 //! Want of memory, one request for it at a time: tools/without_memory has one refused in each run, the first, the second, and so
 //! on until none is. A run in which one was refused ends with code 8 and has printed nothing; or it answers one request by
 //! 503, and the others as if that one had never been sent.
-use crate::runs::{Replayed, Wrong, check, replay, sound};
+use crate::runs::{Replayed, check, replay, sound};
+use crate::wrongs::Wrong;
 use bw_make::make;
 use std::alloc::Global;
 use std::num::NonZeroUsize;

@@ -1,7 +1,9 @@
-//! Failures of the files that a command reads before its work: the service, formats, texts, saved sessions and scripts. Each read
-//! of one fails in its turn, and nothing is printed then.
+//! Failures of the files that a command reads before its work: the service, formats, texts, saved sessions, scripts and journals. Each
+//! read of one fails in its turn, and nothing is printed then.
+use crate::beside::left_by;
 use crate::memory::GUESTS;
-use crate::runs::{Replayed, Wrong, told, whole_file};
+use crate::runs::{Replayed, told, whole_file};
+use crate::wrongs::Wrong;
 use bw_out::MemFile;
 use std::alloc::Global;
 use std::thread::Threads;
@@ -15,7 +17,7 @@ const CALLS_MOST: u64 = 100_000;
 /// The exit code of a run whose file could not be read.
 const READ_FAULT: u8 = 5;
 
-/// The files but that of saved sessions: a guest book, a request of it, formats of its field, texts, and a script.
+/// The files that no run leaves: a guest book, a request of it, formats of its field, texts, and a script.
 const FILES: [(&str, &[u8]); 5] = [
     ("s", GUESTS),
     ("r", b"GET /visit HTTP/1.1\r\nHost: a\r\n\r\n"),
@@ -31,7 +33,7 @@ struct Trial {
     file: &'static str,
 }
 
-const TRIALS: [Trial; 8] = [
+const TRIALS: [Trial; 11] = [
     Trial {
         words: &["check", "s"],
         file: "s",
@@ -61,15 +63,94 @@ const TRIALS: [Trial; 8] = [
         file: "r",
     },
     Trial {
+        words: &["freeze", "s", "--journal", "j"],
+        file: "j",
+    },
+    Trial {
+        words: &["freeze", "s", "--journal", "k"],
+        file: "k",
+    },
+    Trial {
+        words: &["serve", "s", "--journal", "k", "--rotate", "1"],
+        file: "k",
+    },
+    Trial {
         words: &["visit", "s", "v"],
         file: "v",
     },
 ];
 
-/// All files, of which the reads of one fail whose numbers these are. The sessions are those that `saved` holds.
+/// The files that other runs leave: saved sessions, a journal, and one that begins at a saved world and goes on.
+#[derive(Drop)]
+struct Left {
+    saved: Vec<u8>,
+    journal: Vec<u8>,
+    anew: Vec<u8>,
+}
+
+impl Left {
+    /// What these runs leave.
+    fn new<R: Threads + Sync>(rt: &R, alloc: Global) -> Result<Left, Wrong> {
+        let folder = [whole_file("s", FILES[0].1), whole_file("r", FILES[1].1)];
+        let saved = told(rt, alloc, &["freeze", "s", "r"], &folder)?.output;
+        let journal = left_by(
+            rt,
+            alloc,
+            &["replay", "s", "r", "--journal", "j"],
+            &folder,
+            b"",
+        )?;
+        let anew = begun_anew(rt, alloc, &journal)?;
+        Ok(Left {
+            saved,
+            journal,
+            anew,
+        })
+    }
+}
+
+/// A journal that begins at the world which this one brings about, and has an entry behind it.
+fn begun_anew<R: Threads + Sync>(rt: &R, alloc: Global, journal: &[u8]) -> Result<Vec<u8>, Wrong> {
+    let begun = at_its_world(rt, alloc, journal)?;
+    gone_on(rt, alloc, &begun)
+}
+
+/// A journal that begins at the world which this one brings about.
+fn at_its_world<R: Threads + Sync>(
+    rt: &R,
+    alloc: Global,
+    journal: &[u8],
+) -> Result<Vec<u8>, Wrong> {
+    let folder = [whole_file("s", FILES[0].1), whole_file("j", journal)];
+    left_by(
+        rt,
+        alloc,
+        &["serve", "s", "--journal", "j", "--rotate", "1"],
+        &folder,
+        journal,
+    )
+}
+
+/// A journal behind one more request.
+fn gone_on<R: Threads + Sync>(rt: &R, alloc: Global, journal: &[u8]) -> Result<Vec<u8>, Wrong> {
+    let folder = [
+        whole_file("s", FILES[0].1),
+        whole_file("r", FILES[1].1),
+        whole_file("j", journal),
+    ];
+    left_by(
+        rt,
+        alloc,
+        &["replay", "s", "r", "--journal", "j"],
+        &folder,
+        journal,
+    )
+}
+
+/// All files, of which the reads of one fail whose numbers these are.
 fn folder_of<'a>(
     alloc: Global,
-    saved: &'a [u8],
+    left: &'a Left,
     file: &str,
     failing: &'a [u64],
 ) -> Result<Vec<MemFile<'a>>, Wrong> {
@@ -77,7 +158,9 @@ fn folder_of<'a>(
     for (name, content) in FILES {
         folder.push(file_of(name, content, file, failing))?;
     }
-    folder.push(file_of("l", saved, file, failing))?;
+    folder.push(file_of("l", &left.saved, file, failing))?;
+    folder.push(file_of("j", &left.journal, file, failing))?;
+    folder.push(file_of("k", &left.anew, file, failing))?;
     Ok(folder)
 }
 
@@ -95,11 +178,11 @@ fn file_of<'a>(name: &'a str, content: &'a [u8], file: &str, failing: &'a [u64])
 fn run_of<R: Threads + Sync>(
     rt: &R,
     alloc: Global,
-    saved: &[u8],
+    left: &Left,
     trial: Trial,
     failing: &[u64],
 ) -> Result<Replayed, Wrong> {
-    let folder = folder_of(alloc, saved, trial.file, failing)?;
+    let folder = folder_of(alloc, left, trial.file, failing)?;
     told(rt, alloc, trial.words, &folder)
 }
 
@@ -107,11 +190,11 @@ fn run_of<R: Threads + Sync>(
 fn try_one<R: Threads + Sync>(
     rt: &R,
     alloc: Global,
-    saved: &[u8],
+    left: &Left,
     trial: Trial,
 ) -> Result<u32, Wrong> {
     for call in 1..CALLS_MOST {
-        let got = run_of(rt, alloc, saved, trial, &[call])?;
+        let got = run_of(rt, alloc, left, trial, &[call])?;
         let (status, is_quiet) = (got.status, got.output.is_empty());
         drop(got);
         if status == 0 {
@@ -129,11 +212,10 @@ fn try_one<R: Threads + Sync>(
 
 /// Has each read of each of these files fail in its turn, and gives how many there are.
 pub fn try_all<R: Threads + Sync>(rt: &R, alloc: Global) -> Result<u32, Wrong> {
-    let folder = [whole_file("s", FILES[0].1), whole_file("r", FILES[1].1)];
-    let saved = told(rt, alloc, &["freeze", "s", "r"], &folder)?;
+    let left = Left::new(rt, alloc)?;
     let mut tally = 0u32;
     for trial in TRIALS {
-        tally = tally.saturating_add(try_one(rt, alloc, &saved.output, trial)?);
+        tally = tally.saturating_add(try_one(rt, alloc, &left, trial)?);
     }
     Ok(tally)
 }

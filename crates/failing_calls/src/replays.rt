@@ -1,5 +1,6 @@
 //! Failures while the requests of a file are answered.
-use crate::runs::{Calls, TWICE, Wrong, replay, sound};
+use crate::runs::{Calls, TWICE, replay, sound};
+use crate::wrongs::Wrong;
 use std::alloc::Global;
 use std::num::NonZeroUsize;
 use std::thread::Threads;

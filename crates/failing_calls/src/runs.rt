@@ -1,14 +1,13 @@
 //! Runs of the whole program over forms in memory whose calls fail as they are told to.
 ghost use Rattle.std.specs.Prelude.{◌≡◌, ◌<◌};
 
-use crate::door::GroupDoor;
+use crate::wrongs::Wrong;
 use bigwig::run;
 use bw_keeping::WideDoor;
 use bw_lang::{Memory, Text, Words};
 use bw_out::{MemDoor, MemFile, MemFiles, MemKeys, MemLink, MemSink, MemSource, Quiet, Steps};
 use bw_stable::MemJournals;
-use std::alloc::{AllocError, AllocFailed, Global};
-use std::fmt;
+use std::alloc::Global;
 use std::marker::Brand;
 use std::num::NonZeroUsize;
 use std::sync::ledger::{Blank, Ledger};
@@ -20,55 +19,7 @@ pub const TWICE: &[u8] =
       Q<[t=\"one\"] receive [x=x]; show Q<[t=x] receive [x=x]; exit Q<[t=x]; } }";
 
 /// Room for all that is printed.
-const ROOM: usize = 65_536;
-
-/// What went wrong.
-#[derive(Clone, Copy, Debug, PartialEq, Eq, Drop)]
-pub enum Wrong {
-    /// This run, by the number of the call that fails, ended with another status than is due.
-    Status(u64),
-    /// Its output isn't the one that is due.
-    Output(u64),
-    /// A link behind the failure wasn't answered as if nothing had been.
-    Later(u64),
-    /// The journal holds something else than is due.
-    Journal(u64),
-    /// Where a request for memory was refused, something else came than is due.
-    Refused,
-    /// There was no memory for what is wanted.
-    Memory,
-}
-
-impl fmt::Display for Wrong {
-    fn fmt<W: fmt::Write>(&self, f: &mut fmt::Formatter<W>) -> fmt::Result {
-        match self {
-            Wrong::Status(call) => write!(f, "call {call}: another status"),
-            Wrong::Output(call) => write!(f, "call {call}: another output"),
-            Wrong::Later(call) => write!(f, "call {call}: another answer on a later link"),
-            Wrong::Journal(call) => write!(f, "call {call}: another journal"),
-            Wrong::Refused => write!(f, "a refused request for memory: another output"),
-            Wrong::Memory => write!(f, "out of memory"),
-        }
-    }
-}
-
-impl From<AllocError> for Wrong {
-    fn from(_error: AllocError) -> Wrong {
-        Wrong::Memory
-    }
-}
-
-impl From<Memory> for Wrong {
-    fn from(_error: Memory) -> Wrong {
-        Wrong::Memory
-    }
-}
-
-impl<T: Drop> From<AllocFailed<T>> for Wrong {
-    fn from(_error: AllocFailed<T>) -> Wrong {
-        Wrong::Memory
-    }
-}
+pub const ROOM: usize = 65_536;
 
 /// How the calls of one file or link go: how many bytes one takes, and the numbers of the reads and writes that fail.
 #[derive(Clone, Copy)]
@@ -105,7 +56,7 @@ pub fn whole_file<'a>(name: &'a str, content: &'a [u8]) -> MemFile<'a> {
 }
 
 /// The file of a service.
-fn service_file(content: &[u8]) -> MemFile<'_> {
+pub fn service_file(content: &[u8]) -> MemFile<'_> {
     whole_file("s", content)
 }
 
@@ -176,10 +127,10 @@ fn printed<R: Threads + Sync>(
 
 /// What a run is lent in memory beside its files and its keys.
 #[derive(Drop)]
-struct Lent<'a, D> {
-    journals: MemJournals<'a>,
-    door: D,
-    out: MemSink<'a>,
+pub struct Lent<'a, D> {
+    pub journals: MemJournals<'a>,
+    pub door: D,
+    pub out: MemSink<'a>,
 }
 
 /// A journal of which nobody asks.
@@ -226,83 +177,8 @@ fn serve_by<R: Threads + Sync>(
     })
 }
 
-/// How a run beside a journal goes.
-#[derive(Clone, Copy)]
-pub struct Beside<'a> {
-    /// What the journal holds before.
-    pub journal: &'a [u8],
-    /// Whether all links are at hand at once, so that they are kept together; else each is kept for itself.
-    pub is_ready: bool,
-    /// The numbers of the openings of the journal that fail.
-    pub openings: &'a [u64],
-    /// The numbers of the other calls of it that fail.
-    pub failing: &'a [u64],
-}
-
-/// What came of a run beside a journal: its exit code, what it printed, what the links and the journal hold.
-#[derive(Drop)]
-pub struct Kept {
-    pub status: u8,
-    pub output: Vec<u8>,
-    pub held: Vec<Vec<u8>>,
-    pub journal: Vec<u8>,
-}
-
-/// Serves these links beside a journal.
-pub fn keep<R: Threads + Sync>(
-    rt: &R,
-    alloc: Global,
-    requests: &[&[u8]],
-    beside: Beside<'_>,
-) -> Result<Kept, Wrong> {
-    let calls = sound(NonZeroUsize::MAX);
-    let mut lent = Lent {
-        journals: journals_of(alloc, beside)?,
-        door: GroupDoor {
-            door: door_of(alloc, requests, 0, calls)?,
-            is_ready: beside.is_ready,
-        },
-        out: MemSink::new(alloc, ROOM, usize::MAX, &[])?,
-    };
-    let kept = keep_by(rt, alloc, beside.journal, &mut lent);
-    drop(lent);
-    kept
-}
-
-/// The journal as it is before the run.
-fn journals_of<'a>(alloc: Global, beside: Beside<'a>) -> Result<MemJournals<'a>, Wrong> {
-    let file = Vec::from_slice(alloc, beside.journal)?;
-    Ok(MemJournals::new(file, beside.openings, beside.failing))
-}
-
-/// Serves the links of a door beside a journal, whose file holds this.
-fn keep_by<R: Threads + Sync>(
-    rt: &R,
-    alloc: Global,
-    journal: &[u8],
-    lent: &mut Lent<'_, GroupDoor<'_>>,
-) -> Result<Kept, Wrong> {
-    let folder = [service_file(TWICE), whole_file("j", journal)];
-    let words = ["serve", "s", "--journal", "j"];
-    let status = status_of(rt, alloc, &words, &folder, lent);
-    Ok(Kept {
-        status: status?,
-        output: Vec::from_slice(alloc, lent.out.bytes())?,
-        held: held_by(alloc, lent.door.door.returned())?,
-        journal: content_of(alloc, &lent.journals)?,
-    })
-}
-
-/// What the journal's file holds.
-fn content_of(alloc: Global, journals: &MemJournals<'_>) -> Result<Vec<u8>, AllocError> {
-    match journals.file() {
-        Some(content) => Vec::from_slice(alloc, content),
-        None => Ok(Vec::new(alloc)),
-    }
-}
-
 /// A door with these links.
-fn door_of<'a>(
+pub fn door_of<'a>(
     alloc: Global,
     requests: &[&'a [u8]],
     place: usize,
@@ -346,7 +222,7 @@ fn link_of<'a>(alloc: Global, request: &'a [u8], calls: Calls<'a>) -> Result<Mem
 }
 
 /// What each of these links holds.
-fn held_by(alloc: Global, links: &[MemLink<'_>]) -> Result<Vec<Vec<u8>>, Wrong> {
+pub fn held_by(alloc: Global, links: &[MemLink<'_>]) -> Result<Vec<Vec<u8>>, Wrong> {
     let mut held = Vec::new(alloc);
     for link in links {
         held.push(Vec::from_slice(alloc, link.sink.bytes())?)?;
@@ -363,7 +239,7 @@ fn words_of(alloc: Global, words: &[&str]) -> Result<Words, Memory> {
 }
 
 /// The exit code of a run by these words.
-fn status_of<R: Threads + Sync, D: WideDoor>(
+pub fn status_of<R: Threads + Sync, D: WideDoor>(
     rt: &R,
     alloc: Global,
     words: &[&str],

@@ -1,5 +1,6 @@
 //! Failures on a link that is served.
-use crate::runs::{Calls, Served, Wrong, serve, sound};
+use crate::runs::{Calls, Served, serve, sound};
+use crate::wrongs::Wrong;
 use std::alloc::Global;
 use std::num::NonZeroUsize;
 use std::thread::Threads;

@@ -1,9 +1,11 @@
 //! Want of memory where a refusal is shown, where lights are told, where sessions are saved and loaded, in a visit, and beside a
-//! journal: one request for it is refused.
+//! journal, which goes on or is begun anew: one request for it is refused.
+use crate::beside::{Beside, Kept, keep, left_by};
 use crate::journals::JOURNAL_FAULT;
 use crate::memory::{Came, GUESTS, NO_MEMORY, NOBODY, OUT_OF_MEMORY};
-use crate::runs::{Beside, Kept, Replayed, Wrong, keep, told, whole_file};
+use crate::runs::{Replayed, told, whole_file};
 use crate::serves::REQUESTS;
+use crate::wrongs::Wrong;
 use std::alloc::Global;
 use std::thread::Threads;
 
@@ -117,36 +119,87 @@ fn came_of_words(got: &Replayed, again: &Replayed) -> Result<Came, Wrong> {
     Err(Wrong::Refused)
 }
 
-/// Serves a link for each request beside a new journal, with another request in the place of the one at `without`.
+/// Saves what a journal brings back, and says what a refused request for memory led to.
+pub fn try_preserved<R: Threads + Sync>(rt: &R, alloc: Global) -> Result<Came, Wrong> {
+    let folder = [whole_file("s", GUESTS), whole_file("r", VISIT)];
+    let words = ["replay", "s", "r", "--journal", "j"];
+    let journal = left_by(rt, alloc, &words, &folder, b"")?;
+    let folder = [whole_file("s", GUESTS), whole_file("j", &journal)];
+    let words = ["freeze", "s", "--journal", "j"];
+    let got = told(rt, alloc, &words, &folder)?;
+    let again = told(rt, alloc, &words, &folder)?;
+    came_of_words(&got, &again)
+}
+
+/// What comes beside a journal: requests, what it holds before, and whether it is begun anew.
+#[derive(Clone, Copy)]
+struct Comes<'a> {
+    requests: &'a [&'a [u8]],
+    journal: &'a [u8],
+    rotates: bool,
+}
+
+/// Serves a link for each request beside a journal, with another request in the place of the one at `without`.
 fn served<R: Threads + Sync>(
     rt: &R,
     alloc: Global,
+    comes: Comes<'_>,
     without: usize,
     other: &[u8],
 ) -> Result<Kept, Wrong> {
     let mut requests = Vec::new(alloc);
-    for (place, request) in REQUESTS.iter().enumerate() {
+    for (place, request) in comes.requests.iter().enumerate() {
         requests.push(if place == without { other } else { request })?;
     }
     let beside = Beside {
-        journal: &[],
+        journal: comes.journal,
         is_ready: false,
+        rotates: comes.rotates,
         openings: &[],
         failing: &[],
     };
     keep(rt, alloc, &requests, beside)
 }
 
-/// Serves links beside a journal, and says what a refused request for memory led to.
+/// Serves links beside a new journal, and says what a refused request for memory led to.
 pub fn try_kept<R: Threads + Sync>(rt: &R, alloc: Global) -> Result<Came, Wrong> {
-    let all = REQUESTS.len();
-    let got = served(rt, alloc, all, b"")?;
-    let first = served(rt, alloc, all, b"")?;
-    let second = served(rt, alloc, all, b"")?;
+    let comes = Comes {
+        requests: &REQUESTS,
+        journal: &[],
+        rotates: false,
+    };
+    came_beside(rt, alloc, comes)
+}
+
+/// The same beside one that has the first request and is begun anew.
+pub fn try_anew<R: Threads + Sync>(rt: &R, alloc: Global) -> Result<Came, Wrong> {
+    let (first, others) = REQUESTS.split_at(1);
+    let comes = Comes {
+        requests: first,
+        journal: &[],
+        rotates: false,
+    };
+    let begun = served(rt, alloc, comes, first.len(), b"")?;
+    let comes = Comes {
+        requests: others,
+        journal: &begun.journal,
+        rotates: true,
+    };
+    let came = came_beside(rt, alloc, comes);
+    drop(begun);
+    came
+}
+
+/// Serves links beside a journal, and says what a refused request for memory led to.
+fn came_beside<R: Threads + Sync>(rt: &R, alloc: Global, comes: Comes<'_>) -> Result<Came, Wrong> {
+    let all = comes.requests.len();
+    let got = served(rt, alloc, comes, all, b"")?;
+    let first = served(rt, alloc, comes, all, b"")?;
+    let second = served(rt, alloc, comes, all, b"")?;
     if are_alike(&got, &first) || are_alike(&got, &second) {
         return Ok(Came::Nothing);
     }
-    came_of_kept(rt, alloc, &got)
+    came_of_kept(rt, alloc, comes, &got)
 }
 
 /// Whether all that came is the same.
@@ -158,20 +211,26 @@ fn are_alike(kept: &Kept, other: &Kept) -> bool {
 }
 
 /// What a refused request for memory led to where this came, which isn't what is due without one.
-fn came_of_kept<R: Threads + Sync>(rt: &R, alloc: Global, got: &Kept) -> Result<Came, Wrong> {
+fn came_of_kept<R: Threads + Sync>(
+    rt: &R,
+    alloc: Global,
+    comes: Comes<'_>,
+    got: &Kept,
+) -> Result<Came, Wrong> {
     if got.status == JOURNAL_FAULT {
         // The journal in memory had none for what was to be kept.
         return Err(Wrong::Memory);
     }
     if got.status == NO_MEMORY {
-        return if got.output.is_empty() && got.held.is_empty() && got.journal.is_empty() {
+        let is_as_it_was = got.journal.as_slice() == comes.journal;
+        return if got.output.is_empty() && got.held.is_empty() && is_as_it_was {
             Ok(Came::Stopped)
         } else {
             Err(Wrong::Refused)
         };
     }
-    for place in 0..REQUESTS.len() {
-        if got.status == 0 && is_without(rt, alloc, got, place)? {
+    for place in 0..comes.requests.len() {
+        if got.status == 0 && is_without(rt, alloc, comes, got, place)? {
             return Ok(Came::Answered);
         }
     }
@@ -183,11 +242,12 @@ fn came_of_kept<R: Threads + Sync>(rt: &R, alloc: Global, got: &Kept) -> Result<
 fn is_without<R: Threads + Sync>(
     rt: &R,
     alloc: Global,
+    comes: Comes<'_>,
     got: &Kept,
     place: usize,
 ) -> Result<bool, Wrong> {
-    let unread = served(rt, alloc, place, b"")?;
-    let unanswered = served(rt, alloc, place, NOBODY)?;
+    let unread = served(rt, alloc, comes, place, b"")?;
+    let unanswered = served(rt, alloc, comes, place, NOBODY)?;
     Ok(differ_by_one_reply(got, &unread, place) || differ_by_one_reply(got, &unanswered, place))
 }
 

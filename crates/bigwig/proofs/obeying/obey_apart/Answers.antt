@@ -39,3 +39,6 @@ returns-in-Visit-clause-comes g c =
     (record after { asked = door.asked d; coming = door.coming d; returned = door.returned d; deeds = before.deeds }) c.visit_command.result)) (sym others.0)
     (replies_comes _ (λ disk. work disk (Visit c.in-Visit.service c.in-Visit.script c.in-Visit.judging c.in-Visit.formats)) _ _ _ _
     _ _ _ _ before c.visit_command.ensures.comes)))
+
+pub returns-in-Preserve-clause-comes : goal.returns-in-Preserve-clause-comes
+returns-in-Preserve-clause-comes g c = of_command _ _ _ _ _ _ c.in-Preserve.is c.preserve_command.ensures.comes

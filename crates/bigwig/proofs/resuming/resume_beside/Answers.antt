@@ -21,10 +21,8 @@ returns-in-Ok-began-clause-keeps g c ruled text content bytes is read has =
     } in
     let s = answered.ensures.streams in
     let door = answered.ensures.kept.2 in
-    begun_kept ruled text content c.args.opening.head.items (to_answer bytes c.args.stream.most) c.in-Ok.room.group.sum c.args.server.now.world
-    c.args.opening.found o mid after answered.result
-    (record { is_found = read.is_found; start_is = read.start_is; sum_is = c.in-Ok.ensures.sum ∙ read.sum_is }) c.requires.none
-    c.in-Ok-began.ensures.begun refl
+    begun_kept ruled text content (to_answer bytes c.args.stream.most) c.in-Ok.room.group.sum c.args.server.now.world c.args.opening o mid after
+    answered.result read (c.in-Ok.ensures.sum ∙ c.sum.ensures) c.requires.none c.in-Ok-began.ensures.begun refl
     (λ m stands fit. stream_resumed ruled m c.args.server.now.world answered.new.server.world c.args.server.now.formats bytes c.in-Ok.room.intake
     answered.new.room.intake c.args.stream.most c.in-Ok.room.group.sum answered.new.room.group.sum mid after (g.F.File.Channel.left c.args.stream.file)
     (g.F.File.Channel.left answered.new.stream.file) s.1 s.0 answered.result is stands fit c.in-Ok.ensures.none has c.close.ensures.unread s.2 s.3

@@ -1,4 +1,4 @@
-use Rattle.std.proofs.Common.{◌≡◌, ◌+◌, ◌++◌, ap, sym, ◌∙◌, arith, drop, length, subst}
+use Rattle.std.proofs.Common.{◌+◌, ◌++◌, ap, sym, ◌∙◌, arith, drop, length, subst}
 use Rattle.bw_lang.specs.Document.Forest.{none}
 use Rattle.bw_lang.specs.Document.View.{before, forest}
 use Rattle.bw_places.specs.Tags.{tags}

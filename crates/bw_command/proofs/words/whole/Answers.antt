@@ -17,4 +17,5 @@ returns c =
     let e8 = c.in_ok-c-8.ensures ∙ ap (λ (a : App). with_rule a (option_rule (codes "formats"))) e7 in
     let e9 = c.in_ok-c-9.ensures ∙ ap (λ (a : App). with_rule a (option_rule (codes "journal"))) e8 in
     let e10 = c.in_ok-c-10.ensures ∙ ap (λ (a : App). with_rule a (option_rule (codes "load"))) e9 in
-    IfOk-weaker c.with_flag.result _ _ (λ r h. h ∙ ap (λ (a : App). with_rule a (flag_rule (codes "show-source"))) e10) c.with_flag.ensures
+    let e11 = c.in_ok-c-11.ensures ∙ ap (λ (a : App). with_rule a (option_rule (codes "rotate"))) e10 in
+    IfOk-weaker c.with_flag.result _ _ (λ r h. h ∙ ap (λ (a : App). with_rule a (flag_rule (codes "show-source"))) e11) c.with_flag.ensures

@@ -1,5 +1,6 @@
 use Rattle.bw_journal.proofs.HeadParts.{head_is}
 use Rattle.bw_journal.proofs.heads.read_head.Goals as goal
 
-pub returns-in-Differs : goal.returns-in-Differs
-returns-in-Differs c = head_is c.args.text.now c.args.bytes.now c.read_foreign.result c.in-Differs.ensures c.read_foreign.ensures
+pub returns-in-None : goal.returns-in-None
+returns-in-None c =
+    head_is c.args.text.now c.args.bytes.now c.read_foreign.result c.in-Differs.ensures c.in-None.ensures c.read_foreign.ensures
