@@ -1,2 +1,4 @@
 pub mod Places
 pub mod Rising
+pub mod Listed
+pub mod Explained

@@ -24,6 +24,8 @@ enum Table {
     Facts,
     /// Services and their page graphs.
     Pages,
+    /// Services, their page graphs, and pages that show their faults.
+    Explained,
     /// Summaries of documents.
     Summaries,
     /// Cells and what they hold.
@@ -36,6 +38,7 @@ impl Kind for Table {
             Table::Flows => "flows.cases",
             Table::Facts => "facts.cases",
             Table::Pages => "pages.cases",
+            Table::Explained => "explained.cases",
             Table::Summaries => "summaries.cases",
             Table::Sets => "sets.cases",
         }
@@ -46,6 +49,7 @@ impl Kind for Table {
             Table::Flows => flows::try_case(alloc, texts, case),
             Table::Facts => facts::try_case(alloc, texts, case),
             Table::Pages => pages::try_case(alloc, texts, case),
+            Table::Explained => pages::try_case(alloc, texts, case),
             Table::Summaries => summaries::try_case(alloc, texts, case),
             Table::Sets => sets::try_case(alloc, case),
         }
@@ -59,6 +63,7 @@ fn main(rt: HostRuntime) -> ExitCode {
             Table::Flows,
             Table::Facts,
             Table::Pages,
+            Table::Explained,
             Table::Summaries,
             Table::Sets,
         ],

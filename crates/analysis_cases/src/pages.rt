@@ -2,10 +2,13 @@
 //! built-in schema is meant. Lines `graph STEP` make what is known of the document, as the module `graphs` says.
 //!
 //! `page N` makes the page around that document for the statement of this number, a show or an exit, and judges it. What
-//! is wanted are the lines of its faults, in their order, or `accepted`.
+//! is wanted are the lines of its faults, in their order, or `accepted`. With a line `explain` come behind these, for each of
+//! the faults 1 to 7, `shows PAGE` with the bytes of a page that shows it, or with their number where they are many, or
+//! `no unfolding`, `too big` or `disjunction`.
 ghost use Rattle.std.specs.Prelude.{◌≡◌};
 ghost use Rattle.bw_strings.specs.Literals.{literals_of};
 
+mod explained;
 mod judging;
 mod known;
 mod shown;
@@ -24,7 +27,7 @@ use std::alloc::Global;
 /// Tries a page graph.
 pub fn try_case(alloc: Global, texts: &Texts<'_>, case: &Case<'_>) -> Result<Verdict, Fault> {
     let got = got(alloc, texts, case)?;
-    let wanted = case.wanted(alloc, &["service", "schema", "graph", "page"])?;
+    let wanted = case.wanted(alloc, &["service", "schema", "graph", "page", "explain"])?;
     Ok(Verdict::of(wanted, got))
 }
 
@@ -77,7 +80,15 @@ fn got_by(
 {
     let number = case.value_of("page").ok_or(Fault::Malformed)?.parse()?;
     let document = document_of(alloc, typed, literals, case)?;
-    let got = got_around(alloc, typed, literals, schema, &document, number);
+    let got = got_around(
+        alloc,
+        typed,
+        literals,
+        schema,
+        &document,
+        number,
+        case.value_of("explain").is_some(),
+    );
     drop(document);
     got
 }
@@ -90,13 +101,18 @@ fn got_around(
     schema: &Schema,
     document: &Summary,
     number: u32,
+    explains: bool,
 ) -> Result<String, Fault>
     requires { literals.now ≡ literals_of typed.now.service }
 {
     let faults = faults_of(alloc, typed, literals, schema, document, number)?;
-    let shown = shown(alloc, typed, &faults);
+    let lines = shown(alloc, typed, &faults);
     drop(faults);
-    Ok(shown?)
+    let mut shown = lines?;
+    if explains {
+        explained::put_all(alloc, typed, literals, schema, document, number, &mut shown)?;
+    }
+    Ok(shown)
 }
 
 /// The schema of a case, or the built-in one.

@@ -61,7 +61,7 @@ fn faults_in(
 }
 
 /// What the statement of this number does.
-fn statement(flow: &Flow, number: u32) -> Option<&What> {
+pub fn statement(flow: &Flow, number: u32) -> Option<&What> {
     let point = flow.point(flow.find(number)?)?;
     Some(&point.what)
 }

@@ -1,0 +1,6 @@
+use Rattle.bw_explain.proofs.solve.seek.Goals as goal
+
+pub settle-requires-clause-given : goal.settle-requires-clause-given
+settle-requires-clause-given c =
+    let g = c.requires.given c.if-high-goal.false in
+    record { states = g.states; zero = g.zero; plain = g.plain; known = g.known; fair = g.fair }

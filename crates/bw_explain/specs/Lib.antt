@@ -1,0 +1,12 @@
+pub mod Ways
+pub mod Sizes
+pub mod Tables
+pub mod Atoms
+pub mod Owns
+pub mod Walks
+pub mod Aims
+pub mod Shows
+pub mod Places
+pub mod Explained
+pub mod Building
+pub mod Splits

@@ -1,0 +1,234 @@
+//! The least document in which an element of a template is broken.
+ghost use Rattle.std.specs.Prelude.{◌≡◌, ℕ, ◌<◌, ◌^◌, ◌∷◌, [], if◌then◌else◌, IfOk, length, map};
+ghost use Rattle.bw_lang.specs.Document.Documents.{elements};
+ghost use Rattle.bw_shape.specs.Nodes.Templates.{template_at};
+ghost use Rattle.bw_explain.specs.Atoms as atoms;
+ghost use Rattle.bw_explain.specs.declared.atom.Atom.TheVariants.{Absent, BadText};
+ghost use Rattle.bw_explain.specs.Aims.{Plain_of, IsBroken};
+ghost use Rattle.bw_explain.specs.Explained as spec;
+ghost use Rattle.bw_explain.specs.Explained.{spot_of};
+ghost use Rattle.bw_explain.specs.Tables.{Solved};
+ghost use Rattle.bw_explain.specs.Ways.{graph};
+
+use crate::aim::{Aim, Broken};
+use crate::atom::Atom;
+use crate::element::{Whole, broken_element};
+use crate::explained::Explained;
+use crate::needs::add_needs;
+use crate::page::Page;
+use crate::sizes::NONE;
+use crate::solve::solve;
+use crate::table::Table;
+use bw_lang::{Element, Items, Memory, Name, Text, Tree};
+use bw_schema::{Formulas, Rule};
+use std::alloc::Global;
+
+/// An element of a template, by its place.
+#[derive(Clone, Copy)]
+pub struct Spot<'a> {
+    pub template: usize,
+    pub place: u32,
+    pub element: &'a Element,
+}
+
+/// The least size of some documents, and one of that size.
+#[derive(Drop)]
+pub struct Found {
+    pub size: u32,
+    pub doc: Items,
+}
+
+/// What a table has of a template.
+pub fn found_at(alloc: Global, table: &Table, root: usize) -> Result<Found, Memory>
+    ensures { IfOk result (λ f. spec.IsFoundAt table.now root f.size f.doc) }
+{
+    let mut doc = Items::new(alloc);
+    table.copy_onto(root, &mut doc)?;
+    Ok(Found {
+        size: table.size(root),
+        doc,
+    })
+}
+
+/// The least document in which the element is broken in one way, by the least of it.
+fn find_with<'x>(
+    alloc: Global,
+    page: &'x Page<'x>,
+    plain: &'x Table,
+    rule: &'x Rule,
+    atom: &'x Atom,
+    spot: &'x Spot<'x>,
+    whole: &'x Whole,
+    root: usize,
+) -> Result<Found, Memory>
+    requires few { (m : ℕ) → elements (template_at page.now.templates.now m) < 2 ^ 32 }
+    requires broken { IsBroken page.now rule.now atom.now spot.now.template spot.now.element.now whole.now }
+    ensures { IfOk result (λ f. spec.IsBest (spec.Finds (template_at page.now.templates.now) (graph page.now.nodes.now) (spot_of spot.now) rule.now
+        atom.now root) f.size f.doc) }
+{
+    let aim = Aim::One(Broken {
+        template: spot.template,
+        place: spot.place,
+        element: spot.element,
+        rule,
+        atom,
+        size: whole.size,
+        made: &whole.made,
+    });
+    let tables = solve(alloc, page, &aim, plain, 1)?;
+    found_at(alloc, &tables.first, root)
+}
+
+/// The least document in which the element is broken in one way.
+fn find_one(
+    alloc: Global,
+    page: &Page,
+    plain: &Table,
+    rule: &Rule,
+    atom: &Atom,
+    spot: &Spot,
+    root: usize,
+) -> Result<Found, Memory>
+    requires few { (m : ℕ) → elements (template_at page.now.templates.now m) < 2 ^ 32 }
+    requires plain { Solved (Plain_of page.now) plain.now }
+    requires spot { spot.now.template < length page.now.templates.now }
+    requires within { elements spot.now.element.now.items < 2 ^ 32 }
+    ensures { IfOk result (λ f. spec.IsBest (spec.Finds (template_at page.now.templates.now) (graph page.now.nodes.now) (spot_of spot.now) rule.now
+        atom.now root) f.size f.doc) }
+{
+    let whole = made_of(alloc, page, plain, rule, atom, spot)?;
+    find_with(alloc, page, plain, rule, atom, spot, &whole, root)
+}
+
+/// An element of a template, filled so that it is broken in one way.
+fn made_of<'x>(
+    alloc: Global,
+    page: &'x Page<'x>,
+    plain: &'x Table,
+    rule: &'x Rule,
+    atom: &'x Atom,
+    spot: &'x Spot<'x>,
+) -> Result<Whole, Memory>
+    requires few { (m : ℕ) → elements (template_at page.now.templates.now m) < 2 ^ 32 }
+    requires plain { Solved (Plain_of page.now) plain.now }
+    requires spot { spot.now.template < length page.now.templates.now }
+    requires within { elements spot.now.element.now.items < 2 ^ 32 }
+    ensures { IfOk result (IsBroken page.now rule.now atom.now spot.now.template spot.now.element.now) }
+{
+    broken_element(alloc, page, plain, rule, atom, spot.template, spot.element)
+}
+
+/// The lesser of two.
+fn better(best: Found, next: Found) -> Found
+    ensures { result ≡ spec.better best next }
+{
+    if next.size < best.size { next } else { best }
+}
+
+/// The least document in which the element is broken in one of some ways.
+pub fn find_all(
+    alloc: Global,
+    page: &Page,
+    plain: &Table,
+    rule: &Rule,
+    ways: &[Atom],
+    spot: &Spot,
+    root: usize,
+) -> Result<Found, Memory>
+    requires few { (m : ℕ) → elements (template_at page.now.templates.now m) < 2 ^ 32 }
+    requires plain { Solved (Plain_of page.now) plain.now }
+    requires spot { spot.now.template < length page.now.templates.now }
+    requires within { elements spot.now.element.now.items < 2 ^ 32 }
+    ensures { IfOk result (λ f. spec.IsBest (spec.FindsOne (template_at page.now.templates.now) (graph page.now.nodes.now) (spot_of spot.now) rule.now
+        ways.now root) f.size f.doc) }
+{
+    let mut best = Found {
+        size: NONE,
+        doc: Items::new(alloc),
+    };
+    for atom in ways {
+        let next = find_one(alloc, page, plain, rule, atom, spot, root)?;
+        best = better(best, next);
+    }
+    Ok(best)
+}
+
+/// One way for each name.
+fn absent_of(alloc: Global, names: &[Text]) -> Result<Vec<Atom>, Memory>
+    ensures { IfOk result (λ v. v.items ≡ map Absent names.now) }
+{
+    let mut list = Vec::new(alloc);
+    for name in names {
+        list.push(Atom::Absent(Name::of(alloc, name.as_str())?))?;
+    }
+    Ok(list)
+}
+
+/// One way.
+fn one_way(alloc: Global, atom: Atom) -> Result<Vec<Atom>, Memory>
+    ensures { IfOk result (λ v. v.items ≡ atom ∷ []) }
+{
+    let mut list = Vec::new(alloc);
+    list.push(atom)?;
+    Ok(list)
+}
+
+/// The way in which an element has a text, where it may have none.
+fn text_ways(alloc: Global, is_allowed: bool) -> Result<Vec<Atom>, Memory>
+    ensures { IfOk result (λ v. v.items ≡ (if is_allowed then [] else BadText ∷ [])) }
+{
+    if is_allowed {
+        Ok(Vec::new(alloc))
+    } else {
+        one_way(alloc, Atom::BadText)
+    }
+}
+
+/// The ways in which an element breaks one of its needs that has no Or.
+fn need_ways(alloc: Global, needs: &Formulas) -> Result<Vec<Atom>, Memory>
+    ensures { IfOk result (λ v. v.items ≡ atoms.need_atoms needs.now) }
+{
+    let mut list = Vec::new(alloc);
+    add_needs(needs, &mut list)?;
+    Ok(list)
+}
+
+/// The ways in which an element breaks the rule of that number.
+pub fn ways_of(alloc: Global, number: u8, rule: &Rule) -> Result<Vec<Atom>, Memory>
+    ensures { IfOk result (λ v. v.items ≡ atoms.atoms_of number rule.now) }
+{
+    if number == 1 {
+        return one_way(alloc, Atom::NotAllowed);
+    }
+    if number == 2 {
+        return absent_of(alloc, rule.must.as_slice());
+    }
+    if number == 3 {
+        return one_way(alloc, Atom::OtherValue);
+    }
+    if number == 4 {
+        return one_way(alloc, Atom::BadChild);
+    }
+    if number == 5 {
+        return text_ways(alloc, rule.text);
+    }
+    if number == 7 {
+        return need_ways(alloc, &rule.needs);
+    }
+    Ok(Vec::new(alloc))
+}
+
+/// What is told of the least document.
+pub fn answer(found: Found) -> Result<Explained, Memory>
+    ensures { IfOk result (λ e. e ≡ spec.answer_of found.size found.doc) }
+{
+    if found.size > 4097 {
+        return Ok(Explained::NoUnfolding);
+    }
+    if found.size > 4096 {
+        return Ok(Explained::TooBig);
+    }
+    Ok(Explained::Page(Tree {
+        items: found.doc.close()?,
+    }))
+}

@@ -1,0 +1,87 @@
+//! Whether a need with an Or isn't sure at the element of a fault.
+ghost use Rattle.std.specs.Prelude.{◌≡◌, ◌<◌, IfOk, Some, length};
+ghost use Rattle.bw_judge.specs.Faults.{IsFault};
+ghost use Rattle.bw_judge.specs.Pages.{scene_at};
+ghost use Rattle.bw_schema.specs.Rules.{rule_of};
+ghost use Rattle.bw_shape.specs.Outlines.{IsPageGraph, root_of};
+ghost use Rattle.bw_strings.specs.Literals.{literals_of};
+ghost use Rattle.bw_sum.specs.Graph.{graph as summary_graph};
+ghost use Rattle.bw_sum.specs.Templates.{template_items};
+ghost use Rattle.bw_explain.specs.Explained.{IsSplit, IsSpot, Tells};
+ghost use Rattle.bw_explain.specs.Splits.{some_split};
+
+use crate::finding::Spot;
+use crate::places::element_of;
+use crate::scene::{Scene, node_of, said_of};
+use bw_faults::Fault;
+use bw_lang::Memory;
+use bw_schema::Rule;
+use bw_shape::{Basis, Outline, shape_by};
+use bw_strings::Literals;
+use bw_sum::Summary;
+use std::alloc::Global;
+
+/// Whether a need of the element that has an Or isn't sure, by the outline of the page graph.
+fn is_split_by(outline: &Outline, literals: &Literals, spot: &Spot, rule: &Rule) -> bool
+    requires node { spot.now.template < length outline.now.graphed.nodes.items }
+    requires said { spot.now.template < length outline.now.graphed.said.items }
+    ensures { result ≡ some_split (scene_at outline.now.graphed.nodes.items outline.now.graphed.said.items literals.now outline.now.tables
+        outline.now.pairs.items spot.now.template) rule.now.needs spot.now.element.now.attrs spot.now.element.now.items }
+{
+    let scene = Scene {
+        tags: &outline.tables.tags,
+        literals,
+        tops: &outline.tables.tops,
+        miss: &outline.tables.miss,
+        cross: &outline.tables.cross,
+        pairs: outline.pairs.as_slice(),
+        node: node_of(outline.graphed.nodes.as_slice(), spot.template),
+        said: said_of(outline.graphed.said.as_slice(), spot.template),
+    };
+    scene.some_split(&rule.needs, &spot.element.attrs, &spot.element.items)
+}
+
+/// Whether a need of the element of a fault 7 that has an Or isn't sure.
+fn is_split_at(
+    alloc: Global,
+    basis: &Basis<'_>,
+    page: &Summary,
+    fault: &Fault,
+    spot: &Spot,
+    rule: &Rule,
+) -> Result<bool, Memory>
+    requires page { IsPageGraph basis.now.typed.now.service page.now }
+    requires fault { IsFault (template_items basis.now.typed.now.service) (summary_graph (literals_of basis.now.typed.now.service) page.now) (root_of page.now)
+        basis.now.schema.now fault.now.point fault.now }
+    requires seven { fault.now.number ≡ 7 }
+    requires spot { IsSpot basis.now.templates.now fault.now spot.now }
+    requires rule { rule_of basis.now.schema.now.elements spot.now.element.now.tag ≡ Some rule.now }
+    ensures { IfOk result (λ b. Tells b (IsSplit (template_items basis.now.typed.now.service)
+        (summary_graph (literals_of basis.now.typed.now.service) page.now) basis.now.schema.now.elements fault.now)) }
+{
+    let outline = shape_by(alloc, page, basis)?;
+    Ok(is_split_by(&outline, basis.literals, spot, rule))
+}
+
+/// Whether the fault is 7 and a need of its element that has an Or isn't sure.
+pub fn is_split(
+    alloc: Global,
+    basis: &Basis<'_>,
+    page: &Summary,
+    fault: &Fault,
+) -> Result<bool, Memory>
+    requires page { IsPageGraph basis.now.typed.now.service page.now }
+    requires fault { IsFault (template_items basis.now.typed.now.service) (summary_graph (literals_of basis.now.typed.now.service) page.now) (root_of page.now)
+        basis.now.schema.now fault.now.point fault.now }
+    ensures { IfOk result (λ b. Tells b (IsSplit (template_items basis.now.typed.now.service)
+        (summary_graph (literals_of basis.now.typed.now.service) page.now) basis.now.schema.now.elements fault.now)) }
+{
+    if fault.number != 7 {
+        return Ok(false);
+    }
+    let spot = element_of(basis.templates, fault)?;
+    match basis.schema.elements().of(spot.element.tag.as_str()) {
+        Some(rule) => is_split_at(alloc, basis, page, fault, &spot, rule),
+        None => Err(Memory),
+    }
+}
