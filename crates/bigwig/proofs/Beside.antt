@@ -1,7 +1,7 @@
 -- Serving beside a journal: what is found in it, what is done to it, and the links that are served.
 use Rattle.std.specs.Io.KnownBytes.{Appends}
-use Rattle.std.proofs.Common.{Vec, Global, ◌≡◌, ◌⊎◌, ◌+◌, ℕ, List, [], ◌∷◌, ◌++◌, length, Option, None, Some, IfSome, Result, Ok, Err, IfOk, IfErr}
-use Rattle.std.proofs.Common.{◌<◌, IsErrOf, refl, sym, ap, ◌∙◌, subst, inl, inr, arith}
+use Rattle.std.proofs.Common.{◌≡◌, ◌⊎◌, ◌+◌, ℕ, List, [], ◌∷◌, ◌++◌, Option, None, Some, IfSome}
+use Rattle.std.proofs.Common.{◌<◌, refl, sym, ap, ◌∙◌, subst, inl, inr, arith}
 use Rattle.bw_check.specs.Accepts.{Accepts}
 use Rattle.bw_format.specs.declared.format.Format.{Format}
 use Rattle.bw_journal.specs.Layout.{Entry}
@@ -13,7 +13,7 @@ use Rattle.bw_keeping.specs.declared.recalling.Recalled.{Recalled}
 use Rattle.bw_keeping.specs.declared.recalling.Recalled.TheVariants as recalled
 use Rattle.bw_lang.specs.declared.service.Service.{Service}
 use Rattle.bw_model.specs.Sessions.{World}
-use Rattle.bw_out.specs.Causes.{Rose, Shows}
+use Rattle.bw_out.specs.Causes.{Rose}
 use Rattle.bw_out.specs.Doors.{Returned, Asks, MayAsk}
 use Rattle.bw_out.specs.Told.{Disk}
 use Rattle.bw_out.specs.Writes.{AppendsPart}
@@ -33,14 +33,14 @@ use Rattle.bigwig.specs.Finding.{IsFoundIn, IsRead, IsRefusedBy, begun_by, sum_o
 use Rattle.bigwig.specs.Freezing.{file_of}
 use Rattle.bigwig.specs.Keeping.{EndsWith, Follows, IsBegun, IsKept, IsUntouched, Keeps, ServesKept, rotate_of}
 use Rattle.bigwig.specs.Keeping.IsBegun.{head, behind}
-use Rattle.bigwig.specs.Keeping.IsKept.{stopped, refused, failed, begun, renewed, preserved}
+use Rattle.bigwig.specs.Keeping.IsKept.{stopped, refused, failed, half_begun, begun, renewed, preserved}
 use Rattle.bigwig.specs.Keeping.Keeps.{no_port, no_line, links_served}
 use Rattle.bigwig.specs.Lent.{ShowsJournal}
 use Rattle.bigwig.specs.JournalLines.{journal_line}
 use Rattle.bigwig.specs.Outcomes.{Comes}
 use Rattle.bigwig.specs.Outcomes.Comes.{done}
 use Rattle.bw_questions.specs.Questions.{Said, ◌>>=◌, line}
-use Rattle.bw_questions.specs.Reports.{IsReported, SaysLine}
+use Rattle.bw_questions.specs.Reports.{IsReported}
 use Rattle.bigwig.specs.Works.{AreServed, Between, IsServed, Outside, serving_line}
 use Rattle.bw_questions.specs.Reports.{Prints}
 use Rattle.bw_command.specs.declared.command.Judging.{Judging}
@@ -56,7 +56,6 @@ use Rattle.bw_questions.specs.declared.stop.Stop.TheVariants as stop
 use Rattle.bigwig.proofs.Endings.{comes_then}
 use Rattle.bigwig.proofs.Reaching.{course_is_fit}
 use Rattle.bigwig.proofs.Replies.{found_accepted}
-use Rattle.bw_questions.proofs.Stops.{no_stop}
 
 -- ---- links
 
@@ -205,7 +204,9 @@ pub of_journal : (ruled : Ruled) (text content : List ℕ) (task : Task) (before
 of_journal ruled text content task before after d s none (stopped e k u) = stopped e k (touched before.deeds d after.deeds none u)
 of_journal ruled text content task before after d s none (refused why r i u) =
     refused why r (record { prints = i.prints; kept = i.kept }) (touched before.deeds d after.deeds none u)
-of_journal ruled text content task before after d s none (failed i) = failed (record { prints = i.prints; kept = i.kept })
+of_journal ruled text content task before after d s none (failed n i u) =
+    failed n (record { prints = i.prints; kept = i.kept }) (touched before.deeds d after.deeds none u)
+of_journal ruled text content task before after d s none (half_begun n all w f i) = half_begun n all w f (record { prints = i.prints; kept = i.kept })
 of_journal ruled text content task before after d s none (begun found world mid h l k b ks) = begun found world mid h l k b ks
 of_journal ruled text content task before after d s none (renewed len sum world seen mid h l r k b ks) = renewed len sum world seen mid h l r k b ks
 of_journal ruled text content task before after d s none (preserved found world seen is h e st fr k u) =
@@ -215,7 +216,8 @@ pub of_reading : (ruled : Ruled) (text content : List ℕ) (task : Task) (before
     → IsKept ruled text content task (record before { unread = u; steps = n }) after s → IsKept ruled text content task before after s
 of_reading ruled text content task before after u n s (stopped e k h) = stopped e k h
 of_reading ruled text content task before after u n s (refused why r i h) = refused why r (record { prints = i.prints; kept = i.kept }) h
-of_reading ruled text content task before after u n s (failed i) = failed (record { prints = i.prints; kept = i.kept })
+of_reading ruled text content task before after u n s (failed o i h) = failed o (record { prints = i.prints; kept = i.kept }) h
+of_reading ruled text content task before after u n s (half_begun o all w f i) = half_begun o all w f (record { prints = i.prints; kept = i.kept })
 of_reading ruled text content task before after u n s (begun found world mid h l k b ks) = begun found world mid h l k b ks
 of_reading ruled text content task before after u n s (renewed len sum world seen mid h l r k b ks) = renewed len sum world seen mid h l r k b ks
 of_reading ruled text content task before after u n s (preserved found world seen is h e st fr k t) = preserved found world seen is h e st fr k t
@@ -268,15 +270,7 @@ closed_told (Some disk) service formats name text P before after d e s none clos
 
 -- ---- causes
 
--- what a file had when it was closed is what the files then show
-pub closes_so : (fact told : Type 0) (r s x y z : ℕ) → (told → fact) → (fact → told) → r ≡ 0 → Shows fact r s → y ≡ x → (0 < s → Rose y z)
-    → (s ≡ 0 → z ≡ y) → Shows told x z
-closes_so fact told r s x y z to from none shows same rose still = record {
-  only = λ t. subst (λ k. Rose k z) same (rose (let up = subst (λ k. Rose k s) none (shows.only (to t)) in omega (arith, up)));
-  other = λ f. still (shows.other (λ x. f (from x)) ∙ none) ∙ same;
-}
-
--- and what a journal had
+-- what a journal had when it was closed is what the journals then show
 pub journal_shows : (s : Status) (j k x y z : ℕ) → j ≡ 0 → ShowsJournal s j k → y ≡ x → (0 < k → Rose y z) → (k ≡ 0 → z ≡ y) → ShowsJournal s x z
 journal_shows s j k x y z none shows same rose still = record {
   only = λ t. subst (λ m. Rose m z) same (rose (let up = subst (λ m. Rose m k) none (shows.only t) in omega (arith, up)));

@@ -1,6 +1,6 @@
 -- What is found in a journal, and the world that its entries bring about.
-use Rattle.std.proofs.Common.{Vec, Global, ◌≡◌, ◌≢◌, ◌≤◌, ◌<◌, ◌+◌, ◌^◌, ℕ, List, [], ◌++◌, length, Option, None, Some, IfSome, Result, Ok, Err, IfOk, IfErr}
-use Rattle.std.proofs.Common.{refl, sym, ap, ◌∙◌, subst, inl, inr, arith}
+use Rattle.std.proofs.Common.{◌≡◌, ◌+◌, ℕ, List, [], ◌++◌, length, Option, None, Some, IfSome, Result, Ok, Err, IfOk, IfErr}
+use Rattle.std.proofs.Common.{refl, sym, ap, ◌∙◌, subst, inr, arith}
 use Rattle.bw_format.specs.declared.format.Format.{Format}
 use Rattle.bw_journal.specs.Heads.{head_of}
 use Rattle.bw_journal.specs.Layout.{Entry}
@@ -27,13 +27,10 @@ use Rattle.bw_world.specs.Stands.{StandsFor}
 use Rattle.bw_questions.specs.Asked.{Ruled}
 use Rattle.bw_questions.specs.Behind.{content_of}
 use Rattle.bw_questions.specs.Checks.{IsRuled}
-use Rattle.bw_questions.specs.Reports.{SaysLine}
-use Rattle.bw_questions.specs.declared.status.Refusal.TheVariants as refusals
 use Rattle.bw_questions.specs.declared.stop.Stop.{Stop}
 use Rattle.bw_questions.specs.declared.stop.Stop.TheVariants as stop
 use Rattle.bigwig.specs.Finding.{IsBegunIn, IsFoundIn, IsRefusal, IsRefusedBy, IsToldBy, recalled_of}
 use Rattle.bigwig.specs.Fits.{IsFitStart, IsFitWorld}
-use Rattle.bigwig.specs.JournalLines.{journal_line}
 use Rattle.bigwig.specs.Keeping.{BeginsAt, Brought, Refuses}
 use Rattle.bigwig.specs.declared.bringing.Brought.{Brought as CodeBrought}
 use Rattle.bigwig.specs.declared.bringing.Found.{Found}
@@ -231,11 +228,3 @@ module _ (left : Option (List ℕ)) (service : Service) (formats kept : List For
   entries_stop m (Ok b) at h = tt
   entries_stop m (Err s) at h =
       behind_begun (Some m) (λ ruled bytes. IsRefusedBy ruled text bytes s) at (λ ruled bytes is begun. h ruled text bytes is begun)
-
--- the reading ended with a refusal, and its line is said
-pub told_by : (why : Recalled) (l : Result (Vec ℕ Global) Memory) (s : Stop) → IsRefusal why → IfOk l (λ x. SaysLine refusals.Journal x.items s)
-    → IfErr l (λ e. s ≡ stop.Memory) → IfOk l (λ x. x.items ≡ journal_line why) → IsToldBy why s
-told_by why (Ok x) (stop.Says refusal said) is says none tells = (is, subst (λ t. SaysLine refusals.Journal t (stop.Says refusal said)) tells says)
-told_by why (Ok x) stop.ReadFault is says none tells = absurd says
-told_by why (Ok x) stop.Memory is says none tells = tt
-told_by why (Err e) s is says none tells = subst (IsToldBy why) (sym none) tt

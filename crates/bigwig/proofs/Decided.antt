@@ -1,5 +1,5 @@
 -- Questions that follow one another are decided where each of them is.
-use Rattle.std.proofs.Common.{◌≡◌, ℕ, List, [], Option, None, Some, Result, Ok, Err, refl, sym, ap, ◌∙◌, subst, inl, inr}
+use Rattle.std.proofs.Common.{◌≡◌, ℕ, true, false, List, [], Option, None, Some, Result, Ok, Err, refl, sym, ap, ◌∙◌, subst, inl, inr}
 use Rattle.std.specs.Str.Lines.{lines}
 use Rattle.std.proofs.Math.Path.{to_path_p}
 use Rattle.bw_format.specs.declared.file.FormatFault.{FormatFault}
@@ -24,6 +24,7 @@ use Rattle.bw_valid.proofs.BreachLaws.{valid_decided}
 use Rattle.bw_visit.proofs.Scripts.{scripts_are_one}
 use Rattle.bw_questions.specs.Asked.{page, page_file, rules, schema, built_in, judged, ruled, formats_in, formats_file, formats, lit, lit_file}
 use Rattle.bw_questions.specs.Asked.{command, file, read, typed, service_file, checked, checked_with, checked_by, accepted_file, accepted_text}
+use Rattle.bw_questions.specs.Asked.{examined, examined_by, examined_file}
 use Rattle.bw_questions.specs.Asked.Work.{prints}
 use Rattle.bw_questions.specs.Asked.{accepted, turned}
 use Rattle.bigwig.specs.Asked.{start, replayed, replayed_from, resumed, at_port, served_from, frozen, frozen_from, beside, work, asked, followed, visited}
@@ -189,6 +190,20 @@ checked_decided how tree by given w = record {
   one_status = λ s t p r. one_said ServiceRefused s t _ _ p.5 r.5;
 }
 
+pub examined_decided : (how : Option Shown) (tree : Service) (by : Schema) → IsTyped tree → IsDecided (examined how tree by)
+examined_decided how tree by w = record {
+  once = λ a b p r. p.1 ∙ sym r.1;
+  not_both = λ work s p r. not_refused (typed_of tree w) by r.0 p.0 r.1 r.2;
+  one_status = λ s t p r. one_said ServiceRefused s t _ _ p.7 r.7;
+}
+
+pub examined_file_decided : (disk : Disk) (name : List ℕ) (judging : Judging) → IsDecided (examined_file disk name judging)
+examined_file_decided disk name judging =
+    let how = shown_file judging.source disk name in
+    then (service_file how disk name) (examined_by how disk judging.schema) (service_file_decided how disk name)
+    (λ tree g. then (schema disk judging.schema) (examined how tree) (schema_decided disk judging.schema)
+    (λ by _. examined_decided how tree by (typed_given how g.1.0 g.0 tree g.1.2 g.2)))
+
 pub accepted_file_decided : (disk : Disk) (name : List ℕ) (judging : Judging) (form : Option (List ℕ)) → IsDecided (accepted_file disk name judging form)
 accepted_file_decided disk name judging form =
     let how = shown_file judging.source disk name in
@@ -239,7 +254,8 @@ script_decided content = record {
 }
 
 pub work_decided : (disk : Disk) (c : Command) → IsDecided (work disk c)
-work_decided disk (Check service judging) =
+work_decided disk (Check service judging true) = examined_file_decided disk service judging
+work_decided disk (Check service judging false) =
     then (accepted_file disk service judging None) accepted (accepted_file_decided disk service judging None) (λ ruled _. found_decided _)
 work_decided disk (Replay service requests judging form load most) =
     then (accepted_file disk service judging form) (replayed_from disk service load requests most) (accepted_file_decided disk service judging form)

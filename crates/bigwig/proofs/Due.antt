@@ -13,7 +13,7 @@ use Rattle.bw_world.specs.Seen.{Seen}
 use Rattle.bigwig.specs.Freezing.{FreezesAt, IsFrozen}
 use Rattle.bigwig.specs.Freezing.IsFrozen.{saved, too_long, no_memory as no_room}
 use Rattle.bigwig.specs.Keeping.{AnswersEndWith, EndsWith, Follows, IsKept, Keeps, sum_behind}
-use Rattle.bigwig.specs.Keeping.IsKept.{stopped, refused, failed, begun, renewed, preserved}
+use Rattle.bigwig.specs.Keeping.IsKept.{stopped, refused, failed, half_begun, begun, renewed, preserved}
 use Rattle.bigwig.specs.Keeping.Keeps.{no_port as keep_no_port, no_line as keep_no_line, links_served as keep_links_served}
 use Rattle.bw_keeping.specs.declared.ended.Ended.{Ended}
 use Rattle.bw_keeping.specs.declared.ended.Ended.TheVariants as ended
@@ -40,7 +40,7 @@ use Rattle.bigwig.proofs.TooMuch.{IsNone, freezes_not, frozen_not}
 use Rattle.bigwig.proofs.VisitEnds.{IsEnd, IsUnknown, no_visit, visit_end, visit_no_door, visit_status}
 
 pub some_status : SomeStatusIsDue
-some_status words disk verdicts = elim (asked_some words disk verdicts) as (λ _. (status : Status) × Due words disk status) [
+some_status words disk verdicts why = elim (asked_some words disk verdicts why) as (λ _. (status : Status) × Due words disk status) [
   | inl x ↦ (Done, inr (x.0, x.1, refl))
   | inr x ↦ (x.0.status, inl (x.0, x.1, refl))
 ]
@@ -125,7 +125,8 @@ kept_or_fault : (ruled : Ruled) (text content : List ℕ) (task : Task) (before 
 kept_or_fault ruled text content task before after status (stopped (inl e) k u) = inr (inl e)
 kept_or_fault ruled text content task before after status (stopped (inr e) k u) = inr (inr (inr (inr (inl e))))
 kept_or_fault ruled text content task before after status (refused why r i u) = inr (journal_said _ _ after status i (inl refl))
-kept_or_fault ruled text content task before after status (failed i) = inr (journal_said _ _ after status i (inr refl))
+kept_or_fault ruled text content task before after status (failed n i u) = inr (journal_said _ _ after status i (inr refl))
+kept_or_fault ruled text content task before after status (half_begun n all w f i) = inr (journal_said _ _ after status i (inr refl))
 kept_or_fault ruled text content task before after status (begun f w mid h l k o follows) =
     task_end ruled task w (sum_behind text f) mid after status follows
 kept_or_fault ruled text content task before after status (renewed len sum w seen mid h l b k o follows) =
@@ -227,7 +228,8 @@ kept_links ruled text content (to_serve port most rotate) before after d = kept 
 kept_links ruled text content (to_answer stream most) before after (stopped (inl e) k u) = absurd (no_door_fault ReadFault e (inr (inl refl)))
 kept_links ruled text content (to_answer stream most) before after (stopped (inr e) k u) = absurd (no_door_fault Memory e (inr (inr (inr refl))))
 kept_links ruled text content (to_answer stream most) before after (refused why r i u) = absurd (journal_is_no_door _ _ after i (inl refl))
-kept_links ruled text content (to_answer stream most) before after (failed i) = absurd (journal_is_no_door _ _ after i (inr refl))
+kept_links ruled text content (to_answer stream most) before after (failed n i u) = absurd (journal_is_no_door _ _ after i (inr refl))
+kept_links ruled text content (to_answer stream most) before after (half_begun n all w f i) = absurd (journal_is_no_door _ _ after i (inr refl))
 kept_links ruled text content (to_answer stream most) before after (begun f w mid h l k o r) =
     absurd (requests_status r.printed after.printed r.end DoorFault r.ends refl)
 kept_links ruled text content (to_answer stream most) before after (renewed len sum w seen mid h l b k o r) = absurd l
@@ -236,7 +238,8 @@ kept_links ruled text content (to_answer stream most) before after (preserved f 
 kept_links ruled text content to_save before after (stopped (inl e) k u) = absurd (no_door_fault ReadFault e (inr (inl refl)))
 kept_links ruled text content to_save before after (stopped (inr e) k u) = absurd (no_door_fault Memory e (inr (inr (inr refl))))
 kept_links ruled text content to_save before after (refused why r i u) = absurd (journal_is_no_door _ _ after i (inl refl))
-kept_links ruled text content to_save before after (failed i) = absurd (journal_is_no_door _ _ after i (inr refl))
+kept_links ruled text content to_save before after (failed n i u) = absurd (n refl)
+kept_links ruled text content to_save before after (half_begun n all w f i) = absurd (n refl)
 kept_links ruled text content to_save before after (begun f w mid h l k o r) = absurd r
 kept_links ruled text content to_save before after (renewed len sum w seen mid h l b k o r) = absurd r
 kept_links ruled text content to_save before after (preserved f w seen is h e st fr k u) =
@@ -336,9 +339,19 @@ done_of words disk c is (inl (s, x, e)) = absurd (never_said words disk s Done r
 done_of words disk c is (inr (w, x, e)) =
     let same : x.0 ≡ c = same_command x.0 c (sym x.1 ∙ is) in (w, subst (λ k. (work disk k).gives w) same x.2)
 
-check_given : (disk : Disk) (name : List ℕ) (judging : Judging) (w : Work) → (work disk (Check name judging)).gives w
+check_given : (disk : Disk) (name : List ℕ) (judging : Judging) (explain : Bool) (w : Work) → (work disk (Check name judging explain)).gives w
     → IsAcceptedFile disk name judging.schema
-check_given disk name judging w g = record {
+check_given disk name judging true w g = record {
+  content = g.1.1.0;
+  found = g.1.1.1;
+  tree = g.1.0;
+  reads = g.1.1.2;
+  typed = g.1.2.1;
+  by = g.2.0;
+  is_schema = g.2.1;
+  accepted = subst (λ t. Accepts t g.2.0) g.1.2.0 g.2.2.0;
+}
+check_given disk name judging false w g = record {
   content = g.1.1.1.0;
   found = g.1.1.1.1;
   tree = g.1.1.0;
@@ -349,18 +362,20 @@ check_given disk name judging w g = record {
   accepted = subst (λ t. Accepts t g.1.2.0) g.1.1.2.0 g.1.2.2.2.1;
 }
 
-check_gives : (disk : Disk) (name : List ℕ) (judging : Judging) → IsAcceptedFile disk name judging.schema
-    → (work disk (Check name judging)).gives (prints (line (codes "accepted")))
-check_gives disk name judging v = (
+check_gives : (disk : Disk) (name : List ℕ) (judging : Judging) (explain : Bool) → IsAcceptedFile disk name judging.schema
+    → (work disk (Check name judging explain)).gives (prints (line (codes "accepted")))
+check_gives disk name judging true v =
+    (v.tree, (v.tree, (v.content, v.found, v.reads), (refl, v.typed)), (v.by, v.is_schema, (v.accepted, refl)))
+check_gives disk name judging false v = (
   record { service = v.tree; schema = v.by; formats = [] },
   (v.tree, (v.tree, (v.content, v.found, v.reads), (refl, v.typed)), (v.by, v.is_schema, ([], refl, (refl, v.accepted)))),
   refl,
 )
 
 pub check_is_done : CheckIsDone
-check_is_done words disk name judging c = (
-  λ d. let g = done_of words disk (Check name judging) c d in check_given disk name judging g.0 g.1,
-  λ v. inr (prints (line (codes "accepted")), (Check name judging, c, check_gives disk name judging v), refl),
+check_is_done words disk name judging explain c = (
+  λ d. let g = done_of words disk (Check name judging explain) c d in check_given disk name judging explain g.0 g.1,
+  λ v. inr (prints (line (codes "accepted")), (Check name judging explain, c, check_gives disk name judging explain v), refl),
 )
 
 -- ---- valid

@@ -7,6 +7,7 @@ pub mod Decided
 pub mod Due
 pub mod Endings
 pub mod Followed
+pub mod HalfBegun
 pub mod Headline
 pub mod Links
 pub mod OneLoad

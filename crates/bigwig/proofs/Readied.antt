@@ -57,6 +57,12 @@ not_longer longer rotate len tests short more =
     let t : longer ≡ true = tests.1 more in
     cc
 
+-- a part of what is made is that of what it was made of
+pub part_stays : {A B : Type 0} (whole : Ready → A) (part : A → B) (a : A) (b : B) (r : Result Ready Memory) → IfOk r (λ x. whole x ≡ a) → part a ≡ b
+    → IfOk r (λ x. part (whole x) ≡ b)
+part_stays whole part a b (Ok x) h e = ap part h ∙ e
+part_stays whole part a b (Err y) h e = tt
+
 -- ---- where it is longer
 
 -- there is a file of what waits, from which something is loaded again

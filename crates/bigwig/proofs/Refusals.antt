@@ -9,7 +9,7 @@ use Rattle.bw_questions.specs.Asked.{command, file, read, typed, service_file, c
 use Rattle.bigwig.specs.Asked.{replayed, replayed_from, followed, visited}
 use Rattle.bw_questions.specs.Asked.{turned, page, page_file, rules, schema, built_in, formats_in, formats_file, formats, judged, ruled}
 use Rattle.bigwig.specs.Asked.{start, at_port, served_from, frozen, frozen_from, beside}
-use Rattle.bw_questions.specs.Asked.{Ruled, Task, lit, lit_file}
+use Rattle.bw_questions.specs.Asked.{Ruled, Task, examined, examined_by, examined_file, lit, lit_file}
 use Rattle.bigwig.specs.Asked.{resumed, work, asked}
 use Rattle.bw_questions.specs.Asked.Task.{to_answer, to_save, to_serve}
 use Rattle.bw_questions.specs.Asked.Work.{replays, keeps, freezes, visits}
@@ -76,6 +76,15 @@ formats_refuse disk (Some name) s x = formats_file_refuses disk name s x
 checked_refuses : (how : Option Shown) (tree : Service) (by : Schema) (given : List Format) → Refuses (checked how tree by given)
 checked_refuses how tree by given s x = says_so s _ x.5 refl
 
+examined_refuses : (how : Option Shown) (tree : Service) (by : Schema) → Refuses (examined how tree by)
+examined_refuses how tree by s x = says_so s _ x.7 refl
+
+examined_file_refuses : (disk : Disk) (name : List ℕ) (judging : Judging) → Refuses (examined_file disk name judging)
+examined_file_refuses disk name judging =
+    let how = shown_file judging.source disk name in
+    then_refuses (service_file how disk name) (examined_by how disk judging.schema) (service_file_refuses how disk name)
+    (λ tree. then_refuses (schema disk judging.schema) (examined how tree) (schema_refuses disk judging.schema) (examined_refuses how tree))
+
 accepted_file_refuses : (disk : Disk) (name : List ℕ) (judging : Judging) (form : Option (List ℕ)) → Refuses (accepted_file disk name judging form)
 accepted_file_refuses disk name judging form =
     let how = shown_file judging.source disk name in
@@ -100,7 +109,8 @@ start_refuses disk name (Some load) service s x =
     (λ text. then_refuses (file disk load) (loads service text) (file_refuses disk load) (λ bytes s x. says_so s _ x.3 refl)) s x
 
 work_refuses : (disk : Disk) (c : Command) → Refuses (work disk c)
-work_refuses disk (Check service judging) =
+work_refuses disk (Check service judging true) = examined_file_refuses disk service judging
+work_refuses disk (Check service judging false) =
     then_refuses (accepted_file disk service judging None) accepted (accepted_file_refuses disk service judging None) (λ ruled s x. absurd x)
 work_refuses disk (Replay service requests judging form load most) =
     then_refuses (accepted_file disk service judging form) (replayed_from disk service load requests most)

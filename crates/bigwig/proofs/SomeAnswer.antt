@@ -38,14 +38,14 @@ use Rattle.bw_visit.proofs.Decided.{script_or_none}
 use Rattle.bw_questions.specs.Asked.{page, page_file, rules, schema, built_in, judged, ruled, formats_in, formats_file, formats, AreTexts, lit, lit_file}
 use Rattle.bw_questions.specs.Asked.Work.{prints}
 use Rattle.bw_questions.specs.Asked.{command, file, read, typed, service_file, service_text, checked, checked_with, checked_by, accepted_file, accepted_text}
-use Rattle.bw_questions.specs.Asked.{accepted, turned}
+use Rattle.bw_questions.specs.Asked.{accepted, examined, examined_by, examined_file, turned}
 use Rattle.bigwig.specs.Asked.{start, replayed, replayed_from, resumed, at_port, served_from, frozen, frozen_from, beside, work, asked, followed, visited}
 use Rattle.bw_questions.specs.Asked.{Ruled, usage_line}
 use Rattle.bw_questions.specs.Asked.Task.{to_save, to_serve}
 use Rattle.bw_questions.specs.Behind.{Shown, AreShown, shown_file, content_of, behind_syntax, behind_type, blamed_in, behind_fault}
 use Rattle.bw_command.specs.Commands.{command_of}
 use Rattle.bw_questions.specs.FaultLines.{check_text, page_names}
-use Rattle.bigwig.specs.Laws.{HasVerdict, Checks}
+use Rattle.bigwig.specs.Laws.{AsksWhy, Checks, HasExplanations, HasVerdict}
 use Rattle.bw_questions.specs.Lines.{syntax_line, type_line, no_file_line, no_page_line, breach_line, schema_line, format_line, no_texts_line}
 use Rattle.bigwig.specs.Loading.{load_line, loads}
 use Rattle.bw_questions.specs.Questions.{Said, Question, ◌>>=◌, found, line}
@@ -188,6 +188,27 @@ checked_some how tree by given has (inl x) = inl (record { service = tree; schem
 checked_some how tree by given has (inr x) =
     inr (record { status = ServiceRefused; text = check_text how (behind_fault how has.0) (page_names tree) x.0 }, (x.0, x.1, x.2, has.0, has.1, refl))
 
+-- the same where its reasons are explained
+examined_some : (how : Option Shown) (tree : Service) (by : Schema) → HasDrafts how → HasVerdict tree by → HasExplanations tree by
+    → HasAnswer (examined how tree by)
+examined_some how tree by has (inl x) why = inl (prints (line (codes "accepted")), (x, refl))
+examined_some how tree by has (inr x) why =
+    let told = why x.0 x.1 x.2 in
+    inr (
+      record { status = ServiceRefused; text = check_text how (behind_fault how has.0) (page_names tree) x.0 ++ told.0 },
+      (x.0, x.1, x.2, has.0, has.1, told.0, told.1, refl),
+    )
+
+examined_file_some : (disk : Disk) (name : List ℕ) (judging : Judging)
+    → ((tree : Service) (by : Schema) → (service_file None disk name).gives tree → (schema disk judging.schema).gives by → HasVerdict tree by)
+    → ((tree : Service) (by : Schema) → (service_file None disk name).gives tree → (schema disk judging.schema).gives by → HasExplanations tree by)
+    → HasAnswer (examined_file disk name judging)
+examined_file_some disk name judging verdicts why =
+    let how = shown_file judging.source disk name in
+    then_some (service_file how disk name) (examined_by how disk judging.schema) (service_file_some judging.source disk name)
+    (λ tree g. then_some (schema disk judging.schema) (examined how tree) (schema_some disk judging.schema)
+    (λ by k. examined_some how tree by (file_drafts judging.source disk name g.1.0 g.0 g.1.1 g.1.2) (verdicts tree by g k) (why tree by g k)))
+
 accepted_file_some : (disk : Disk) (name : List ℕ) (judging : Judging) (form : Option (List ℕ))
     → ((tree : Service) (by : Schema) → (service_file None disk name).gives tree → (schema disk judging.schema).gives by → HasVerdict tree by)
     → HasAnswer (accepted_file disk name judging form)
@@ -234,59 +255,65 @@ script_some content = elim (script_or_none content) as (λ _. HasAnswer (script 
   | inr x ↦ inr (record { status = ScriptRefused; text = line no_script_line }, (x, refl))
 ]
 
-work_some : (disk : Disk) (c : Command) → ((tree : Service) (by : Schema) → Checks disk c tree by → HasVerdict tree by) → HasAnswer (work disk c)
-work_some disk (Check service judging) verdicts =
+work_some : (disk : Disk) (c : Command) → ((tree : Service) (by : Schema) → Checks disk c tree by → HasVerdict tree by)
+    → ((tree : Service) (by : Schema) → Checks disk c tree by → AsksWhy c → HasExplanations tree by) → HasAnswer (work disk c)
+work_some disk (Check service judging true) verdicts why =
+    examined_file_some disk service judging (λ tree by g k. verdicts tree by (g, k)) (λ tree by g k. why tree by (g, k) tt)
+work_some disk (Check service judging false) verdicts why =
     then_some (accepted_file disk service judging None) accepted
     (accepted_file_some disk service judging None (λ tree by g k. verdicts tree by (g, k))) (λ ruled _. found_some _)
-work_some disk (Replay service requests judging form load most) verdicts =
+work_some disk (Replay service requests judging form load most) verdicts why =
     then_some (accepted_file disk service judging form) (replayed_from disk service load requests most)
     (accepted_file_some disk service judging form (λ tree by g k. verdicts tree by (g, k)))
     (λ ruled g. let f = file_facts disk service judging form ruled g in
     then_some (start disk service load ruled.service) (replayed disk requests most ruled) (start_some disk service load ruled.service f.0 f.1)
     (λ from _. then_some (file disk requests) _ (file_some disk requests) (λ stream _. found_some _)))
-work_some disk (Serve service judging form load port most) verdicts =
+work_some disk (Serve service judging form load port most) verdicts why =
     then_some (accepted_file disk service judging form) (served_from disk service load port most)
     (accepted_file_some disk service judging form (λ tree by g k. verdicts tree by (g, k)))
     (λ ruled g. let f = file_facts disk service judging form ruled g in
     then_some (start disk service load ruled.service) (at_port port most ruled) (start_some disk service load ruled.service f.0 f.1)
     (λ from _. found_some _))
-work_some disk (Freeze service requests judging form load most) verdicts =
+work_some disk (Freeze service requests judging form load most) verdicts why =
     then_some (accepted_file disk service judging form) (frozen_from disk service load requests most)
     (accepted_file_some disk service judging form (λ tree by g k. verdicts tree by (g, k)))
     (λ ruled g. let f = file_facts disk service judging form ruled g in
     then_some (start disk service load ruled.service) (frozen disk service requests most ruled) (start_some disk service load ruled.service f.0 f.1)
     (λ from _. then_some (file disk service) _ (file_some disk service)
     (λ text _. then_some (file disk requests) _ (file_some disk requests) (λ stream _. found_some _))))
-work_some disk (Resume service from judging form journal most) verdicts =
+work_some disk (Resume service from judging form journal most) verdicts why =
     then_some (accepted_file disk service judging form) (resumed disk service from journal most)
     (accepted_file_some disk service judging form (λ tree by g k. verdicts tree by (g, k)))
     (λ ruled _. then_some (file disk from) _ (file_some disk from)
     (λ stream _. then_some (file disk service) _ (file_some disk service) (λ text _. found_some _)))
-work_some disk (Keep service judging form journal rotate port most) verdicts =
+work_some disk (Keep service judging form journal rotate port most) verdicts why =
     then_some (accepted_file disk service judging form) (beside disk service journal (to_serve port most rotate))
     (accepted_file_some disk service judging form (λ tree by g k. verdicts tree by (g, k)))
     (λ ruled _. then_some (file disk service) _ (file_some disk service) (λ text _. found_some _))
-work_some disk (Valid name named) verdicts =
+work_some disk (Valid name named) verdicts why =
     then_some (page_file disk name) (ruled disk named) (page_file_some disk name)
     (λ tree _. then_some (schema disk named) (judged tree) (schema_some disk named) (λ by _. judged_some tree by))
-work_some disk (Make count workers) verdicts =
+work_some disk (Make count workers) verdicts why =
     then_some (accepted_text (made count)) (turned count) (accepted_text_some (made count) (λ tree by g k. verdicts tree by (g, k)))
     (λ ruled _. found_some _)
-work_some disk (Light form texts) verdicts =
+work_some disk (Light form texts) verdicts why =
     then_some (formats_file disk form) (lit_file disk texts) (formats_file_some disk form)
     (λ given g. then_some (file disk texts) (lit given) (file_some disk texts) (λ content _. lit_some g.0 given g.2 content))
-work_some disk (Preserve service judging form journal) verdicts =
+work_some disk (Preserve service judging form journal) verdicts why =
     then_some (accepted_file disk service judging form) (beside disk service journal to_save)
     (accepted_file_some disk service judging form (λ tree by g k. verdicts tree by (g, k)))
     (λ ruled _. then_some (file disk service) _ (file_some disk service) (λ text _. found_some _))
-work_some disk (Visit service by judging form) verdicts =
+work_some disk (Visit service by judging form) verdicts why =
     then_some (accepted_file disk service judging form) (visited disk by)
     (accepted_file_some disk service judging form (λ tree by g k. verdicts tree by (g, k)))
     (λ ruled _. then_some (file disk by) (followed ruled) (file_some disk by)
     (λ content _. then_some (script content) _ (script_some content) (λ s _. found_some _)))
 
--- all that the program asks has an answer, where the check has a verdict on the service that the words lead to
+-- all that the program asks has an answer, where the check has a verdict on the service that the words lead to, and explanations
 pub asked_some : (words : List (List ℕ)) (disk : Disk)
-    → ((c : Command) (tree : Service) (by : Schema) → command_of words ≡ Some c → Checks disk c tree by → HasVerdict tree by) → HasAnswer (asked words disk)
-asked_some words disk verdicts =
-    then_some (command words) (work disk) (command_some words) (λ c e. work_some disk c (λ tree by leads. verdicts c tree by e leads))
+    → ((c : Command) (tree : Service) (by : Schema) → command_of words ≡ Some c → Checks disk c tree by → HasVerdict tree by)
+    → ((c : Command) (tree : Service) (by : Schema) → command_of words ≡ Some c → Checks disk c tree by → AsksWhy c → HasExplanations tree by)
+    → HasAnswer (asked words disk)
+asked_some words disk verdicts why =
+    then_some (command words) (work disk) (command_some words)
+    (λ c e. work_some disk c (λ tree by leads. verdicts c tree by e leads) (λ tree by leads asks. why c tree by e leads asks))

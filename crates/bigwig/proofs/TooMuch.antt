@@ -14,7 +14,7 @@ use Rattle.bw_questions.specs.Asked.Work.{prints, replays, serves, keeps, freeze
 use Rattle.bigwig.specs.Freezing.{FreezesAt, IsFrozen}
 use Rattle.bigwig.specs.Freezing.IsFrozen.{saved, too_long, no_memory as no_room}
 use Rattle.bigwig.specs.Keeping.{AnswersEndWith, EndsWith, Follows, IsKept, sum_behind}
-use Rattle.bigwig.specs.Keeping.IsKept.{stopped, refused, failed, begun, renewed, preserved}
+use Rattle.bigwig.specs.Keeping.IsKept.{stopped, refused, failed, half_begun, begun, renewed, preserved}
 use Rattle.bigwig.specs.Keeping.Keeps.{no_port as keep_no_port, no_line as keep_no_line, links_served as keep_links_served}
 use Rattle.bigwig.specs.Laws.{Saves, SavesAreRefused}
 use Rattle.bigwig.specs.Laws.Saves.{requests, journal}
@@ -110,7 +110,8 @@ kept_saves : (ruled : Ruled) (text content : List ℕ) (task : Task) (before aft
 kept_saves ruled text content task before after s (stopped (inl e) k u) m = absurd (not_meant is_too_much s ReadFault refl e m)
 kept_saves ruled text content task before after s (stopped (inr e) k u) m = absurd (not_meant is_too_much s Memory refl e m)
 kept_saves ruled text content task before after s (refused why r i u) m = absurd (said_not _ _ after s i refl m)
-kept_saves ruled text content task before after s (failed i) m = absurd (said_not _ _ after s i refl m)
+kept_saves ruled text content task before after s (failed n i u) m = absurd (said_not _ _ after s i refl m)
+kept_saves ruled text content task before after s (half_begun n all w f i) m = absurd (said_not _ _ after s i refl m)
 kept_saves ruled text content task before after s (begun f w mid h l k o follows) m =
     absurd (follows_not ruled task w (sum_behind text f) mid after s follows m)
 kept_saves ruled text content task before after s (renewed len sum w seen mid h l b k o follows) m =

@@ -65,7 +65,7 @@ visited disk name ruled = file disk name >>= followed ruled
 
 -- the questions of a command, and the work that they lead to
 abbrev pub work : Disk → Command → Question Work
-work disk (Check service judging) = check_work disk service judging
+work disk (Check service judging explain) = check_work disk service judging explain
 work disk (Replay service requests judging form load most) =
     accepted_file disk service judging form >>= replayed_from disk service load requests most
 work disk (Resume service from judging form journal most) = accepted_file disk service judging form >>= resumed disk service from journal most

@@ -1,5 +1,5 @@
 -- What serving, answering and saving with a journal come to.
-use Rattle.std.specs.Prelude.{◌≡◌, ◌⊎◌, ◌<◌, ◌+◌, ℕ, List, [], ◌∷◌, ◌++◌, length, Option, None, Some, IfSome, codes, ⊤}
+use Rattle.std.specs.Prelude.{◌≡◌, ◌≢◌, ◌⊎◌, ◌<◌, ◌+◌, ℕ, List, [], ◌∷◌, ◌++◌, length, Option, None, Some, IfSome, codes, ⊤}
 use Rattle.std.specs.Io.KnownBytes.{Appends}
 use Rattle.bw_journal.specs.Heads.{HasOther, HasVersion, head_of, saved_front, start_sum}
 use Rattle.bw_journal.specs.Journals.{Ends, Splits}
@@ -133,6 +133,18 @@ abbrev pub Stays : Ruled → List ℕ → Option ℕ → Recalled → World → 
 Stays ruled text rotate (recalled.Done len sum) world = (IsLonger rotate len → ⊥) ⊎ ((seen : Seen) × IsTooMuch ruled text seen world)
 Stays ruled text rotate _ world = ⊤
 
+-- These deeds would begin a journal of this content for the task: it is made ready as it was found, or a new file comes into its place.
+pub data WouldBegin (ruled : Ruled) (text content : List ℕ) (task : Task) (given : Option (List Returned)) (printed : Option (List ℕ)) (all : List Deed)
+    : Type 0 where
+  ready : (found : Recalled) (world : World) → Holds ruled text content found world → Stays ruled text (rotate_of task) found world
+      → IsBegun text given printed found all → WouldBegin ruled text content task given printed all
+  anew : (len sum : ℕ) (world : World) (seen : Seen) → Holds ruled text content (recalled.Done len sum) world → IsLonger (rotate_of task) len
+      → IsRenewedBy ruled text seen world → all ≡ replacing (saved_head text (file_of text seen)) → WouldBegin ruled text content task given printed all
+
+-- the first of these deeds were done, none or all among them, where told
+abbrev pub AreFirst : Option (List Deed) → List Deed → Type 0
+AreFirst deeds all = IfSome deeds (λ done. (rest : List Deed) × (done ++ rest ≡ all))
+
 -- no journal was closed, or one to which nothing was done
 abbrev pub IsUntouched : Option (List Deed) → Option (List Deed) → Type 0
 IsUntouched before after = (after ≡ before) ⊎ IfSome after (λ all. all ≡ [])
@@ -237,16 +249,21 @@ Follows ruled (to_answer stream most) world sum before after status = Resumes ru
 Follows ruled to_save world sum before after status = ⊥
 
 -- What comes of a task over an accepted service with a journal of this content. There was a read fault or no memory for it, or it
--- is refused, and nothing was done to it; or it failed before any link or request, and that was printed; or it was begun, and then
--- the task was done beside it, from the world that the journal brings about; or so it was, and a new file came into its place first,
--- which begins at the file of that world; or what waits in that world was saved, and nothing was done to the journal.
+-- is refused, and nothing was done to it; or, where it isn't only read, it failed with nothing done to it, as where it couldn't be
+-- opened, or as it was begun, before any link or request, with the first of the deeds done that would have begun it, none or all
+-- among them, and that was printed; or it was begun, and then the task was done beside it, from the world that the journal brings
+-- about; or so it was, and a new file came into its place first, which begins at the file of that world; or what waits in that
+-- world was saved, and nothing was done to the journal.
 pub data IsKept (ruled : Ruled) (text content : List ℕ) (task : Task) (before after : Outside) (status : Status) : Type 0 where
   stopped : (status ≡ ReadFault) ⊎ (status ≡ Memory) → after ≡ record before { unread = after.unread; steps = after.steps; deeds = after.deeds }
       → IsUntouched before.deeds after.deeds → IsKept ruled text content task before after status
   refused : (why : Recalled) → Refuses ruled text content why
       → IsSaid (record { status = JournalRefused; text = line (journal_line why) }) (record before { steps = after.steps; deeds = after.deeds }) after status
       → IsUntouched before.deeds after.deeds → IsKept ruled text content task before after status
-  failed : IsSaid (record { status = JournalFault; text = fault_line }) (record before { steps = after.steps; deeds = after.deeds }) after status
+  failed : task ≢ to_save → IsSaid (record { status = JournalFault; text = fault_line }) (record before { steps = after.steps; deeds = after.deeds }) after status
+      → IsUntouched before.deeds after.deeds → IsKept ruled text content task before after status
+  half_begun : task ≢ to_save → (all : List Deed) → WouldBegin ruled text content task before.returned before.printed all → AreFirst after.deeds all
+      → IsSaid (record { status = JournalFault; text = fault_line }) (record before { steps = after.steps; deeds = after.deeds }) after status
       → IsKept ruled text content task before after status
   begun : (found : Recalled) (world : World) (mid : Outside) → Holds ruled text content found world → Stays ruled text (rotate_of task) found world
       → mid ≡ record before { unread = mid.unread; steps = mid.steps; deeds = mid.deeds }

@@ -1,5 +1,5 @@
 -- Laws of outcomes.
-use Rattle.std.specs.Prelude.{◌≡◌, ◌≢◌, ◌↔◌, ◌⊎◌, ℕ, List, Option, None, Some}
+use Rattle.std.specs.Prelude.{◌≡◌, ◌≢◌, ◌↔◌, ◌⊎◌, ⊤, ℕ, Bool, true, false, List, Option, None, Some}
 use Rattle.bw_lang.specs.Document.Forest.{Forest}
 use Rattle.bw_check.specs.Accepts.{Accepts, IsCheckFault}
 use Rattle.bw_check.specs.declared.fault.CheckFault.{CheckFault}
@@ -17,6 +17,7 @@ use Rattle.bw_schema.specs.declared.default_schema.TheConstants.{BUILT_IN}
 use Rattle.bw_schema.specs.declared.schema.Schema.{Schema}
 use Rattle.bw_types.specs.Faults.{IsWellTyped}
 use Rattle.bw_questions.specs.Asked.{Ruled, Task, Work, built_in, schema, service_file, service_text}
+use Rattle.bw_questions.specs.Explaining.{IsExplanation}
 use Rattle.bigwig.specs.Asked.{asked}
 use Rattle.bw_questions.specs.Asked.Task.{to_save, to_serve}
 use Rattle.bw_questions.specs.Asked.Work.{freezes, keeps, serves, visits}
@@ -42,7 +43,8 @@ HasVerdict tree by = Accepts tree by ⊎ ((fault : CheckFault) × IsCheckFault t
 
 -- the command leads to a check of this service by this schema
 abbrev pub Checks : Disk → Command → Service → Schema → Type 0
-Checks disk (Check service judging) tree by = (service_file None disk service).gives tree × (schema disk judging.schema).gives by
+Checks disk (Check service judging explain) tree by =
+    (service_file None disk service).gives tree × (schema disk judging.schema).gives by
 Checks disk (Replay service requests judging form load most) tree by = (service_file None disk service).gives tree × (schema disk judging.schema).gives by
 Checks disk (Resume service requests judging form journal most) tree by =
     (service_file None disk service).gives tree × (schema disk judging.schema).gives by
@@ -56,11 +58,22 @@ Checks disk (Freeze service requests judging form load most) tree by =
 Checks disk (Preserve service judging form journal) tree by = (service_file None disk service).gives tree × (schema disk judging.schema).gives by
 Checks disk (Visit service script judging form) tree by = (service_file None disk service).gives tree × (schema disk judging.schema).gives by
 
--- for all words and files some status is due, where the check has a verdict on the service that they lead to, if any
+-- the command asks for what explains why a service isn't accepted
+abbrev pub AsksWhy : Command → Type 0
+AsksWhy (Check service judging true) = ⊤
+AsksWhy _ = ⊥
+
+-- each reason why the service isn't accepted has lines that explain it
+abbrev pub HasExplanations : Service → Schema → Type 0
+HasExplanations tree by = (fault : CheckFault) → IsCheckFault tree by fault → (fault ≢ checks.Memory) → (more : List ℕ) × IsExplanation tree by fault more
+
+-- for all words and files some status is due, where the check has a verdict on the service that they lead to, if any, and, where
+-- that is asked for, its reasons have explanations
 abbrev pub SomeStatusIsDue : Type 0
 SomeStatusIsDue =
     (words : List (List ℕ)) (disk : Disk)
     → ((c : Command) (tree : Service) (by : Schema) → command_of words ≡ Some c → Checks disk c tree by → HasVerdict tree by)
+    → ((c : Command) (tree : Service) (by : Schema) → command_of words ≡ Some c → Checks disk c tree by → AsksWhy c → HasExplanations tree by)
     → (status : Status) × Due words disk status
 
 -- and one only
@@ -141,7 +154,7 @@ pub record IsAcceptedFile (disk : Disk) (name : List ℕ) (named : Option (List 
 -- `check` is done exactly where the service and the schema read and the service is accepted
 abbrev pub CheckIsDone : Type 0
 CheckIsDone =
-    (words : List (List ℕ)) (disk : Disk) (name : List ℕ) (judging : Judging) → command_of words ≡ Some (Check name judging)
+    (words : List (List ℕ)) (disk : Disk) (name : List ℕ) (judging : Judging) (explain : Bool) → command_of words ≡ Some (Check name judging explain)
     → Due words disk Done ↔ IsAcceptedFile disk name judging.schema
 
 -- the file of this name is a page, and it is valid by the schema that is named

@@ -1,5 +1,5 @@
 //! A journal that was read is begun, and links are served beside it.
-ghost use Rattle.std.specs.Prelude.{◌≡◌, ◌≢◌, ◌⊎◌, ℕ, List, [], IfSome, OnOk};
+ghost use Rattle.std.specs.Prelude.{◌≡◌, ◌≢◌, ◌⊎◌, ℕ, List, [], IfSome, OnErr, OnOk};
 ghost use Rattle.bw_model.specs.Sessions as model;
 ghost use Rattle.bw_out.specs.Causes.{HasCause, Shows};
 ghost use Rattle.bw_world.specs.Stands.{StandsFor};
@@ -9,7 +9,7 @@ ghost use Rattle.bigwig.specs.Fits.{IsFitWorld};
 ghost use Rattle.bw_questions.specs.Asked.Task.{to_serve};
 ghost use Rattle.bigwig.specs.Finding.{IsRead, begun_by, sum_of};
 ghost use Rattle.bigwig.specs.Keeping.{EndsWith, IsKept, Keeps, fault_line};
-ghost use Rattle.bw_stable.specs.Deeds.{DoesAll};
+ghost use Rattle.bw_stable.specs.Deeds.{DoesAll, DoesFirst};
 ghost use Rattle.bw_keeping.specs.Served.{Serves, view};
 ghost use Rattle.bw_keeping.specs.declared.ended.Ended.{Ended as Ended_};
 ghost use Rattle.bigwig.specs.Lent.{AreSame, ShowsJournal, seen_of};
@@ -93,7 +93,7 @@ fn keep_begun<F: Files, J: Journals, I: Journal, D: WideDoor, K: Keys, W: Sink, 
 }
 
 /// Makes a journal ready for entries: puts the head there where there is none, cuts off what is less than an entry, or puts a new
-/// file in its place.
+/// file in its place. Where it fails, the first of these deeds were done, none or all among them, and nothing else.
 pub fn begin<J: Journal, D: WideDoor, W: Sink>(
     opening: &Opening,
     journal: &mut J,
@@ -102,6 +102,7 @@ pub fn begin<J: Journal, D: WideDoor, W: Sink>(
 ) -> Result<(), Failed>
     requires { J.is_sound journal.old }
     ensures begun { OnOk result (DoesAll (J.deeds journal.old) (J.deeds journal.new) (begun_by opening.now (D.returned door.now) (W.held out.now))) }
+    ensures failed { OnErr result (DoesFirst (J.deeds journal.old) (J.deeds journal.new) (begun_by opening.now (D.returned door.now) (W.held out.now))) }
     ensures sound { OnOk result (J.is_sound journal.new) }
     ensures cause { HasCause (J.faults journal.old) (J.faults journal.new) result }
 {

@@ -42,9 +42,11 @@ pub fn obey<
     ensures same { AreSame lent.old lent.new }
 {
     match command {
-        Command::Check { service, judging } => {
-            check_command(tools, service, judging, lent.files, lent.out)
-        }
+        Command::Check {
+            service,
+            judging,
+            explain,
+        } => check_command(tools, service, judging, *explain, lent.files, lent.out),
         Command::Replay { .. } | Command::Resume { .. } => obey_replay(tools, command, lent),
         Command::Serve { .. } | Command::Keep { .. } => obey_serve(tools, command, lent),
         Command::Valid { page, schema } => {

@@ -44,6 +44,8 @@ enum Subject {
     Checks,
     /// Runs of the whole program that show the source of services that are refused.
     Sources,
+    /// Runs of the whole program that explain why services are refused.
+    Explained,
     /// Runs of the whole program by services that are the names of the cases.
     Services,
     /// Reads and writes that are interrupted.
@@ -74,6 +76,7 @@ impl Subject {
             Subject::Torn => "torn.cases",
             Subject::Checks => "check.cases",
             Subject::Sources => "source.cases",
+            Subject::Explained => "explain.cases",
             Subject::Services => "services.cases",
             Subject::Retries => "retries.cases",
             Subject::Worlds => "worlds.cases",
@@ -87,7 +90,7 @@ impl Subject {
 }
 
 /// What is tried, in this order.
-const SUBJECTS: [Subject; 16] = [
+const SUBJECTS: [Subject; 17] = [
     Subject::Runs,
     Subject::Sessions,
     Subject::Serves,
@@ -96,6 +99,7 @@ const SUBJECTS: [Subject; 16] = [
     Subject::Torn,
     Subject::Checks,
     Subject::Sources,
+    Subject::Explained,
     Subject::Services,
     Subject::Retries,
     Subject::Worlds,
@@ -122,6 +126,7 @@ fn try_case<R: Threads + Sync>(
         | Subject::Anew
         | Subject::Checks
         | Subject::Sources
+        | Subject::Explained
         | Subject::Examples
         | Subject::Formats
         | Subject::Saved

@@ -6,6 +6,7 @@ bigwig check SERVICE             says 'accepted', or each fault of the service's
   --schema FILE                  judges by the schema of this file; else by the built-in one
   --workers N                    judges with N threads at most, from 1 to 16; else with 1
   --show-source                  shows behind each line where it is, what is wrong and how it is mended
+  --explain                      shows behind the faults a page that has the first one of an element
 bigwig replay SERVICE REQUESTS   checks the service, and answers the requests of a file
   --schema FILE, --workers N     as check has them, and --show-source
   --formats FILE                 takes values in the formats of this file alone; else any values

@@ -29,8 +29,8 @@ pub same_line : (l : Line) (rows : List Row) → text_of l.command ≡ first_of 
     → text_of l.limit ≡ first_of (codes "limit") rows → text_of l.port ≡ first_of (codes "port") rows
     → text_of l.formats ≡ first_of (codes "formats") rows → text_of l.journal ≡ first_of (codes "journal") rows
     → text_of l.load ≡ first_of (codes "load") rows → text_of l.rotate ≡ first_of (codes "rotate") rows
-    → text_of l.source ≡ first_of (codes "show-source") rows → line_of l ≡ written_in rows
-same_line l rows a b c d e f g h j m n k =
+    → text_of l.source ≡ first_of (codes "show-source") rows → text_of l.explain ≡ first_of (codes "explain") rows → line_of l ≡ written_in rows
+same_line l rows a b c d e f g h j m n k p =
     λ i. record {
       command = a i;
       first = b i;
@@ -44,6 +44,7 @@ same_line l rows a b c d e f g h j m n k =
       load = m i;
       rotate = n i;
       source = k i;
+      explain = p i;
     }
 
 -- the command of words that clap takes

@@ -28,13 +28,13 @@ judging_by w = judging_of w.schema (number_or 1 MAX_WORKERS 1 w.workers) (is_wri
 abbrev pub has_judging_alone : Written → Bool
 has_judging_alone w = is_none w.limit && (is_none w.port && (is_none w.formats && (is_none w.journal && (is_none w.load && is_none w.rotate))))
 
--- check SERVICE
-abbrev pub check_of : Option (List ℕ) → Option (List ℕ) → Option Judging → Option Command
-check_of (Some service) None (Some judging) = Some (Check service judging)
-check_of service second judging = None
+-- check SERVICE, with a page that shows its first fault of an element or without
+abbrev pub check_of : Option (List ℕ) → Option (List ℕ) → Option Judging → Bool → Option Command
+check_of (Some service) None (Some judging) explain = Some (Check service judging explain)
+check_of service second judging explain = None
 
 abbrev pub check_by : Written → Option Command
-check_by w = if has_judging_alone w then check_of w.first w.second (judging_by w) else None
+check_by w = if has_judging_alone w then check_of w.first w.second (judging_by w) (is_written w.explain) else None
 
 -- no file of saved sessions is named beside a journal: a journal begins where nothing was requested yet
 abbrev pub begins_once : Written → Bool
@@ -166,18 +166,22 @@ visit_of service script judging formats = None
 abbrev pub visit_by : Written → Option Command
 visit_by w = if has_visiting_alone w then visit_of w.first w.second (judging_by w) w.formats else None
 
--- the command of this name
-abbrev pub named_by : Option (List ℕ) → Written → Option Command
-named_by None w = None
-named_by (Some name) w =
-    if bytes_eq name (codes "check") then check_by w
-    else (if bytes_eq name (codes "replay") then replay_by w
+-- the command of this name, which isn't `check`
+abbrev pub other_by : List ℕ → Written → Option Command
+other_by name w =
+    if bytes_eq name (codes "replay") then replay_by w
     else (if bytes_eq name (codes "serve") then serve_by w
     else (if bytes_eq name (codes "valid") then valid_by w
     else (if bytes_eq name (codes "make") then make_by w
     else (if bytes_eq name (codes "light") then light_by w
     else (if bytes_eq name (codes "freeze") then freeze_by w
-    else (if bytes_eq name (codes "visit") then visit_by w else None)))))))
+    else (if bytes_eq name (codes "visit") then visit_by w else None))))))
+
+-- the command of this name: a page that shows a fault is asked for by `check` alone
+abbrev pub named_by : Option (List ℕ) → Written → Option Command
+named_by None w = None
+named_by (Some name) w =
+    if bytes_eq name (codes "check") then check_by w else (if is_written w.explain then None else other_by name w)
 
 -- the command that is written so
 abbrev pub command_by : Written → Option Command
@@ -200,7 +204,7 @@ AreWorkers n = (1 ≤ n) × (n ≤ MAX_WORKERS)
 
 -- the command's numbers are within their ranges
 abbrev pub IsInRange : Command → Type 0
-IsInRange (Check service judging) = AreWorkers judging.workers
+IsInRange (Check service judging explain) = AreWorkers judging.workers
 IsInRange (Replay service requests judging formats load most) = AreWorkers judging.workers
 IsInRange (Resume service requests judging formats journal most) = AreWorkers judging.workers
 IsInRange (Serve service judging formats load port most) = AreWorkers judging.workers

@@ -1,4 +1,4 @@
--- The words of the command line, by clap: one simple command with three words, eight options and a flag.
+-- The words of the command line, by clap: one simple command with three words, eight options and two flags.
 use Rattle.std.specs.Prelude.{◌≡◌, true, List, [], Option, Some, codes, option_map}
 use Rattle.std.specs.Borrow.{Bor}
 use Rattle.clap.specs.Words.{App, Row, Rule, Text, new_app, new_rule, with_rule, matches_of, fault_of}
@@ -22,11 +22,11 @@ bare = on_top (λ s. record s { no_binary_name = true; disable_help_flag = true;
 -- the whole command
 unfoldable pub bigwig : App
 bigwig =
-    with_rule (with_rule (with_rule (with_rule (with_rule (with_rule (with_rule (with_rule (with_rule (with_rule (with_rule (with_rule bare
+    with_rule (with_rule (with_rule (with_rule (with_rule (with_rule (with_rule (with_rule (with_rule (with_rule (with_rule (with_rule (with_rule bare
     (new_rule (codes "command"))) (new_rule (codes "first"))) (new_rule (codes "second")))
     (option_rule (codes "schema"))) (option_rule (codes "workers"))) (option_rule (codes "limit")))
     (option_rule (codes "port"))) (option_rule (codes "formats"))) (option_rule (codes "journal"))) (option_rule (codes "load")))
-    (option_rule (codes "rotate"))) (flag_rule (codes "show-source"))
+    (option_rule (codes "rotate"))) (flag_rule (codes "show-source"))) (flag_rule (codes "explain"))
 
 -- clap takes the words
 abbrev pub IsTaken : List Text → Type 0
@@ -46,6 +46,7 @@ pub record Written : Type 0 where
   pub load : Option Text
   pub rotate : Option Text
   pub source : Option Text
+  pub explain : Option Text
 
 -- the first values of clap's matches
 abbrev pub written_in : List Row → Written
@@ -62,6 +63,7 @@ written_in rows = record {
   load = first_of (codes "load") rows;
   rotate = first_of (codes "rotate") rows;
   source = first_of (codes "show-source") rows;
+  explain = first_of (codes "explain") rows;
 }
 
 -- what is written by these words
@@ -87,4 +89,5 @@ line_of l = record {
   load = text_of l.load;
   rotate = text_of l.rotate;
   source = text_of l.source;
+  explain = text_of l.explain;
 }

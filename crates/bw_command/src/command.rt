@@ -49,6 +49,8 @@ pub enum Command {
         /// The name of the service file.
         service: Text,
         judging: Judging,
+        /// Whether a page is printed that shows its first fault of an element.
+        explain: bool,
     },
     /// To answer requests.
     Replay {

@@ -5,6 +5,7 @@ mod apart;
 mod command;
 mod numbers;
 mod reading;
+mod serviceless;
 mod words;
 
 pub use command::{

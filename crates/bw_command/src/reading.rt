@@ -10,9 +10,9 @@ use crate::command::{
     Command, DEFAULT_PORT, Judging, MAX_LINKS, MAX_PORT, MAX_REQUESTS, MAX_ROTATE, MAX_WORKERS,
 };
 use crate::numbers::{number_if, number_in, number_or};
+use crate::serviceless::{light_by, make_by, valid_by};
 use crate::words::{Line, WordsFault, read_line, texts_of};
 use bw_lang::{Memory, Text, Words};
-use bw_make::MAX_PAGES;
 use std::alloc::Global;
 
 /// The command that the words give. `Refused` comes exactly where they are refused, and `Memory` for want of memory
@@ -38,7 +38,19 @@ fn command_by(alloc: Global, line: &Line<'_>) -> Result<Command, WordsFault>
     let name = line.command.ok_or(WordsFault::Refused)?;
     if name == "check" {
         check_by(alloc, line)
-    } else if name == "replay" {
+    } else if is_written(line.explain) {
+        Err(WordsFault::Refused)
+    } else {
+        other_by(alloc, name, line)
+    }
+}
+
+/// The command of this name, which isn't `check`.
+fn other_by(alloc: Global, name: &str, line: &Line<'_>) -> Result<Command, WordsFault>
+    ensures ok { IfOk result (λ c. (spec.other_by name.now (words.line_of line.now) ≡ Some c) × spec.IsInRange c) }
+    ensures refused { IsErrOf result WordsFault.Refused → spec.other_by name.now (words.line_of line.now) ≡ None }
+{
+    if name == "replay" {
         replay_by(alloc, line)
     } else if name == "serve" {
         serve_by(alloc, line)
@@ -80,7 +92,7 @@ pub fn owned_option(alloc: Global, text: Option<&str>) -> Result<Option<Text>, W
 }
 
 /// Whether a flag is written.
-fn is_written(text: Option<&str>) -> bool
+pub fn is_written(text: Option<&str>) -> bool
     ensures { result ≡ spec.is_written (words.text_of text.entry) }
 {
     match text {
@@ -104,7 +116,7 @@ pub fn judging_by(alloc: Global, line: &Line<'_>) -> Result<Judging, WordsFault>
     })
 }
 
-/// `check SERVICE`.
+/// `check SERVICE`, with a page that shows its first fault of an element or without.
 fn check_by(alloc: Global, line: &Line<'_>) -> Result<Command, WordsFault>
     ensures ok { IfOk result (λ c. (spec.check_by (words.line_of line.now) ≡ Some c) × spec.IsInRange c) }
     ensures refused { IsErrOf result WordsFault.Refused → spec.check_by (words.line_of line.now) ≡ None }
@@ -124,6 +136,7 @@ fn check_by(alloc: Global, line: &Line<'_>) -> Result<Command, WordsFault>
     Ok(Command::Check {
         service: owned(alloc, service)?,
         judging,
+        explain: is_written(line.explain),
     })
 }
 
@@ -223,76 +236,4 @@ fn port_of(text: Option<&str>) -> Option<u16>
             None => None,
         },
     }
-}
-
-/// `valid PAGE`.
-fn valid_by(alloc: Global, line: &Line<'_>) -> Result<Command, WordsFault>
-    ensures ok { IfOk result (λ c. (spec.valid_by (words.line_of line.now) ≡ Some c) × spec.IsInRange c) }
-    ensures refused { IsErrOf result WordsFault.Refused → spec.valid_by (words.line_of line.now) ≡ None }
-{
-    if line.workers.is_some()
-        || line.limit.is_some()
-        || line.port.is_some()
-        || line.formats.is_some()
-        || line.journal.is_some()
-        || line.load.is_some()
-        || line.rotate.is_some()
-        || is_written(line.source)
-        || line.second.is_some()
-    {
-        return Err(WordsFault::Refused);
-    }
-    let page = line.first.ok_or(WordsFault::Refused)?;
-    Ok(Command::Valid {
-        page: owned(alloc, page)?,
-        schema: owned_option(alloc, line.schema)?,
-    })
-}
-
-/// `make N`.
-fn make_by(line: &Line<'_>) -> Result<Command, WordsFault>
-    ensures ok { IfOk result (λ c. (spec.make_by (words.line_of line.now) ≡ Some c) × spec.IsInRange c) }
-    ensures refused { IfErr result (λ e. (e ≡ WordsFault.Refused) × (spec.make_by (words.line_of line.now) ≡ None)) }
-{
-    if line.schema.is_some()
-        || line.limit.is_some()
-        || line.port.is_some()
-        || line.formats.is_some()
-        || line.journal.is_some()
-        || line.load.is_some()
-        || line.rotate.is_some()
-        || is_written(line.source)
-        || line.second.is_some()
-    {
-        return Err(WordsFault::Refused);
-    }
-    let count = line.first.ok_or(WordsFault::Refused)?;
-    let count = number_in(1, MAX_PAGES, count).ok_or(WordsFault::Refused)?;
-    let workers = number_or(1, MAX_WORKERS, 1, line.workers).ok_or(WordsFault::Refused)?;
-    Ok(Command::Make { count, workers })
-}
-
-/// `light FORMATS TEXTS`.
-fn light_by(alloc: Global, line: &Line<'_>) -> Result<Command, WordsFault>
-    ensures ok { IfOk result (λ c. (spec.light_by (words.line_of line.now) ≡ Some c) × spec.IsInRange c) }
-    ensures refused { IsErrOf result WordsFault.Refused → spec.light_by (words.line_of line.now) ≡ None }
-{
-    if line.schema.is_some()
-        || line.workers.is_some()
-        || line.limit.is_some()
-        || line.port.is_some()
-        || line.formats.is_some()
-        || line.journal.is_some()
-        || line.load.is_some()
-        || line.rotate.is_some()
-        || is_written(line.source)
-    {
-        return Err(WordsFault::Refused);
-    }
-    let formats = line.first.ok_or(WordsFault::Refused)?;
-    let texts = line.second.ok_or(WordsFault::Refused)?;
-    Ok(Command::Light {
-        formats: owned(alloc, formats)?,
-        texts: owned(alloc, texts)?,
-    })
 }

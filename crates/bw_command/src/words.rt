@@ -24,6 +24,8 @@ pub struct Line<'a> {
     pub rotate: Option<&'a str>,
     /// `true` where the source of a refusal is shown, and else `false`.
     pub source: Option<&'a str>,
+    /// `true` where a page is asked for that shows a fault, and else `false`.
+    pub explain: Option<&'a str>,
 }
 
 /// Why words give no line or no command.
@@ -78,7 +80,7 @@ fn bare<'a>(alloc: Global) -> Command<'a>
         .disable_version_flag(true)
 }
 
-/// The whole command line: a command word, up to two further words, eight options and a flag.
+/// The whole command line: a command word, up to two further words, eight options and two flags.
 fn whole<'a>(alloc: Global) -> Result<Command<'a>, AllocError>
     ensures { IfOk result (λ r. app_of r ≡ bigwig) }
 {
@@ -93,7 +95,8 @@ fn whole<'a>(alloc: Global) -> Result<Command<'a>, AllocError>
     let c = with_option(alloc, c, "journal")?;
     let c = with_option(alloc, c, "load")?;
     let c = with_option(alloc, c, "rotate")?;
-    with_flag(alloc, c, "show-source")
+    let c = with_flag(alloc, c, "show-source")?;
+    with_flag(alloc, c, "explain")
 }
 
 /// The line of clap's matches.
@@ -113,6 +116,7 @@ fn line_of<'a>(matches: &ArgMatches<'a>) -> Line<'a>
         load: matches.get_str("load"),
         rotate: matches.get_str("rotate"),
         source: matches.get_str("show-source"),
+        explain: matches.get_str("explain"),
     }
 }
 

@@ -6,7 +6,8 @@ use Rattle.std.proofs.lemmas.Bool.{false≢true, cases_Bool, not-true, not_from_
 use Rattle.std.proofs.lemmas.Bool.{or_left, or_right}
 use Rattle.std.proofs.lemmas.List.{length-replicate}
 use Rattle.std.proofs.lemmas.Slice.Eq.{bytes_eq-Decides}
-use Rattle.std.proofs.Math.Bool.{or-false, and-false}
+use Rattle.std.proofs.lemmas.List.Folds.{list_any-append}
+use Rattle.std.proofs.Math.Bool.{or-false, and-false, and-true, not-not}
 use Rattle.bw_lang.specs.declared.items.Attr.{Attr}
 use Rattle.bw_lang.specs.Document.Forest.{Forest}
 use Rattle.bw_lang.specs.Document.Documents.{close, closed_attrs}
@@ -25,28 +26,12 @@ use Rattle.bw_explain.specs.Atoms.{is_plain, is_broken, need_atoms, atoms_of, pa
 use Rattle.bw_explain.specs.Owns.{FailsIs}
 use Rattle.bw_explain.specs.Shows.{some_broken, breaks}
 use Rattle.bw_explain.specs.Sizes.{is_said}
-use Rattle.bw_explain.specs.Ways.{Way, says, no_way}
+use Rattle.bw_explain.specs.Ways.{Way, no_way}
 use Rattle.bw_explain.proofs.Filling.{said_low, word_there, among_any, any_among}
 
 not_and : (a b c : Bool) → not b ≡ c → not (a && b) ≡ (not a || c)
 not_and true b c h = h
 not_and false b c h = refl
-
-any-append : (f : Atom → Bool) (xs ys : List Atom) → list_any f (xs ++ ys) ≡ (list_any f xs || list_any f ys)
-any-append f [] ys = refl
-any-append f (x ∷ xs) ys = ap (λ b. f x || b) (any-append f xs ys) ∙ or_assoc (f x) (list_any f xs) (list_any f ys)
-  where
-    or_assoc : (a b c : Bool) → (a || (b || c)) ≡ ((a || b) || c)
-    or_assoc true b c = refl
-    or_assoc false b c = refl
-
-not_not : (b : Bool) → not (not b) ≡ b
-not_not true = refl
-not_not false = refl
-
-and_true : (b : Bool) → (b && true) ≡ b
-and_true true = refl
-and_true false = refl
 
 module _ (r : Rule) (b : List Attr) (j : Forest) where
   abbrev broken : Atom → Bool
@@ -59,13 +44,13 @@ module _ (r : Rule) (b : List Attr) (j : Forest) where
       let p = and_parts (is_plain parts) (is_plain rest) h in
       not_and (holds true parts b j) (holds true rest b j) (list_any broken (need_atoms rest)) (plain_broken rest p.1)
       ∙ ap (λ k. k || list_any broken (need_atoms rest)) (plain_broken parts p.0)
-      ∙ sym (any-append broken (need_atoms parts) (need_atoms rest))
+      ∙ sym (list_any-append broken (need_atoms parts) (need_atoms rest))
       ∙ sym (ap (λ k. list_any broken ((if k then need_atoms parts else []) ++ need_atoms rest)) p.0)
   plain_broken (some_of parts rest) h = absurd (false≢true h)
   plain_broken (attr x rest) h = not_and (has_fixed b x) (holds true rest b j) (list_any broken (need_atoms rest)) (plain_broken rest h)
   plain_broken (one_value x vs rest) h = not_and (has_value b x vs) (holds true rest b j) (list_any broken (need_atoms rest)) (plain_broken rest h)
   plain_broken (content x rest) h = not_and (not (each_child (is_other x) j)) (holds true rest b j) (list_any broken (need_atoms rest)) (plain_broken rest h)
-      ∙ ap (λ k. k || list_any broken (need_atoms rest)) (not_not (each_child (is_other x) j))
+      ∙ ap (λ k. k || list_any broken (need_atoms rest)) (not-not (each_child (is_other x) j))
   plain_broken (order x y rest) h = not_and (ordered x y j) (holds true rest b j) (list_any broken (need_atoms rest)) (plain_broken rest h)
 
   needs_broken : (needs : Needs) → some_broken needs b j ≡ list_any broken (need_atoms needs)
@@ -75,7 +60,7 @@ module _ (r : Rule) (b : List Attr) (j : Forest) where
       chosen : (p : Bool) → is_plain parts ≡ p → some_broken rest b j ≡ list_any broken (need_atoms rest)
           → ((p && not (holds true parts b j)) || some_broken rest b j) ≡ list_any broken ((if p then need_atoms parts else []) ++ need_atoms rest)
       chosen true e ih = ap (λ k. k || some_broken rest b j) (plain_broken parts e) ∙ ap (λ k. list_any broken (need_atoms parts) || k) ih
-          ∙ sym (any-append broken (need_atoms parts) (need_atoms rest))
+          ∙ sym (list_any-append broken (need_atoms parts) (need_atoms rest))
       chosen false e ih = ih
   needs_broken (some_of parts rest) = needs_broken rest
   needs_broken (attr x rest) = ap (λ k. not (has_fixed b x) || k) (needs_broken rest)
@@ -100,10 +85,10 @@ module _ (r : Rule) (b : List Attr) (j : Forest) where
   closed_broken (all_of parts rest) = either_two (ap (λ k. is_plain parts && not k) (closed_holds true parts b j)) (closed_broken rest)
   closed_broken (some_of parts rest) = closed_broken rest
   closed_broken (attr x rest) = either_two (ap not (closed_has b x)) (closed_broken rest)
-  closed_broken (one_value x vs rest) = either_two (ap not (sym (and_true _) ∙ closed_holds true (one_value x vs nothing) b j ∙ and_true _))
+  closed_broken (one_value x vs rest) = either_two (ap not (sym (and-true _) ∙ closed_holds true (one_value x vs nothing) b j ∙ and-true _))
       (closed_broken rest)
   closed_broken (content x rest) = either_two (closed_child (is_other x) j) (closed_broken rest)
-  closed_broken (order x y rest) = either_two (ap not (sym (and_true _) ∙ closed_holds true (order x y nothing) b j ∙ and_true _)) (closed_broken rest)
+  closed_broken (order x y rest) = either_two (ap not (sym (and-true _) ∙ closed_holds true (order x y nothing) b j ∙ and-true _)) (closed_broken rest)
 
   chain : (a c d e f g : Bool) (v w x y z u : Bool) (V W X Y Z U : List Atom) → v ≡ list_any broken V → w ≡ list_any broken W → x ≡ list_any broken X → y
       ≡ list_any broken Y → z ≡ list_any broken Z → u ≡ list_any broken U

@@ -1,7 +1,6 @@
 -- The element of a fault.
-use Rattle.std.proofs.Common.{◌≡◌, inl, inr, ℕ, suc, ◌==◌, Bool, true, false, List, [], ◌∷◌, Option, Some, None, is_some, if◌then◌else◌, refl, ap, sym, ◌∙◌}
-use Rattle.std.proofs.Common.{subst, arith}
-use Rattle.std.specs.List.{Contains}
+use Rattle.std.proofs.Common.{◌≡◌, inl, inr, ℕ, ◌==◌, true, false, List, Some, refl, ap, sym, ◌∙◌}
+use Rattle.std.proofs.Common.{subst}
 use Rattle.bw_lang.specs.Table.Names.{same}
 use Rattle.std.proofs.lemmas.Bool.{false≢true, cases_Bool}
 use Rattle.bw_sum.specs.Unfolding.{Unfolds}
@@ -15,14 +14,20 @@ use Rattle.bw_schema.specs.declared.schema.Schema.{Schema}
 use Rattle.bw_schema.specs.Rules.{rule_of}
 use Rattle.bw_faults.specs.declared.fault.Fault.{Fault}
 use Rattle.bw_judge.specs.Faults.{At, IsFault, wrong_root, breaks, Breaks, attribute, absent, unsure, value, child, words, need}
+use Rattle.std.proofs.lemmas.Option.{same_Some}
 use Rattle.bw_lang.specs.Document.Documents.{close}
 use Rattle.bw_schema.specs.Validity.{Valid}
 use Rattle.bw_explain.proofs.ShownLaws.{shown_is_broken, root_is_broken}
 use Rattle.bw_sum.specs.Graph.{Graph}
 use Rattle.bw_explain.specs.declared.explained.Explained.{Explained}
 use Rattle.bw_explain.specs.Atoms.{atoms_of}
-use Rattle.bw_explain.specs.Explained.{IsAnswer, page_of, all_big, none_there, IsExplained, page, too_big, disjunction, no_unfolding, IsAt, FindsOne, Ties}
-use Rattle.bw_explain.specs.Explained.{IsSplit, NotValid, or_split, Place}
+use Rattle.bw_explain.specs.Explained.{IsAnswer, page_of, all_big, none_there, IsExplained, page, too_big, IsAt, FindsOne, Ties}
+use Rattle.bw_explain.specs.Explained.{IsSplit, NotValid, is_none, Place, HasElement, IsPlaced, IsSpot}
+use Rattle.bw_explain.specs.declared.finding.Spot.{Spot}
+use Rattle.bw_lang.specs.declared.service.Service.{Service}
+use Rattle.bw_shape.specs.Nodes.Templates.{template_at}
+use Rattle.bw_shape.proofs.Shapes.{template_is}
+use Rattle.bw_sum.specs.Templates.{all_items, template_items}
 use Rattle.bw_explain.specs.declared.explained.Explained.TheVariants as answers
 use Rattle.bw_explain.specs.Places.{IsThere}
 use Rattle.bw_explain.proofs.Placing.{at_same}
@@ -36,27 +41,12 @@ fault_is_at templates G root s point _ (breaks {n = n} {place = place} {tag = ta
   (r, record { template = refl; place = refl; at = at; rule = rule }),
 )
 
-pub some_same : (a b : Rule) → Some a ≡ Some b → a ≡ b
-some_same a b e = ap (λ o. inside o a) e
-  where
-    inside : Option Rule → Rule → Rule
-    inside (Some x) d = x
-    inside None d = d
-
--- the rule of a tag is one of the rules
-pub rule_in : (rules : List Rule) (tag : List ℕ) (r : Rule) → rule_of rules tag ≡ Some r → Contains rules r
-rule_in [] tag r h = absurd (false≢true (ap is_some h))
-rule_in (q ∷ rules) tag r h = elim (cases_Bool (same q.tag tag)) [
-  | inl it ↦ (0, omega arith, some_same q r (sym (ap (λ b. if b then Some q else rule_of rules tag) it) ∙ h))
-  | inr isnt ↦ let c = rule_in rules tag r (sym (ap (λ b. if b then Some q else rule_of rules tag) isnt) ∙ h) in (suc c.0, omega (arith, c.1), c.2)
-]
-
 -- by the element and the rule that were found
 pub by_rule : (templates : ℕ → Forest) (G : Graph) (rules : List Rule) (f : Fault) (root : ℕ) (e : Explained) (spot : Place) (rule : Rule)
     → rule_of rules spot.tag ≡ Some rule → IsAnswer (FindsOne templates G spot rule (atoms_of f.number rule) root) e
     → (p : Place) (r : Rule) → IsAt templates rules f p r → p ≡ spot → IsAnswer (FindsOne templates G p r (atoms_of f.number r) root) e
 by_rule templates G rules f root e spot rule found h p r is g =
-    let k : rule ≡ r = some_same rule r (sym found ∙ ap (λ (q : Place). rule_of rules q.tag) (sym g) ∙ is.rule) in
+    let k : rule ≡ r = same_Some rule r (sym found ∙ ap (λ (q : Place). rule_of rules q.tag) (sym g) ∙ is.rule) in
     subst (λ (q : Place). IsAnswer (FindsOne templates G q r (atoms_of f.number r) root) e) (sym g)
     (subst (λ (x : Rule). IsAnswer (FindsOne templates G spot x (atoms_of f.number x) root) e) k h)
 
@@ -73,12 +63,22 @@ spot_is templates rules f p r template place e is t g h =
     ∙ ap (λ x. record { template = template; place = place; tag = e.tag; attrs = x; inner = p.inner }) s.1
     ∙ ap (λ x. record { template = template; place = place; tag = e.tag; attrs = e.attrs; inner = x }) s.2
 
-pub template_same : (a b : ℕ) → Some a ≡ Some b → a ≡ b
-template_same a b e = ap (λ o. inside o a) e
-  where
-    inside : Option ℕ → ℕ → ℕ
-    inside (Some x) d = x
-    inside None d = d
+-- the element of a fault of a page graph stands in one of the templates, and has a rule
+pub fault_is_placed : (service : Service) (templates : List Forest) → templates ≡ all_items service → (G : Graph) (root : ℕ) (s : Schema) (point : ℕ) (f : Fault)
+    → IsFault (template_items service) G root s point f → (f.number == 6) ≡ false → IsPlaced templates s.elements f
+fault_is_placed service templates e G root s point f is six =
+    subst (λ (T : ℕ → Forest). (p : Place) × ((r : Rule) × IsAt T s.elements f p r)) (sym (ap template_at e ∙ template_is service))
+    (fault_is_at (template_items service) G root s point f is six)
+
+pub placed_there : (templates : List Forest) (rules : List Rule) (f : Fault) → IsPlaced templates rules f → HasElement templates f
+placed_there templates rules f x = (x.0, x.1.1.template, x.1.1.place, x.1.1.at)
+
+pub spot_has_rule : (templates : List Forest) (rules : List Rule) (f : Fault) → IsPlaced templates rules f → (s : Spot) → IsSpot templates f s
+    → (r : Rule) × (rule_of rules s.element.now.tag ≡ Some r)
+spot_has_rule templates rules f x s is =
+    let q = spot_is (template_at templates) rules f x.0 x.1.0 s.template s.place s.element.now x.1.1
+    (same_Some x.0.template s.template (sym x.1.1.template ∙ is.template)) (sym is.place) is.at in
+    (x.1.0, ap (λ (y : Place). rule_of rules y.tag) (sym q) ∙ x.1.1.rule)
 
 -- what explains it by its ways or as an unfolding explains it as a fault
 pub by_number : (templates : ℕ → Forest) (G H : Graph) (s : Schema) (point : ℕ) (f : Fault) (root : ℕ) (e : Explained)
@@ -121,13 +121,13 @@ not_valid templates G s point f root e is h t same v = by t (subst (λ (x : Expl
     by : (t : Tree) → IsExplained (Shows templates G s.elements f root) (IsSplit templates G s.elements f) (answers.Page t) → Valid s t.items → ⊥
     by t (page h l m) v = shown_not_valid templates G s point f root _ is h v
 
--- what is told of the documents that show a fault explains it
-pub told_by : (Shown : Forest → Type 0) (Split : Type 0) (e : Explained) → (Split → ⊥) → IsAnswer Shown e → IsExplained Shown Split e
-told_by Shown Split _ k (page_of h l m) = page h l m
-told_by Shown Split _ k (all_big d h l) = too_big d h l
-told_by Shown Split _ k (none_there h) = no_unfolding h k
+-- what is told of the documents that show a fault explains it, where there is one
+pub told_found : (Shown : Forest → Type 0) (Split : Type 0) (e : Explained) → IsAnswer Shown e → is_none e ≡ false → IsExplained Shown Split e
+told_found Shown Split _ (page_of h l m) k = page h l m
+told_found Shown Split _ (all_big d h l) k = too_big d h l
+told_found Shown Split _ (none_there h) k = absurd (false≢true (sym k))
 
-pub told_split : (Shown : Forest → Type 0) (Split : Type 0) (e : Explained) → Split → IsAnswer Shown e → IsExplained Shown Split (or_split e)
-told_split Shown Split _ k (page_of h l m) = page h l m
-told_split Shown Split _ k (all_big d h l) = too_big d h l
-told_split Shown Split _ k (none_there h) = disjunction h k
+pub none_shown : (Shown : Forest → Type 0) (e : Explained) → IsAnswer Shown e → is_none e ≡ true → (d : Forest) → Shown d → ⊥
+none_shown Shown _ (page_of h l m) k = absurd (false≢true k)
+none_shown Shown _ (all_big d h l) k = absurd (false≢true k)
+none_shown Shown _ (none_there h) k = h

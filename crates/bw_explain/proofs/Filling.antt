@@ -1,5 +1,5 @@
 -- What fills the gaps of attributes and of templates.
-use Rattle.std.proofs.Common.{◌≡◌, ◌⊎◌, inl, inr, ℕ, zero, suc, ◌+◌, ◌<◌, ◌≤◌, ◌==◌, min, Bool, true, false, ◌||◌, ◌&&◌, not, if◌then◌else◌, List, [], ◌∷◌}
+use Rattle.std.proofs.Common.{◌≡◌, ◌⊎◌, inl, inr, ℕ, zero, suc, ◌+◌, ◌<◌, ◌≤◌, ◌==◌, Bool, true, false, ◌||◌, not, if◌then◌else◌, List, [], ◌∷◌}
 use Rattle.std.proofs.Common.{◌++◌, length}
 use Rattle.std.proofs.Common.{get_or, refl, ap, sym, ◌∙◌, subst, arith}
 use Rattle.std.specs.Prelude.{IfOk, Result, Ok, Err}
@@ -10,7 +10,7 @@ use Rattle.bw_lang.specs.declared.items.Attr.{Attr}
 use Rattle.bw_lang.specs.declared.items.AttrValue.{AttrValue}
 use Rattle.bw_lang.specs.declared.items.AttrValue.TheVariants.{Fixed, Hole}
 use Rattle.bw_lang.specs.Document.Forest.{Forest, none, text, gap, element}
-use Rattle.bw_lang.specs.Document.Documents.{append, elements}
+use Rattle.bw_lang.specs.Document.Documents.{append}
 use Rattle.bw_lang.specs.Table.Names.{same}
 use Rattle.bw_lang.specs.Text.Bytes.{is_blank_text}
 use Rattle.bw_schema.specs.Words.{is_among}
@@ -27,12 +27,6 @@ size-append none b = omega arith
 size-append (text s r) b = let h = size-append r b in omega (arith, h)
 size-append (gap g r) b = let h = size-append r b in omega (arith, h)
 size-append (element tag a i r) b = let h = size-append r b in omega (arith, h)
-
-pub elements-append : (a b : Forest) → elements (append a b) ≡ elements a + elements b
-elements-append none b = omega arith
-elements-append (text s r) b = elements-append r b
-elements-append (gap g r) b = elements-append r b
-elements-append (element tag a i r) b = let h = elements-append r b in omega (arith, h)
 
 -- ---- words
 

@@ -8,7 +8,7 @@ use Rattle.bw_explain.specs.declared.walk.Walk.{Walk}
 use Rattle.bw_explain.specs.declared.aim.Aim.{Aim}
 use Rattle.bw_explain.specs.declared.aim.Aim.TheVariants.{Plain}
 use Rattle.bw_explain.specs.declared.page.Page.{Page}
-use Rattle.bw_explain.specs.Aims.{aim_of, walk_of, known_of, table_of, part_of, Has, Plain_of, IsMade, IsReady, IsFairAim, IsGiven}
+use Rattle.bw_explain.specs.Aims.{aim_of, walk_of, known_of, table_of, part_of, Has, IsPlain, IsMade, IsReady, IsFairAim, IsGiven}
 use Rattle.bw_explain.specs.Sizes.{size, if_so, IsLeast}
 use Rattle.bw_explain.specs.Tables.{Table, size_at, Documents, Settles, Solved}
 use Rattle.bw_sum.specs.Graph.{Graph}
@@ -75,7 +75,7 @@ module _ (p : Page) (a : Aim) where
     ]
   ]
 
-pub plain_solved : (p : Page) (t : Table) → Solved (Has p Plain 0 0) t → Solved (Plain_of p) t
+pub plain_solved : (p : Page) (t : Table) → Solved (Has p Plain 0 0) t → Solved (IsPlain p) t
 plain_solved p t s = record {
   least = λ n. record {
     low = λ d f. (s.least n).low d (fill_runs (template_at p.templates.now) (graph p.nodes.now) no_aim refl f 0 0);
@@ -164,8 +164,8 @@ module _ (w b : Walk) (t : Table) (p : b.page ≡ w.page) (a : b.aim ≡ w.aim) 
   ready_by q e f g h is docs = record {
     most = let m = is.states.1 in omega (arith, m, high);
     zero = λ o. low ∙ is.zero (sym deep ∙ o);
-    plain = λ o. subst (λ (x : Page). Documents (Plain_of x) b.plain.now) (sym p)
-        (subst (Documents (Plain_of w.page)) (sym q) (is.plain (sym deep ∙ o)).doc);
+    plain = λ o. subst (λ (x : Page). Documents (IsPlain x) b.plain.now) (sym p)
+        (subst (Documents (IsPlain w.page)) (sym q) (is.plain (sym deep ∙ o)).doc);
     known = λ x y lo le hi. subst (λ (z : Page). Documents (Has z b.aim x y) (table_of b.known x y)) (sym p)
         (subst (λ (z : Aim). Documents (Has w.page z x y) (table_of b.known x y)) (sym a)
         (tables_with (λ x y t. Documents (Has w.page w.aim x y) t) w.known b.known t w.low w.high x y e f g h docs

@@ -19,7 +19,6 @@ pub mod ShownLaws
 pub mod Faulty
 pub mod Best
 pub mod Tying
-pub mod Needing
 pub mod Splitting
 pub mod Breaking
 pub mod Making

@@ -58,9 +58,6 @@ module _ (templates : ℕ → Forest) (nodes : List (List Way)) (A : Aim) (n k g
 pub next_says : (A : Aim) (w : Way) (x y : ℕ) → (x ≡ y → ⊥) → takes x y (is_loose w) (says_wordy A w) ≡ true → (x + 1 ≡ y) × (says_wordy A w ≡ true)
 next_says A w x y no_stay h = elim (taken x y (is_loose w) (says_wordy A w) h) [ inl a ↦ absurd (no_stay a.0) | inr a ↦ a ]
 
-pub stay_says : (A : Aim) (w : Way) (x y : ℕ) → x ≡ y → takes x y (is_loose w) (says_wordy A w) ≡ true → is_loose w ≡ true
-stay_says A w x y e h = elim (taken x y (is_loose w) (says_wordy A w) h) [ inl a ↦ a.1 | inr a ↦ let b = a.0 in absurd (omega (arith, b, e)) ]
-
 pub loose_next : (A : Aim) (w : Way) (x y : ℕ) (s : List ℕ) → (x ≡ y → ⊥) → takes x y (is_loose w) (says_wordy A w) ≡ true → says w s ≡ true
     → not (is_blank_text s) ≡ true → IsLoose A w x y (text s none)
 loose_next A w x y s no_stay h said_it wordy =

@@ -12,7 +12,7 @@ use Rattle.bw_explain.specs.declared.aim.Made.{Made}
 use Rattle.bw_explain.specs.declared.page.Page.{Page}
 use Rattle.bw_explain.specs.declared.reach.Reach.{Reach}
 use Rattle.bw_explain.specs.declared.walk.Walk.{Walk as Going}
-use Rattle.bw_explain.specs.Aims.{aim_of, cost_of, walk_of, known_of, table_of, Has, Plain_of, IsElement, IsMade, IsReady}
+use Rattle.bw_explain.specs.Aims.{aim_of, cost_of, walk_of, known_of, table_of, Has, IsPlain, IsElement, IsMade, IsReady}
 use Rattle.bw_explain.specs.Sizes.{size, plus, attrs_least}
 use Rattle.bw_explain.specs.Tables.{Table, size_at, doc_at, Documents}
 use Rattle.bw_explain.specs.Walks.{Aim, no_aim, Runs, nothing, plain_walk, from, at, flat_size, inside_size, walk, IsDraft, doc_of}
@@ -109,7 +109,7 @@ same_table false false false s t u v x e f g h = h
 
 pub flat_ready : (w f : Going) → f.page ≡ w.page → f.aim ≡ Plain → f.known.stay.now ≡ w.plain.now
     → f.known.first.now ≡ w.plain.now → f.known.second.now ≡ w.plain.now → f.known.whole.now ≡ w.plain.now → (f.low ≡ 0) × (f.high ≡ 0)
-    → Documents (Plain_of w.page) w.plain.now → IsReady f
+    → Documents (IsPlain w.page) w.plain.now → IsReady f
 flat_ready w f p a s t u v z docs = record {
   most = let h = z.1 in omega (arith, h);
   zero = λ o. z.0;

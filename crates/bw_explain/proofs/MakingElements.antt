@@ -1,5 +1,5 @@
 -- What is put for a text or an element into a document that takes one state to another.
-use Rattle.std.proofs.Common.{◌≡◌, ℕ, ◌+◌, ◌-◌, ◌<◌, ◌≤◌, ◌==◌, min, true, false, ◌&&◌, List, length, ap, sym, ◌∙◌, subst, arith}
+use Rattle.std.proofs.Common.{◌≡◌, ℕ, ◌+◌, ◌-◌, ◌<◌, ◌≤◌, ◌==◌, min, true, false, ◌&&◌, List, length, ap, sym, ◌∙◌, subst, arith, refl}
 use Rattle.std.specs.List.{list_all}
 use Rattle.std.proofs.lemmas.Bool.{eqb-true, and_parts}
 use Rattle.bw_lang.specs.declared.items.Attr.{Attr}
@@ -26,12 +26,6 @@ small_by p q e h = omega (arith, e, h)
 
 within_by : (s v w p : ℕ) → s ≤ v → w ≡ v → p ≡ w → s ≤ p
 within_by s v w p h e f = omega (arith, h, e, f)
-
-value_by : (v w p : ℕ) → w ≡ v → p ≡ w → p ≤ 4096 → v ≤ 4096
-value_by v w p e f h = omega (arith, e, f, h)
-
-lesser_by : (p a b : ℕ) → p ≡ min a b → p ≤ 4096 → a < b → a ≤ 4096
-lesser_by p a b e h l = omega (arith, e, h, l)
 
 lesser_within : (s p a b : ℕ) → s ≤ a → p ≡ min a b → a < b → s ≤ p
 lesser_within s p a b h e l = omega (arith, h, e, l)
@@ -125,17 +119,6 @@ module _ (p : Page) (aim : Sought) (n k x y : ℕ) (tag : List ℕ) (a : List At
         most = within_by _ _ _ _ is.most c.1 f;
       }
 
-  -- where it may stand at the top, its size isn't too big
-  pub top_small : (u : Walk) → u.aim.deep ≡ false → item_cost u n k (element tag a i none) x y ≤ 4096 → flat_size u n a i ≤ 4096
-  top_small u o l =
-      let f = top_is u o in
-      let c = if_there (takes x y (u.aim.stays tag) (u.aim.next x tag)) (flat_size u n a i) (small_by _ _ f l) in
-      value_by _ _ _ c.1 f l
-
-  pub inside_small : (u : Walk) → u.aim.deep ≡ true → item_cost u n k (element tag a i none) x y ≤ 4096
-      → inside_size u n k a i (y - x) < spot_size u n k x y → inside_size u n k a i (y - x) ≤ 4096
-  inside_small u o l h = lesser_by _ _ _ (deep_is u o) l h
-
   pub inside_run : (u : Walk) (m : Made) → u.aim ≡ A → A.deep ≡ true → x ≤ y → inside_size u n k a i (y - x) < spot_size u n k x y
       → IsElement (λ b j. FillsAttrs G n a b × Runs T G A n (k + 1) 0 i (y - x) j) (inside_size u n k a i (y - x)) m
       → IsElement Becomes (item_cost u n k (element tag a i none) x y) m
@@ -145,6 +128,14 @@ module _ (p : Page) (aim : Sought) (n k x y : ℕ) (tag : List ℕ) (a : List At
             (inside deep is.fit.0 is.fit.1);
         most = lesser_within _ _ _ _ is.most (deep_is u (ap (λ (z : Aim). z.deep) e ∙ deep)) h;
       }
+
+  -- where it is what is looked for, that isn't too big
+  pub spot_small : (u : Walk) → u.aim.deep ≡ true → item_cost u n k (element tag a i none) x y ≤ 4096
+      → spot_size u n k x y ≤ inside_size u n k a i (y - x) → u.cost ≤ 4096
+  spot_small u o l h =
+      let d = deep_is u o in
+      let c = if_there (((x + 1) == y) && is_spot u.aim n (k + 1)) u.cost (other_by _ _ _ d l h) in
+      other_cost _ _ _ _ _ d l h c.1 refl
 
   pub spot_run : (u : Walk) (m : Made) → u.aim ≡ A → u.cost ≡ cost_of aim → A.deep ≡ true → item_cost u n k (element tag a i none) x y ≤ 4096
       → spot_size u n k x y ≤ inside_size u n k a i (y - x) → IsMade p aim → IsCopy aim m → IsElement Becomes (item_cost u n k (element tag a i none) x y) m

@@ -1,11 +1,11 @@
 -- The attributes that break a rule.
-use Rattle.std.proofs.Common.{◌≡◌, ◌⊎◌, inl, inr, ℕ, ◌+◌, ◌≤◌, Bool, true, false, ◌||◌, ◌&&◌, not, List, [], ◌∷◌, ◌++◌, length, refl, ap, sym, ◌∙◌, arith}
+use Rattle.std.proofs.Common.{◌≡◌, inl, inr, ℕ, ◌+◌, Bool, true, false, ◌||◌, ◌&&◌, not, List, [], ◌∷◌, ◌++◌, length, refl, ap, sym, ◌∙◌, arith}
 use Rattle.bw_lang.specs.Table.Names.{same}
 use Rattle.std.specs.List.{list_any, list_all}
 use Rattle.std.proofs.lemmas.Bool.{false≢true, not-true, not_from_false, and_parts, and_from, and_cases, and_left, and_right, or_cases, or_parts, or_from}
 use Rattle.std.proofs.lemmas.Bool.{or_left, or_right}
 use Rattle.std.proofs.lemmas.List.Folds.{list_any-append}
-use Rattle.std.proofs.Math.Bool.{and_assoc, or-false}
+use Rattle.std.proofs.Math.Bool.{and-true, and_assoc, or-false}
 use Rattle.bw_lang.specs.declared.items.Attr.{Attr}
 use Rattle.bw_lang.specs.declared.items.AttrValue.{AttrValue}
 use Rattle.bw_lang.specs.declared.items.AttrValue.TheVariants.{Fixed, Hole}
@@ -119,32 +119,25 @@ module _ (nodes : List (List Way)) (test : List ℕ → List ℕ → Bool) (fail
         (b.0, b.1, not_from_false (has_passing test x b.0) b.2, let g = ap capped (fills_attrs nodes b.1).1 in let e = c.1 in omega (arith, g, e));
   }
 
-any-append : {X : Type 0} (p : X → Bool) (xs ys : List X) → list_any p (xs ++ ys) ≡ (list_any p xs || list_any p ys)
-any-append p xs ys = list_any-append p xs ys
-
 -- one attribute more
 pub failing_then : (p : Attr → Bool) (test : List ℕ → List ℕ → Bool) (xs out : List Attr) (x y : Attr) → (list_any p xs ≡ true → each_fixed test out ≡ false)
     → (p x ≡ true → on_fixed test y.name y.value ≡ false) → list_any p (xs ++ x ∷ []) ≡ true → each_fixed test (out ++ y ∷ []) ≡ false
 failing_then p test xs out x y h k l =
-    all_snoc test out y ∙ elim (or_cases (list_any p xs) (list_any p (x ∷ [])) (sym (any-append p xs (x ∷ [])) ∙ l)) [
+    all_snoc test out y ∙ elim (or_cases (list_any p xs) (list_any p (x ∷ [])) (sym (list_any-append p xs (x ∷ [])) ∙ l)) [
       | inl e ↦ and_left (each_fixed test out) (on_fixed test y.name y.value) (h e)
       | inr e ↦ and_right (each_fixed test out) (on_fixed test y.name y.value) (k (sym (or-false (p x)) ∙ e))
     ]
   where
     all_snoc : (test : List ℕ → List ℕ → Bool) (out : List Attr) (y : Attr) → each_fixed test (out ++ y ∷ [])
         ≡ (each_fixed test out && on_fixed test y.name y.value)
-    all_snoc test [] y = and_true (on_fixed test y.name y.value)
-      where
-        and_true : (b : Bool) → (b && true) ≡ b
-        and_true true = refl
-        and_true false = refl
+    all_snoc test [] y = and-true (on_fixed test y.name y.value)
     all_snoc test (z ∷ out) y = ap (λ b. on_fixed test z.name z.value && b) (all_snoc test out y)
         ∙ sym (and_assoc (on_fixed test z.name z.value) (each_fixed test out) (on_fixed test y.name y.value))
 
 pub passing_then : (test : List ℕ → List ℕ → Bool) (x : List ℕ) (out : List Attr) (y : Attr) → has_passing test x out ≡ false
     → (same y.name x ≡ true → value_passes test y.name y.value ≡ false) → has_passing test x (out ++ y ∷ []) ≡ false
 passing_then test x out y h k =
-    any-append (λ c. same c.name x && value_passes test c.name c.value) out (y ∷ [])
+    list_any-append (λ c. same c.name x && value_passes test c.name c.value) out (y ∷ [])
     ∙ or_from (has_passing test x out) ((same y.name x && value_passes test y.name y.value) || false) h
     (or-false _ ∙ both_not (same y.name x) (value_passes test y.name y.value) k)
   where

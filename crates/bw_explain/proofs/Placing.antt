@@ -1,6 +1,8 @@
 -- Elements of templates by their places.
-use Rattle.std.proofs.Common.{◌≡◌, ℕ, suc, ◌+◌, ◌<◌, ◌≤◌, List, [], ◌∷◌, length, get_or, take, drop, drop-cons, refl, ap, sym, ◌∙◌, subst, arith}
-use Rattle.std.specs.Prelude.{Result, Ok, Err, IfOk, MatchResult}
+use Rattle.std.proofs.Common.{◌≡◌, inl, inr, ℕ, suc, ◌+◌, ◌<◌, ◌≤◌, List, length, get_or, take, drop, drop-cons, refl, ap, sym, ◌∙◌, subst, arith}
+use Rattle.std.specs.Prelude.{Result, Ok, Err, IfOk}
+use Rattle.std.proofs.lemmas.Bool.{cases_lt}
+use Rattle.std.proofs.lemmas.List.{get_or_past}
 use Rattle.bw_lang.specs.declared.items.Attr.{Attr}
 use Rattle.bw_lang.specs.declared.items.Element.{Element}
 use Rattle.bw_lang.specs.declared.items.Item.{Item}
@@ -8,23 +10,32 @@ use Rattle.bw_lang.specs.Document.Forest.{Forest, none, text, gap, element}
 use Rattle.bw_lang.specs.Document.Documents.{append, elements}
 use Rattle.bw_lang.specs.Document.View.{forest, before}
 use Rattle.bw_lang.proofs.Forests.{forest-split, before-append}
+use Rattle.bw_shape.specs.Nodes.Templates.{template_at}
 use Rattle.bw_judge.specs.Faults.{At, here, inside, after_element, after_text, after_gap}
 use Rattle.bw_explain.specs.Places.{IsThere}
 
 -- places are from 1 to the number of elements
-at_low : {t : Forest} {k : ℕ} {tag : List ℕ} {a : List Attr} {i : Forest} → At t k tag a i → 1 ≤ k
+pub at_low : {t : Forest} {k : ℕ} {tag : List ℕ} {a : List Attr} {i : Forest} → At t k tag a i → 1 ≤ k
 at_low here = omega arith
 at_low (inside p) = omega arith
 at_low (after_element p) = let h = at_low p in omega (arith, h)
 at_low (after_text p) = at_low p
 at_low (after_gap p) = at_low p
 
-at_high : {t : Forest} {k : ℕ} {tag : List ℕ} {a : List Attr} {i : Forest} → At t k tag a i → k ≤ elements t
+pub at_high : {t : Forest} {k : ℕ} {tag : List ℕ} {a : List Attr} {i : Forest} → At t k tag a i → k ≤ elements t
 at_high here = omega arith
 at_high (inside p) = let h = at_high p in omega (arith, h)
 at_high (after_element p) = let h = at_high p in omega (arith, h)
 at_high (after_text p) = at_high p
 at_high (after_gap p) = at_high p
+
+-- an element stands in a template that is there
+pub there_low : (templates : List Forest) (n : ℕ) {k : ℕ} {tag : List ℕ} {a : List Attr} {i : Forest} → At (template_at templates n) k tag a i
+    → n < length templates
+there_low templates n {k = k} {tag = tag} {a = a} {i = i} p = elim (cases_lt n (length templates)) [
+  | inl l ↦ l
+  | inr h ↦ let q = subst (λ t. At t k tag a i) (get_or_past templates n none h) p in let l = at_low q in let m = at_high q in absurd (omega (arith, l, m))
+]
 
 -- it has no more elements in it than they have
 pub at_few : {t : Forest} {k : ℕ} {tag : List ℕ} {a : List Attr} {i : Forest} → At t k tag a i → elements i ≤ elements t
@@ -78,15 +89,6 @@ element_among xs i x k place found e l p h =
     subst (λ t. IsThere t place found) (sym whole) (subst
     (λ m. IsThere (append (forest (take i xs)) (before (get_or xs i x) (forest (drop (suc i) xs)))) m found)
     (let q : elements (forest (take i xs)) + k ≡ place = omega (arith, p) in q) (at_behind (forest (take i xs)) both))
-
-pub mapped_match : {X E : Type 0} {P Q : X → Type 0} {R S : E → Type 0} (result : Result X E) → ((x : X) → P x → Q x) → ((e : E) → R e → S e)
-    → MatchResult result P R → MatchResult result Q S
-mapped_match (Ok x) f g h = f x h
-mapped_match (Err e) f g h = g e h
-
-pub mapped : {X E : Type 0} {P Q : X → Type 0} (result : Result X E) → ((x : X) → P x → Q x) → IfOk result P → IfOk result Q
-mapped (Ok x) f h = f x h
-mapped (Err e) f h = tt
 
 pub mapped_both : {X E : Type 0} {P Q R : X → Type 0} (result : Result X E) → ((x : X) → P x → Q x → R x) → IfOk result P → IfOk result Q → IfOk result R
 mapped_both (Ok x) f h k = f x h k

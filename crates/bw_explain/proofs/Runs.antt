@@ -2,11 +2,11 @@
 use Rattle.std.proofs.Common.{◌≡◌, ◌⊎◌, inl, inr, ℕ, ◌+◌, ◌≤◌, ◌==◌, Bool, true, false, ◌&&◌, if◌then◌else◌, List, refl, ap, sym, ◌∙◌, subst, arith}
 use Rattle.std.proofs.lemmas.Bool.{false≢true, cases_Bool, eqb-true, eq-eqb, ne_eqb, and_parts, and_from}
 use Rattle.bw_lang.specs.declared.items.Attr.{Attr}
-use Rattle.bw_lang.specs.Document.Forest.{Forest, none, text, gap, element}
-use Rattle.bw_lang.specs.Document.Documents.{append, elements}
+use Rattle.bw_lang.specs.Document.Forest.{Forest, none, gap, element}
+use Rattle.bw_lang.specs.Document.Documents.{append}
 use Rattle.bw_lang.proofs.Forests.{append-none, append_assoc}
 use Rattle.bw_sum.specs.Graph.{Graph}
-use Rattle.bw_sum.specs.Unfolding.{FillsAttrs, Fills}
+use Rattle.bw_sum.specs.Unfolding.{Fills}
 use Rattle.bw_sum.specs.Unfolding as fills
 use Rattle.bw_explain.specs.Walks.{Aim, takes, Runs, nothing, both, words, left, said, led, beside, inside, here}
 

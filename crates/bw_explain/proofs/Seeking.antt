@@ -3,13 +3,12 @@ use Rattle.std.proofs.Common.{◌≡◌, ◌⊎◌, inl, inr, ℕ, ◌+◌, ◌<
 use Rattle.std.proofs.Common.{subst, arith}
 use Rattle.std.proofs.lemmas.Bool.{false≢true, cases_Bool, eqb-true, eq-eqb, ne_eqb, and_parts, and_from}
 use Rattle.std.proofs.lemmas.List.{get_or_past}
-use Rattle.bw_lang.specs.declared.items.Attr.{Attr}
 use Rattle.bw_lang.specs.Document.Forest.{Forest, none}
 use Rattle.bw_shape.specs.Nodes.Templates.{template_at}
-use Rattle.bw_sum.specs.Unfolding.{FillsAttrs, Fills, Unfolds}
+use Rattle.bw_sum.specs.Unfolding.{Fills, Unfolds}
 use Rattle.bw_explain.specs.Sizes.{size, capped, Found, if_so, IsLeast}
 use Rattle.bw_explain.specs.Tables.{Bounds, Settles}
-use Rattle.bw_explain.specs.Walks.{Aim, Runs, nothing, Known, known_at, known_with, Walk, plain_walk, from, at, walk, seek, seek_value, CostIs}
+use Rattle.bw_explain.specs.Walks.{Runs, nothing, Known, known_at, known_with, Walk, plain_walk, from, at, walk, seek, seek_value, CostIs}
 use Rattle.bw_explain.specs.Ways.{Way, graph}
 use Rattle.bw_explain.proofs.Numbers.{if_true}
 use Rattle.bw_explain.proofs.Runs.{runs_fill, fill_runs}

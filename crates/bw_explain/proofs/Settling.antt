@@ -1,5 +1,5 @@
 -- What is settled stays, and is the least.
-use Rattle.std.proofs.Common.{◌≡◌, ◌≢◌, ◌⊎◌, inl, inr, ℕ, ◌+◌, ◌<◌, ◌≤◌, min, Bool, true, false, List, length, set, get_or, replicate, nat_lt, if◌then◌else◌}
+use Rattle.std.proofs.Common.{◌≡◌, ◌≢◌, ◌⊎◌, inl, inr, ℕ, ◌+◌, ◌<◌, ◌≤◌, Bool, true, false, List, length, set, get_or, replicate, nat_lt, if◌then◌else◌}
 use Rattle.std.proofs.Common.{ap, sym, ◌∙◌, subst, arith}
 use Rattle.std.proofs.lemmas.List.{get_or_past, get_or-set_same, get_or-set_other, get_or-replicate, length-replicate}
 use Rattle.std.proofs.lemmas.List.Sums.{sum_by-set}
@@ -8,11 +8,9 @@ use Rattle.std.proofs.lemmas.Bool.Decides.{nat_tests}
 use Rattle.bw_explain.specs.declared.next.Next.{Next}
 use Rattle.std.specs.List.{sum_by}
 use Rattle.bw_lang.specs.Document.Forest.{Forest, none}
+use Rattle.bw_shape.proofs.Rows.Steps.{equal_or}
 use Rattle.bw_explain.specs.Sizes.{size, capped, IsLeast}
 use Rattle.bw_explain.specs.Tables.{Table, size_at, doc_at, Settled, Solved, IsNext, Bounds, Settles}
-
-equal_or : (m n : ℕ) → (m ≡ n) ⊎ (m ≢ n)
-equal_or m n = grind arith
 
 below_or : (m n : ℕ) → (m < n) ⊎ (n ≤ m)
 below_or m n = grind arith

@@ -1,5 +1,5 @@
 -- Showing a fault, and finding its element broken in some way.
-use Rattle.std.proofs.Common.{◌≡◌, ◌⊎◌, inl, inr, ℕ, ◌+◌, ◌≤◌, ◌<◌, ◌==◌, Bool, true, false, ◌&&◌, List, refl, ap, sym, ◌∙◌, subst, arith}
+use Rattle.std.proofs.Common.{◌≡◌, ◌⊎◌, inl, inr, ℕ, ◌+◌, ◌≤◌, ◌==◌, Bool, true, false, ◌&&◌, List, refl, ap, sym, ◌∙◌, subst, arith}
 use Rattle.std.specs.List.{list_any, Contains}
 use Rattle.std.proofs.lemmas.Bool.{false≢true, eqb-true, eq-eqb, and_parts, and_from}
 use Rattle.bw_lang.specs.declared.items.Attr.{Attr}
@@ -18,7 +18,7 @@ use Rattle.bw_explain.specs.declared.atom.Atom.{Atom}
 use Rattle.bw_explain.specs.declared.explained.Explained.{Explained}
 use Rattle.bw_explain.specs.Aims.{one_aim}
 use Rattle.bw_explain.specs.Atoms.{is_broken, atoms_of}
-use Rattle.bw_explain.specs.Explained.{IsAnswer, page_of, all_big, none_there, Place, IsAt, Finds, FindsOne, Ties}
+use Rattle.bw_explain.specs.Explained.{IsAnswer, page_of, all_big, none_there, Place, IsAt, FindsOne, Ties}
 use Rattle.bw_explain.specs.Shows.{breaks_some, is_template, is_shown, Shown, Shows, each, some}
 use Rattle.bw_explain.specs.Shows as shown
 use Rattle.bw_explain.specs.Walks.{Runs}

@@ -1,10 +1,10 @@
 -- Whether a need with an Or is sure, by the tables of a page graph.
-use Rattle.std.proofs.Common.{◌≡◌, ◌⊎◌, inl, inr, ℕ, ◌==◌, Bool, true, false, ◌||◌, ◌&&◌, not, List, Some, refl, ap, sym, ◌∙◌, subst}
-use Rattle.std.proofs.lemmas.Bool.{false≢true, and_parts, and_from, and_cases, or_cases, or_parts, not-true, not_from_false}
+use Rattle.std.proofs.Common.{◌≡◌, inl, inr, ℕ, ◌==◌, Bool, true, false, ◌||◌, ◌&&◌, not, List, Some, refl, ap, sym, ◌∙◌, subst}
+use Rattle.std.proofs.lemmas.Bool.{false≢true, and_parts, and_cases, or_cases, or_parts, not-true, not-false}
+use Rattle.std.proofs.lemmas.Option.{same_Some}
 use Rattle.bw_lang.specs.declared.items.Attr.{Attr}
 use Rattle.bw_lang.specs.declared.service.Service.{Service}
 use Rattle.bw_lang.specs.Document.Forest.{Forest}
-use Rattle.bw_lang.proofs.Forests.{forest_steps}
 use Rattle.bw_schema.specs.declared.needs.Formula.{Formula}
 use Rattle.bw_schema.specs.declared.needs.Formula.TheVariants.{And, Or, Attr as HasAttr, OneOf, Content, Order}
 use Rattle.bw_schema.specs.declared.rules.Rule.{Rule}
@@ -28,20 +28,18 @@ use Rattle.bw_shape.specs.Nodes.Templates.{template_at}
 use Rattle.bw_shape.specs.Outlines.{IsPageGraph, IsShape, root_of}
 use Rattle.bw_shape.specs.Shape.{Reached}
 use Rattle.bw_shape.proofs.Shapes.{template_is}
-use Rattle.bw_shape.proofs.Walks.{gives-append, misses-append, crosses-append, crosses-one}
-use Rattle.bw_judge.specs.Faults.{At, here, inside, after_element, after_text, after_gap, Sure, IsFault, wrong_root, breaks}
+use Rattle.bw_judge.specs.Faults.{Sure, IsFault, wrong_root, breaks}
 use Rattle.bw_judge.specs.Pages.{scene_at, IsPage}
 use Rattle.bw_judge.specs.Scene.{Scene}
 use Rattle.bw_judge.specs.Sure.{sure, sure_one}
+use Rattle.bw_judge.proofs.ExactPage.{known_at, rule_in}
 use Rattle.bw_judge.proofs.ExactSure.{sure_to, sure_from}
 use Rattle.bw_judge.proofs.Whole.{wrapper_root}
 use Rattle.bw_explain.specs.declared.finding.Spot.{Spot}
 use Rattle.bw_explain.specs.Atoms.{is_plain, is_plain_one}
 use Rattle.bw_explain.specs.Explained.{IsSplit, IsSpot, SplitNeeds, Tells, spot_of}
 use Rattle.bw_explain.specs.Splits.{some_split}
-use Rattle.bw_explain.proofs.Faulty.{spot_is, some_same, rule_in, template_same}
-
-pub ruleset top_steps = (forest_steps, gives-append, misses-append, crosses-append, crosses-one)
+use Rattle.bw_explain.proofs.Faulty.{spot_is}
 
 pub split_before : (s : Scene) (f : Formula) (rest : Needs) (a : List Attr) (i : Forest)
     → some_split s (before_need f rest) a i ≡ ((not (is_plain_one f) && not (sure_one s f a i)) || some_split s rest a i)
@@ -51,14 +49,6 @@ split_before s (HasAttr x) rest a i = refl
 split_before s (OneOf x vs) rest a i = refl
 split_before s (Content x) rest a i = refl
 split_before s (Order x y) rest a i = refl
-
--- the tags in an element of a template are known
-known_in : (tags : List (List ℕ)) {t : Forest} {k : ℕ} {tag : List ℕ} {a : List Attr} {i : Forest} → At t k tag a i → AreKnown tags t → AreKnown tags i
-known_in tags here h = h.1.0
-known_in tags (inside m) h = known_in tags m h.1.0
-known_in tags (after_element m) h = known_in tags m h.1.1
-known_in tags (after_text m) h = known_in tags m h
-known_in tags (after_gap m) h = known_in tags m h
 
 module _ (templates : List Forest) (nodes : List Node) (said : List (List (ℕ × StrSet))) (literals : List (List ℕ)) (o : Tables) (first : ℕ)
     (pairs : List (ℕ × ℕ)) (schema : Schema) (root : ℕ) (G : Graph)
@@ -93,11 +83,7 @@ module _ (templates : List Forest) (nodes : List Node) (said : List (List (ℕ �
   is_sure : (b : Bool) (parts : Needs) → AreNamed o.tags first pairs parts → not (sure scene b parts a i) ≡ false
       → (Sure (template_at templates) G n a i b parts → ⊥) → ⊥
   is_sure b parts k h s = s (sure_to templates nodes said literals o first pairs schema root G page n w b parts k a i known
-      (not_false (sure scene b parts a i) h))
-    where
-      not_false : (b : Bool) → not b ≡ false → b ≡ true
-      not_false true h = refl
-      not_false false h = absurd (false≢true (sym h))
+      (not-false (sure scene b parts a i) h))
 
   pub split_from : (needs : Needs) → AreNamed o.tags first pairs needs → some_split scene needs a i ≡ false → Splits needs → ⊥
   split_from nothing k h s = s
@@ -122,7 +108,7 @@ module _ (templates : List Forest) (nodes : List Node) (said : List (List (ℕ �
 reached_of : (templates : ℕ → Forest) (G : Graph) (root : ℕ) (s : Schema) (point : ℕ) (f : Fault) → IsFault templates G root s point f → (f.number == 6) ≡ false
     → (n : ℕ) → f.template ≡ Some n → Reached G root n
 reached_of templates G root s point _ (wrong_root e h) six n t = absurd (false≢true (sym six))
-reached_of templates G root s point _ (breaks {n = m} w at rule b) six n t = subst (Reached G root) (template_same m n t) w
+reached_of templates G root s point _ (breaks {n = m} w at rule b) six n t = subst (Reached G root) (same_Some m n t) w
 
 module _ (service : Service) (page : Summary) (schema : Schema) (o : Outline) (graphed : IsPageGraph service page) (shape : IsShape service page schema o)
     (f : Fault) (s : Spot) (is : IsSpot (all_items service) f s) (r : Rule) (rule : rule_of schema.elements s.element.now.tag ≡ Some r) where
@@ -164,7 +150,7 @@ module _ (service : Service) (page : Summary) (schema : Schema) (o : Outline) (g
       reached = reached_of (template_items service) G (root_of page) schema f.point f fault (ap (λ n. n == 6) seven) s.template is.template
 
       known : AreKnown o.tables.tags s.element.now.items
-      known = known_in o.tables.tags is.at (shape.kept.tables.known s.template reached)
+      known = known_at o.tables.tags is.at (shape.kept.tables.known s.template reached)
 
       named : AreNamed o.tables.tags o.first o.pairs.items r.needs
       named = shape.kept.named r (rule_in schema.elements s.element.now.tag r rule)
@@ -172,7 +158,7 @@ module _ (service : Service) (page : Summary) (schema : Schema) (o : Outline) (g
       found : IsSplit T G schema.elements f → SplitNeeds T G s.template s.element.now.attrs s.element.now.items r.needs
       found x =
           let p = spot_is T schema.elements f x.place x.rule s.template s.place s.element.now x.at
-          (template_same x.place.template s.template (sym x.at.template ∙ is.template)) (sym is.place) is.at in
-          let q : x.rule ≡ r = some_same x.rule r (sym x.at.rule ∙ ap (λ (y : _). rule_of schema.elements y.tag) p ∙ rule) in
+          (same_Some x.place.template s.template (sym x.at.template ∙ is.template)) (sym is.place) is.at in
+          let q : x.rule ≡ r = same_Some x.rule r (sym x.at.rule ∙ ap (λ (y : _). rule_of schema.elements y.tag) p ∙ rule) in
           subst (λ (z : Rule). SplitNeeds T G s.template s.element.now.attrs s.element.now.items z.needs) q
           (subst (λ (y : _). SplitNeeds T G y.template y.attrs y.inner x.rule.needs) p x.needs)

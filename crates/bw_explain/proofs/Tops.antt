@@ -1,6 +1,7 @@
 -- What a walk finds at the top, by the documents alone.
-use Rattle.std.proofs.Common.{◌≡◌, inl, inr, ℕ, ◌+◌, ◌≤◌, ◌==◌, Bool, true, false, ◌||◌, ◌&&◌, not, if◌then◌else◌, List, refl, ap, sym, ◌∙◌, subst, arith}
+use Rattle.std.proofs.Common.{◌≡◌, inl, inr, ℕ, ◌+◌, ◌==◌, Bool, true, false, ◌||◌, ◌&&◌, not, List, refl, ap, sym, ◌∙◌, subst}
 use Rattle.std.proofs.lemmas.Bool.{false≢true, eqb-true, eq-eqb, and_parts, and_from, or_cases, or_left, or_right}
+use Rattle.std.proofs.Math.Bool.{or-false, or-true}
 use Rattle.bw_lang.specs.declared.items.Attr.{Attr}
 use Rattle.bw_lang.specs.Document.Forest.{Forest, none, text, gap, element}
 use Rattle.bw_lang.specs.Document.Documents.{append}
@@ -14,11 +15,11 @@ use Rattle.bw_sum.specs.Unfolding.{Fills}
 use Rattle.bw_sum.specs.Unfolding as fills
 use Rattle.bw_explain.specs.declared.atom.Atom.{Atom}
 use Rattle.bw_explain.specs.declared.atom.Atom.TheVariants.{NotAllowed, OtherValue, Absent, Outside, BadChild, BadText, Missing, Crossing}
-use Rattle.bw_explain.specs.Aims.{top_wordy, top_stays, top_next, top_goals, top_aim}
+use Rattle.bw_explain.specs.Aims.{top_goals, top_aim}
 use Rattle.bw_explain.specs.Atoms.{is_broken}
 use Rattle.bw_explain.specs.Owns.{own_broken}
 use Rattle.bw_explain.specs.Walks.{Aim, takes, is_wordy, Runs, nothing, both, words, left, said, led, beside, inside, here}
-use Rattle.bw_explain.proofs.Runs.{stay_takes, next_takes, taken, runs_fill}
+use Rattle.bw_explain.proofs.Runs.{stay_takes, next_takes, taken}
 
 -- a document takes the state x to y
 abbrev pub told : Aim → ℕ → Forest → ℕ → Bool
@@ -116,24 +117,15 @@ stay A o x (text s r) = or_left (told A x r x) _ (stay A o x r)
 stay A o x (gap g r) = stay A o x r
 stay A o x (element tag a i r) = or_left (A.stays tag && told A x r x) _ (and_from (A.stays tag) (told A x r x) (o tag) (stay A o x r))
 
-or_false : (b : Bool) → (b || false) ≡ b
-or_false true = refl
-or_false false = refl
-
-or_true : (b : Bool) → (b || true) ≡ true
-or_true true = refl
-or_true false = refl
-
--- a test that fails somewhere
 found_or : (p b c t : Bool) → t ≡ true → b ≡ not c → (b || (not p && t)) ≡ not (p && c)
-found_or true b c t h e = or_false b ∙ e
-found_or false b c true h e = or_true b
+found_or true b c t h e = or-false b ∙ e
+found_or false b c true h e = or-true b
 found_or false b c false h e = absurd (false≢true h)
 
 module _ (r : Rule) where
   bad_child : (d : Forest) → told (top_aim r BadChild) 0 d 1 ≡ not (each_child (is_among r.has) d)
   bad_child none = refl
-  bad_child (text s t) = or_false _ ∙ bad_child t
+  bad_child (text s t) = or-false _ ∙ bad_child t
   bad_child (gap g t) = bad_child t
   bad_child (element tag a i t) = found_or (is_among r.has tag) _ (each_child (is_among r.has) t) _ (stay (top_aim r BadChild) (λ _. refl) 1 t) (bad_child t)
 
@@ -141,36 +133,36 @@ module _ (r : Rule) where
   bad_text none = refl
   bad_text (text s t) = found_or (is_blank_text s) _ (each_text is_blank_text t) _ (stay (top_aim r BadText) (λ _. refl) 1 t) (bad_text t)
   bad_text (gap g t) = bad_text t
-  bad_text (element tag a i t) = or_false _ ∙ bad_text t
+  bad_text (element tag a i t) = or-false _ ∙ bad_text t
 
   missing : (x : List ℕ) (d : Forest) → told (top_aim r (Missing x)) 0 d 0 ≡ each_child (is_other x) d
   missing x none = refl
-  missing x (text s t) = or_false _ ∙ missing x t
+  missing x (text s t) = or-false _ ∙ missing x t
   missing x (gap g t) = missing x t
-  missing x (element tag a i t) = or_false _ ∙ ap (λ b. is_other x tag && b) (missing x t)
+  missing x (element tag a i t) = or-false _ ∙ ap (λ b. is_other x tag && b) (missing x t)
 
   crossing_last : (x y : List ℕ) (d : Forest) → told (top_aim r (Crossing x y)) 1 d 2 ≡ not (each_child (is_other x) d)
   crossing_last x y none = refl
-  crossing_last x y (text s t) = or_false _ ∙ crossing_last x y t
+  crossing_last x y (text s t) = or-false _ ∙ crossing_last x y t
   crossing_last x y (gap g t) = crossing_last x y t
   crossing_last x y (element tag a i t) = last (same tag x) _ (each_child (is_other x) t) _ (stay (top_aim r (Crossing x y)) (λ _. refl) 2 t)
       (crossing_last x y t)
     where
       last : (s b c t : Bool) → t ≡ true → b ≡ not c → (b || (s && t)) ≡ not (not s && c)
-      last true b c true h e = or_true b
+      last true b c true h e = or-true b
       last true b c false h e = absurd (false≢true h)
-      last false b c t h e = or_false b ∙ e
+      last false b c t h e = or-false b ∙ e
 
   crossing : (x y : List ℕ) (d : Forest) → told (top_aim r (Crossing x y)) 0 d 2 ≡ not (ordered x y d)
   crossing x y none = refl
-  crossing x y (text s t) = or_false _ ∙ crossing x y t
+  crossing x y (text s t) = or-false _ ∙ crossing x y t
   crossing x y (gap g t) = crossing x y t
   crossing x y (element tag a i t) = first (same tag y) _ (ordered x y t) _ (each_child (is_other x) t) (crossing_last x y t) (crossing x y t)
     where
       first : (s b c t v : Bool) → t ≡ not v → b ≡ not c → (b || (s && t)) ≡ not ((not s || v) && c)
-      first true b c t true h e = ap (λ z. b || z) h ∙ or_false b ∙ e
-      first true b c t false h e = ap (λ z. b || z) h ∙ or_true b
-      first false b c t v h e = or_false b ∙ e
+      first true b c t true h e = ap (λ z. b || z) h ∙ or-false b ∙ e
+      first true b c t false h e = ap (λ z. b || z) h ∙ or-true b
+      first false b c t v h e = or-false b ∙ e
 
 alone : (b t : Bool) → t ≡ true → b ≡ (b && t)
 alone true t h = sym h

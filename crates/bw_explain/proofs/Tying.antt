@@ -1,22 +1,23 @@
 -- The ways of a template's gaps say what the page graph says.
-use Rattle.std.proofs.Common.{◌≡◌, ℕ, ◌==◌, Bool, true, false, ◌||◌, ◌&&◌, List, [], ◌∷◌, ◌++◌, map, if◌then◌else◌, length, get_or, set, take, ◌+◌, ◌<◌, ◌≢◌}
-use Rattle.std.proofs.Common.{refl, ap, sym, ◌∙◌, subst, arith, inl, inr, ◌⊎◌}
+use Rattle.std.proofs.Common.{◌≡◌, ℕ, ◌==◌, Bool, true, false, ◌||◌, ◌&&◌, List, [], ◌∷◌, ◌++◌, map, if◌then◌else◌, length, get_or, set, take, ◌+◌, ◌<◌, ◌≢◌, append-nil, append_assoc}
+use Rattle.std.proofs.Common.{refl, ap, sym, ◌∙◌, subst, inl, inr}
 use Rattle.std.specs.List.{list_any, All}
-use Rattle.std.proofs.lemmas.Bool.{false≢true, eqb-true, cases_Bool, eq-eqb}
+use Rattle.std.proofs.lemmas.Bool.{false≢true, eqb-true, eq-eqb, ne_eqb}
 use Rattle.std.proofs.lemmas.List.Elements.{All-head, All-tail, All-push}
-use Rattle.std.proofs.lemmas.List.{take_more, length-set, get_or-set_same, get_or-set_other}
+use Rattle.std.proofs.lemmas.List.{take_more, length-set}
 use Rattle.std.proofs.lemmas.List.Folds.{list_any-append}
-use Rattle.std.proofs.Math.Bool.{or-false}
+use Rattle.std.proofs.Math.Bool.{or-false, or_assoc}
 use Rattle.bw_lang.specs.Table.Names.{same}
 use Rattle.bw_schema.specs.Words.{is_among}
 use Rattle.bw_strings.specs.declared.strings.StrSet.{StrSet}
 use Rattle.bw_strings.specs.declared.strings.StrSet.TheVariants.{Any, Of}
 use Rattle.bw_strings.specs.Asking.{text_of, has_string}
 use Rattle.bw_shape.specs.Nodes.Nodes.{Node, node_at, among}
+use Rattle.bw_shape.proofs.Nodes.Members.{then_eq}
 use Rattle.bw_explain.specs.Building.{is_any, texts_of, free_at, words_at, led_at, way_for, has_way, made, AreMade, HasMore, of_track, of_edge, of_label}
 use Rattle.bw_explain.specs.Explained.{Ties}
 use Rattle.bw_explain.proofs.Settling.{replaced}
-use Rattle.std.proofs.lemmas.Bool.{or_cases, or_left, or_right, and_from}
+use Rattle.std.proofs.lemmas.Bool.{or_cases, or_left, or_right, and_parts, and_from}
 use Rattle.bw_sum.specs.Graph.{graph as summary_graph}
 use Rattle.bw_sum.specs.Edges.{edge_cmp}
 use Rattle.bw_sum.specs.Labels.{pair_cmp}
@@ -25,19 +26,9 @@ use Rattle.bw_sum.proofs.PartLaws.{is_eq_nat}
 use Rattle.bw_solve.specs.Sets.{has}
 use Rattle.bw_solve.specs.Tables.{found}
 use Rattle.std.specs.Prelude.{cond, slice_index_or}
-use Rattle.std.specs.declared.cmp.Ordering.{Ordering}
-use Rattle.std.specs.declared.cmp.Ordering.TheVariants.{Less, Equal, Greater}
 use Rattle.std.specs.Ordering.{nat_cmp, is_eq, ordering_then}
 use Rattle.bw_shape.specs.Nodes.Fits.{Fits, AreStrings}
 use Rattle.bw_explain.specs.Ways.{Way, no_way, way_of, ways_at, graph, is_in, says}
-
-append_nil : {X : Type 0} (xs : List X) → xs ++ [] ≡ xs
-append_nil [] = refl
-append_nil (x ∷ xs) = ap (λ l. x ∷ l) (append_nil xs)
-
-append_three : {X : Type 0} (xs ys zs : List X) → (xs ++ ys) ++ zs ≡ xs ++ (ys ++ zs)
-append_three [] ys zs = refl
-append_three (x ∷ xs) ys zs = ap (λ l. x ∷ l) (append_three xs ys zs)
 
 -- ---- the way that was made
 
@@ -89,14 +80,14 @@ way_leads literals node said g m = led_is g m node.links
 
 pub words_more : (literals : List (List ℕ)) (g : ℕ) (xs : List (ℕ × StrSet)) (x : ℕ × StrSet) → words_at literals g (xs ++ x ∷ []) ≡ words_at literals g xs
     ++ (if x.0 == g then texts_of literals x.1 else [])
-words_more literals g [] x = append_nil (if x.0 == g then texts_of literals x.1 else [])
+words_more literals g [] x = append-nil (if x.0 == g then texts_of literals x.1 else [])
 words_more literals g (y ∷ xs) x = ap (λ l. (if y.0 == g then texts_of literals y.1 else []) ++ l) (words_more literals g xs x)
-    ∙ sym (append_three (if y.0 == g then texts_of literals y.1 else []) (words_at literals g xs) (if x.0 == g then texts_of literals x.1 else []))
+    ∙ sym (append_assoc (if y.0 == g then texts_of literals y.1 else []) (words_at literals g xs) (if x.0 == g then texts_of literals x.1 else []))
 
 pub led_more : (g : ℕ) (xs : List (ℕ × ℕ)) (x : ℕ × ℕ) → led_at g (xs ++ x ∷ []) ≡ led_at g xs ++ (if x.0 == g then x.1 ∷ [] else [])
-led_more g [] x = append_nil (if x.0 == g then x.1 ∷ [] else [])
+led_more g [] x = append-nil (if x.0 == g then x.1 ∷ [] else [])
 led_more g (y ∷ xs) x = ap (λ l. (if y.0 == g then y.1 ∷ [] else []) ++ l) (led_more g xs x)
-    ∙ sym (append_three (if y.0 == g then y.1 ∷ [] else []) (led_at g xs) (if x.0 == g then x.1 ∷ [] else []))
+    ∙ sym (append_assoc (if y.0 == g then y.1 ∷ [] else []) (led_at g xs) (if x.0 == g then x.1 ∷ [] else []))
 
 -- ---- the list of ways
 
@@ -140,17 +131,13 @@ has_already ways g h e = by (g == h) refl
 pub more_none : {X : Type 0} (test : ℕ → ℕ → X → Bool) (list : List (List Way)) → HasMore list list (λ m h. list_any (test m h) [])
 more_none test list = record { len = refl; each = λ m h. sym (or-false (has_way (ways_at list m) h)) }
 
-or_three : (a b c : Bool) → ((a || b) || c) ≡ (a || (b || c))
-or_three true b c = refl
-or_three false b c = refl
-
 pub more_step : {X : Type 0} (test : ℕ → ℕ → X → Bool) (old mid new : List (List Way)) (xs : List X) (i : ℕ) (x : X) → x ≡ get_or xs i x → i < length xs
     → HasMore old mid (λ m h. list_any (test m h) (take i xs)) → HasMore mid new (λ m h. test m h x)
     → HasMore old new (λ m h. list_any (test m h) (take (i + 1) xs))
 more_step test old mid new xs i x e l a b = record {
   len = b.len ∙ a.len;
   each = λ m h.
-      b.each m h ∙ ap (λ k. k || test m h x) (a.each m h) ∙ or_three (has_way (ways_at old m) h) (list_any (test m h) (take i xs)) (test m h x)
+      b.each m h ∙ ap (λ k. k || test m h x) (a.each m h) ∙ or_assoc (has_way (ways_at old m) h) (list_any (test m h) (take i xs)) (test m h x)
       ∙ ap (λ k. has_way (ways_at old m) h || k) (sym (ap (list_any (test m h)) (take_more xs i x l ∙ ap (λ z. take i xs ++ z ∷ []) (sym e))
       ∙ list_any-append (test m h) (take i xs) (x ∷ []) ∙ ap (λ k. list_any (test m h) (take i xs) || k) (or-false (test m h x))));
 }
@@ -165,9 +152,6 @@ made_at literals nodes said old new n ways e l a h m = subst (λ x. All (λ w. w
       | inr r ↦ subst (All (λ w. w ≡ made literals nodes said m w.at)) (sym r.1) (a m)
     ])
 
-other_number : (n m : ℕ) → m ≢ n → (n == m) ≡ false
-other_number n m h = elim (cases_Bool (n == m)) [ inl e ↦ absurd (h (sym (eqb-true n m e))) | inr e ↦ e ]
-
 pub more_at : (old new : List (List Way)) (n g : ℕ) (ways : List Way) → new ≡ set old n ways → n < length old
     → ((h : ℕ) → has_way ways h ≡ (has_way (ways_at old n) h || (g == h)))
     → HasMore old new (λ m h. (n == m) && (g == h))
@@ -177,28 +161,19 @@ more_at old new n g ways e l f = record {
     | inl r ↦ ap (λ x. has_way x h) r.1 ∙ f h ∙ ap (λ k. has_way (ways_at old k) h || (g == h)) (sym r.0)
         ∙ ap (λ b. has_way (ways_at old m) h || (b && (g == h))) (sym (eq-eqb n m (sym r.0)))
     | inr r ↦ ap (λ x. has_way x h) r.1 ∙ sym (or-false (has_way (ways_at old m) h))
-        ∙ ap (λ b. has_way (ways_at old m) h || (b && (g == h))) (sym (other_number n m r.0))
+        ∙ ap (λ b. has_way (ways_at old m) h || (b && (g == h))) (sym (ne_eqb n m (λ e. r.0 (sym e))))
   ];
 }
 
 -- ---- what the summary has, has a way
 
-then_eq : (a b : Ordering) → is_eq (ordering_then a b) ≡ (is_eq a && is_eq b)
-then_eq Less b = refl
-then_eq Equal b = refl
-then_eq Greater b = refl
-
-both_parts : (a b : Bool) → (a && b) ≡ true → (a ≡ true) × (b ≡ true)
-both_parts true b h = (refl, h)
-both_parts false b h = absurd (false≢true h)
-
 pair_parts : (p q : ℕ × ℕ) → is_eq (pair_cmp p q) ≡ true → ((p.0 == q.0) ≡ true) × ((p.1 == q.1) ≡ true)
-pair_parts p q h = let c = both_parts (is_eq (nat_cmp p.0 q.0)) (is_eq (nat_cmp p.1 q.1)) (sym (then_eq (nat_cmp p.0 q.0) (nat_cmp p.1 q.1)) ∙ h) in
+pair_parts p q h = let c = and_parts (is_eq (nat_cmp p.0 q.0)) (is_eq (nat_cmp p.1 q.1)) (sym (then_eq (nat_cmp p.0 q.0) (nat_cmp p.1 q.1)) ∙ h) in
     (sym (is_eq_nat p.0 q.0) ∙ c.0, sym (is_eq_nat p.1 q.1) ∙ c.1)
 
 edge_parts : (p q : ℕ × ℕ × ℕ) → is_eq (edge_cmp p q) ≡ true → ((p.0 == q.0) ≡ true) × ((p.1 == q.1) ≡ true)
 edge_parts p q h =
-    let c = both_parts (is_eq (ordering_then (nat_cmp p.0 q.0) (nat_cmp p.1 q.1))) (is_eq (nat_cmp p.2 q.2))
+    let c = and_parts (is_eq (ordering_then (nat_cmp p.0 q.0) (nat_cmp p.1 q.1))) (is_eq (nat_cmp p.2 q.2))
     (sym (then_eq (ordering_then (nat_cmp p.0 q.0) (nat_cmp p.1 q.1)) (nat_cmp p.2 q.2)) ∙ h) in
     pair_parts (p.0, p.1) (q.0, q.1) c.0
 

@@ -1,14 +1,14 @@
 -- One item more of a walk.
-use Rattle.std.proofs.Common.{◌≡◌, ℕ, zero, suc, ◌+◌, ◌<◌, ◌≤◌, List, [], ◌∷◌, length, get_or, take, drop, refl, ap, sym, ◌∙◌, subst, arith}
+use Rattle.std.proofs.Common.{◌≡◌, ℕ, zero, suc, ◌+◌, ◌<◌, ◌≤◌, List, [], ◌∷◌, length, get_or, take, drop, refl, ap, sym, ◌∙◌, arith}
 use Rattle.bw_lang.specs.declared.items.Item.{Item}
 use Rattle.bw_lang.specs.declared.items.Item.TheVariants as items
-use Rattle.bw_lang.specs.Document.Forest.{Forest, none}
-use Rattle.bw_lang.specs.Document.Documents.{append, elements}
+use Rattle.bw_lang.specs.Document.Forest.{none}
+use Rattle.bw_lang.specs.Document.Documents.{elements}
 use Rattle.bw_lang.specs.Document.View.{forest, before}
 use Rattle.bw_lang.proofs.Forests.{forest_steps, forest-split, forest-take}
 use Rattle.bw_explain.specs.declared.reach.Reach.{Reach}
 use Rattle.bw_explain.specs.Walks.{Walk, moves_of, next_reach, walk, item_cost}
-use Rattle.bw_explain.proofs.Filling.{elements-append}
+use Rattle.bw_lang.proofs.Counts.{elements-append}
 use Rattle.bw_explain.proofs.WalkLaws.{walk-append}
 
 pub walk_item : (u : Walk) (n k : ℕ) (r : Reach) (x : Item) → walk u n k r (before x none) ≡ next_reach r (moves_of (item_cost u n k (before x none)))

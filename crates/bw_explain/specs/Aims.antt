@@ -15,7 +15,7 @@ use Rattle.bw_explain.specs.declared.solve.Tables.{Tables}
 use Rattle.bw_explain.specs.declared.aim.Aim.{Aim}
 use Rattle.bw_explain.specs.declared.aim.Aim.TheVariants.{Plain, Tops, One}
 use Rattle.bw_explain.specs.declared.atom.Atom.{Atom}
-use Rattle.bw_explain.specs.declared.atom.Atom.TheVariants.{NotAllowed, OtherValue, Absent, Outside, BadChild, BadText, Missing, Crossing}
+use Rattle.bw_explain.specs.declared.atom.Atom.TheVariants.{BadChild, BadText, Missing, Crossing}
 use Rattle.bw_explain.specs.declared.page.Page.{Page}
 use Rattle.bw_explain.specs.declared.walk.Known.{Known}
 use Rattle.bw_explain.specs.declared.walk.Walk.{Walk}
@@ -24,18 +24,21 @@ use Rattle.bw_explain.specs.Sizes.{size}
 use Rattle.bw_explain.specs.Tables.{Table, size_at, Documents, Solved}
 use Rattle.bw_explain.specs.Walks as spec
 use Rattle.bw_explain.specs.Walks.{Runs, CostIs}
-use Rattle.bw_explain.specs.Ways.{Way, graph}
+use Rattle.bw_explain.specs.Ways.{graph}
 
 -- at the top of an element that is broken so
 
+-- a text is looked for
 abbrev pub top_wordy : Atom → Bool
 top_wordy BadText = true
 top_wordy a = false
 
+-- the element may stand without a change of the state
 abbrev pub top_stays : Atom → List ℕ → Bool
 top_stays (Missing x) tag = is_other x tag
 top_stays a tag = true
 
+-- the element takes state x to the next
 abbrev pub top_next : Rule → Atom → ℕ → List ℕ → Bool
 top_next r BadChild x tag = (x == 0) && not (is_among r.has tag)
 top_next r (Crossing last first) x tag = if x == 0 then same tag first else same tag last
@@ -48,6 +51,7 @@ top_goals BadText = 1
 top_goals (Crossing last first) = 2
 top_goals a = 0
 
+-- all of that
 abbrev pub top_aim : Rule → Atom → spec.Aim
 top_aim r a = record {
   deep = false;
@@ -77,22 +81,27 @@ one_aim template place attrs inner r a = record {
 
 -- ---- of the code
 
+-- what an aim of the code looks for
 abbrev pub aim_of : Aim → spec.Aim
 aim_of Plain = spec.no_aim
 aim_of (Tops r a) = top_aim r.now a.now
 aim_of (One b) = one_aim b.template b.place b.element.now.attrs b.element.now.items b.rule.now b.atom.now
 
+-- the least size of the element that it looks for
 abbrev pub cost_of : Aim → ℕ
 cost_of Plain = 4098
 cost_of (Tops r a) = 4098
 cost_of (One b) = b.size
 
+-- the sizes that are known to the code
 abbrev pub known_of : Known → spec.Known
 known_of k = record { stay = size_at k.stay.now; first = size_at k.first.now; second = size_at k.second.now; whole = size_at k.whole.now }
 
+-- what a walk of the code goes by
 abbrev pub walk_of : Walk → spec.Walk
 walk_of w = record { aim = aim_of w.aim; nodes = w.page.nodes.now; plain = size_at w.plain.now; known = known_of w.known; cost = cost_of w.aim }
 
+-- the table from state x to state y
 abbrev pub table_of : Known → ℕ → ℕ → Table
 table_of k x y = if x == y then k.stay.now else if y == 1 then k.first.now else if x == 1 then k.second.now else k.whole.now
 
@@ -100,9 +109,9 @@ table_of k x y = if x == y then k.stay.now else if y == 1 then k.first.now else 
 abbrev pub Has : Page → Aim → ℕ → ℕ → ℕ → Forest → Type 0
 Has p a x y m d = Runs (template_at p.templates.now) (graph p.nodes.now) (aim_of a) m 0 x (template_at p.templates.now m) y d
 
--- all documents
-abbrev pub Plain_of : Page → ℕ → Forest → Type 0
-Plain_of p m d = Fills (template_at p.templates.now) (graph p.nodes.now) m (template_at p.templates.now m) d
+-- a document of template m
+abbrev pub IsPlain : Page → ℕ → Forest → Type 0
+IsPlain p m d = Fills (template_at p.templates.now) (graph p.nodes.now) m (template_at p.templates.now m) d
 
 -- these attributes and items fit, and have at most that size
 pub record IsElement (Fit : List Attr → Forest → Type 0) (v : ℕ) (m : Made) : Type 0 where
@@ -116,6 +125,7 @@ IsMade p (Tops r a) = Unit {0}
 IsMade p (One b) = b.size ≤ 4096 → IsElement (λ c j. FillsAttrs (graph p.nodes.now) b.template b.element.now.attrs c
     × Fills (template_at p.templates.now) (graph p.nodes.now) b.template b.element.now.items j × (is_broken b.rule.now b.atom.now c j ≡ true)) b.size b.made.now
 
+-- these are the attributes and items of the element that is looked for
 abbrev pub IsCopy : Aim → Made → Type 0
 IsCopy Plain m = ⊥
 IsCopy (Tops r a) m = ⊥
@@ -125,7 +135,7 @@ IsCopy (One b) m = (m.attrs ≡ b.made.now.attrs) × (m.items ≡ b.made.now.ite
 pub record IsReady (w : Walk) : Type 0 where
   pub most : w.high ≤ 2
   pub zero : (aim_of w.aim).deep ≡ true → w.low ≡ 0
-  pub plain : (aim_of w.aim).deep ≡ false → Documents (Plain_of w.page) w.plain.now
+  pub plain : (aim_of w.aim).deep ≡ false → Documents (IsPlain w.page) w.plain.now
   pub known : (x y : ℕ) → w.low ≤ x → x ≤ y → y ≤ w.high → Documents (Has w.page w.aim x y) (table_of w.known x y)
   pub made : IsMade w.page w.aim
 
@@ -138,10 +148,11 @@ pub record IsFairAim (p : Page) (a : Aim) : Type 0 where
 pub record IsGiven (w : Walk) : Type 0 where
   pub states : (w.low ≤ w.high) × (w.high ≤ 2)
   pub zero : (aim_of w.aim).deep ≡ true → w.low ≡ 0
-  pub plain : (aim_of w.aim).deep ≡ false → Solved (Plain_of w.page) w.plain.now
+  pub plain : (aim_of w.aim).deep ≡ false → Solved (IsPlain w.page) w.plain.now
   pub known : (x y : ℕ) → w.low ≤ x → x ≤ y → y ≤ w.high → ((x ≡ w.low) → (y ≡ w.high) → ⊥) → Solved (Has w.page w.aim x y) (table_of w.known x y)
   pub fair : IsFairAim w.page w.aim
 
+-- the table from state x to state y, of those that come before
 abbrev pub part_of : Table → Table → Table → ℕ → ℕ → Table
 part_of stay first second x y = if x == y then stay else if y == 1 then first else if x == 1 then second else stay
 
@@ -149,7 +160,7 @@ part_of stay first second x y = if x == y then stay else if y == 1 then first el
 pub record IsSought (p : Page) (a : Aim) (flat stay first second : Table) (low high : ℕ) : Type 0 where
   pub states : (low ≤ high) × (high ≤ 2)
   pub zero : (aim_of a).deep ≡ true → low ≡ 0
-  pub plain : (aim_of a).deep ≡ false → Solved (Plain_of p) flat
+  pub plain : (aim_of a).deep ≡ false → Solved (IsPlain p) flat
   pub known : (x y : ℕ) → low ≤ x → x ≤ y → y ≤ high → ((x ≡ low) → (y ≡ high) → ⊥) → Solved (Has p a x y) (part_of stay first second x y)
   pub fair : IsFairAim p a
 

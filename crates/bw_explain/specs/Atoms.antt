@@ -48,7 +48,7 @@ need_atoms (one_value x vs rest) = Outside x vs ∷ need_atoms rest
 need_atoms (content x rest) = Missing x ∷ need_atoms rest
 need_atoms (order x y rest) = Crossing x y ∷ need_atoms rest
 
--- of one formula: no Or stands in it; its ways
+-- no Or stands in the formula
 abbrev pub is_plain_one : Formula → Bool
 is_plain_one (formulas.And parts) = is_plain parts
 is_plain_one (formulas.Or parts) = false
@@ -57,6 +57,7 @@ is_plain_one (formulas.OneOf x vs) = true
 is_plain_one (formulas.Content x) = true
 is_plain_one (formulas.Order x y) = true
 
+-- the atoms of one formula
 abbrev pub atoms_one : Formula → List Atom
 atoms_one (formulas.And parts) = if is_plain parts then need_atoms parts else []
 atoms_one (formulas.Or parts) = []
@@ -84,13 +85,14 @@ passes r OtherValue x v = permits r.values x v
 passes r (Outside y vs) x v = is_among vs v
 passes r a x v = true
 
--- a string that may fill the gap isn't
+-- some string that may fill the gap doesn't pass
 abbrev pub fails : Rule → Atom → List ℕ → Way → Bool
 fails r NotAllowed x w = not (allows r x) && is_said w
 fails r OtherValue x w = (w.is_free && list_any (λ l. same l.name x) r.values) || list_any (λ s. not (permits r.values x s)) w.words
 fails r (Outside y vs) x w = w.is_free || list_any (λ s. not (is_among vs s)) w.words
 fails r a x w = false
 
+-- the length of the longest word
 abbrev pub longest : List (List ℕ) → ℕ
 longest [] = 0
 longest (w ∷ ws) = max (length w) (longest ws)

@@ -2,7 +2,7 @@
 use Rattle.bw_lang.specs.declared.tree.Tree.{Tree}
 use Rattle.bw_schema.specs.declared.schema.Schema.{Schema}
 use Rattle.bw_schema.specs.Validity.{Valid}
-use Rattle.std.specs.Prelude.{◌≡◌, ◌⊎◌, ℕ, ◌<◌, ◌≤◌, ◌==◌, Bool, true, false, nat_lt, if◌then◌else◌, List, length, Some}
+use Rattle.std.specs.Prelude.{◌≡◌, ◌⊎◌, ℕ, ◌<◌, ◌≤◌, Bool, true, false, nat_lt, if◌then◌else◌, List, length, Some}
 use Rattle.std.specs.List.{Contains}
 use Rattle.bw_lang.specs.declared.items.Attr.{Attr}
 use Rattle.bw_lang.specs.Document.Forest.{Forest}
@@ -26,13 +26,13 @@ use Rattle.bw_explain.specs.declared.finding.Found.{Found}
 use Rattle.bw_explain.specs.declared.finding.Spot.{Spot}
 use Rattle.bw_explain.specs.Walks.{Runs}
 
--- of some documents: a least one, closed, if there is one and it isn't too big
+-- what is told of some documents: a least one, closed, or that each is too big, or that there is none
 pub data IsAnswer (Shown : Forest → Type 0) : Explained → Type 0 where
   page_of : {d : Forest} → Shown d → size d ≤ 4096 → ((e : Forest) → Shown e → size d ≤ size e) → IsAnswer Shown (answers.Page (record { items = close d }))
   all_big : (d : Forest) → Shown d → ((e : Forest) → Shown e → 4096 < size e) → IsAnswer Shown answers.TooBig
   none_there : ((d : Forest) → Shown d → ⊥) → IsAnswer Shown answers.NoUnfolding
 
--- what explains a fault: a least page that shows it, where that isn't too big. Split says that a need with an Or isn't sure at the element of a fault 7
+-- what explains a fault: a least page that shows it, or that each is too big, or that there is none, told apart by Split: that a need with an Or isn't sure
 pub data IsExplained (Shown : Forest → Type 0) (Split : Type 0) : Explained → Type 0 where
   page : {d : Forest} → Shown d → size d ≤ 4096 → ((e : Forest) → Shown e → size d ≤ size e)
       → IsExplained Shown Split (answers.Page (record { items = close d }))
@@ -40,12 +40,10 @@ pub data IsExplained (Shown : Forest → Type 0) (Split : Type 0) : Explained �
   disjunction : ((d : Forest) → Shown d → ⊥) → Split → IsExplained Shown Split answers.Disjunction
   no_unfolding : ((d : Forest) → Shown d → ⊥) → (Split → ⊥) → IsExplained Shown Split answers.NoUnfolding
 
--- where a need with an Or isn't sure
-abbrev pub or_split : Explained → Explained
-or_split (answers.Page t) = answers.Page t
-or_split answers.NoUnfolding = answers.Disjunction
-or_split answers.TooBig = answers.TooBig
-or_split answers.Disjunction = answers.Disjunction
+-- no page shows the fault
+abbrev pub is_none : Explained → Bool
+is_none answers.NoUnfolding = true
+is_none e = false
 
 -- a need with an Or isn't sure at an element of template n
 abbrev pub SplitNeeds : (ℕ → Forest) → Graph → ℕ → List Attr → Forest → Needs → Type 0
@@ -72,6 +70,15 @@ pub record IsAt (templates : ℕ → Forest) (rules : List Rule) (f : Fault) (p 
   pub at : At (templates p.template) p.place p.tag p.attrs p.inner
   pub rule : rule_of rules p.tag ≡ Some r
 
+-- it stands in one of the templates
+abbrev pub HasElement : List Forest → Fault → Type 0
+HasElement templates f = (p : Place) × (f.template ≡ Some p.template) × (f.place ≡ p.place)
+    × At (template_at templates p.template) p.place p.tag p.attrs p.inner
+
+-- and it has a rule
+abbrev pub IsPlaced : List Forest → List Rule → Fault → Type 0
+IsPlaced templates rules f = (p : Place) × ((r : Rule) × IsAt (template_at templates) rules f p r)
+
 -- d is an unfolding of template n in which that element is broken so
 abbrev pub Finds : (ℕ → Forest) → Graph → Place → Rule → Atom → ℕ → Forest → Type 0
 Finds templates G p r a n d = Runs templates G (one_aim p.template p.place p.attrs p.inner r a) n 0 0 (templates n) 1 d
@@ -80,6 +87,7 @@ Finds templates G p r a n d = Runs templates G (one_aim p.template p.place p.att
 abbrev pub FindsOne : (ℕ → Forest) → Graph → Place → Rule → List Atom → ℕ → Forest → Type 0
 FindsOne templates G p r atoms n d = (a : Atom) × Contains atoms a × Finds templates G p r a n d
 
+-- the place of the code's spot
 abbrev pub spot_of : Spot → Place
 spot_of s = record { template = s.template; place = s.place; tag = s.element.now.tag; attrs = s.element.now.attrs; inner = s.element.now.items }
 
@@ -114,7 +122,7 @@ pub record IsBest (Has : Forest → Type 0) (s : ℕ) (d : Forest) : Type 0 wher
   pub least : IsLeast Has s
   pub doc : s ≤ 4096 → Has d × (size d ≤ s)
 
--- they are those of a table
+-- the size and the document that a table has of template n
 abbrev pub IsFoundAt : Table → ℕ → ℕ → Forest → Type 0
 IsFoundAt t n s d = (s ≡ size_at t n) × (d ≡ doc_at t n)
 
@@ -122,7 +130,7 @@ IsFoundAt t n s d = (s ≡ size_at t n) × (d ≡ doc_at t n)
 abbrev pub better : Found → Found → Found
 better a b = if nat_lt b.size a.size then b else a
 
--- what is told of them
+-- what is told of a least size and document: no unfolding past 4,097, too big past 4,096, else the page, closed
 abbrev pub answer_of : ℕ → Forest → Explained
 answer_of s d = if nat_lt 4097 s then answers.NoUnfolding else if nat_lt 4096 s then answers.TooBig else answers.Page (record { items = close d })
 

@@ -26,6 +26,7 @@ pub record FailsIs (test : List ℕ → List ℕ → Bool) (fails : List ℕ →
   pub low : (x : List ℕ) (w : Way) (s : List ℕ) → says w s ≡ true → test x s ≡ false → fails x w ≡ true
   pub high : (x : List ℕ) (w : Way) → fails x w ≡ true → (s : List ℕ) × (says w s ≡ true) × (test x s ≡ false)
 
+-- the value is fixed and fails, or a string of its gap does
 abbrev pub may_fail : List Way → (List ℕ → List ℕ → Bool) → (List ℕ → Way → Bool) → List ℕ → AttrValue → Bool
 may_fail ways test fails x (Fixed s) = not (test x s)
 may_fail ways test fails x (Hole g) = fails x (way_of ways g)
@@ -45,6 +46,7 @@ value_passes test x (Hole g) = false
 abbrev pub has_passing : (List ℕ → List ℕ → Bool) → List ℕ → List Attr → Bool
 has_passing test x b = list_any (λ c. same c.name x && value_passes test c.name c.value) b
 
+-- the same, or its gap may be left open
 abbrev pub may_leave : List Way → (List ℕ → List ℕ → Bool) → (List ℕ → Way → Bool) → List ℕ → AttrValue → Bool
 may_leave ways test fails x (Fixed s) = not (test x s)
 may_leave ways test fails x (Hole g) = (way_of ways g).is_open || fails x (way_of ways g)

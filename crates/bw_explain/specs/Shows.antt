@@ -35,10 +35,12 @@ breaks number r b j =
     if number == 5 then not (r.text || each_text is_blank_text j) else
     if number == 7 then some_broken r.needs b j else false
 
+-- the element breaks a rule, where there is one
 abbrev pub breaks_some : ℕ → Option Rule → List Attr → Forest → Bool
 breaks_some number None b j = false
 breaks_some number (Some r) b j = breaks number r b j
 
+-- the number is that of template n
 abbrev pub is_template : Option ℕ → ℕ → Bool
 is_template None n = false
 is_template (Some m) n = n == m

@@ -35,10 +35,12 @@ plus a b = max (min (a + b) 4097) (max a b)
 abbrev pub if_so : Bool → ℕ → ℕ
 if_so b v = if b then v else 4098
 
+-- the least of the sizes that are known of these templates
 abbrev pub least_of : (ℕ → ℕ) → List ℕ → ℕ
 least_of known [] = 4098
 least_of known (m ∷ ms) = min (known m) (least_of known ms)
 
+-- there is a word
 abbrev pub some_word : List (List ℕ) → Bool
 some_word [] = false
 some_word (w ∷ ws) = true
@@ -51,9 +53,11 @@ is_said w = w.is_free || some_word w.words
 abbrev pub is_loose : Way → Bool
 is_loose w = w.is_open || is_said w
 
+-- the value can stand: it is fixed, or its gap may be left open or filled
 abbrev pub may_fill : List Way → AttrValue → Bool
 may_fill ways (Fixed s) = true
 may_fill ways (Hole g) = is_loose (way_of ways g)
 
+-- the number of attributes, where all can stand
 abbrev pub attrs_least : List Way → List Attr → ℕ
 attrs_least ways a = if_so (list_all (λ x. may_fill ways x.value) a) (capped (length a))

@@ -9,9 +9,11 @@ pub record Table : Type 0 where
   pub sizes : List ℕ
   pub docs : List Forest
 
+-- the size of template n, past the end that of each other one
 abbrev pub size_at : Table → ℕ → ℕ
 size_at t n = slice_index_or t.sizes n t.past
 
+-- its document
 abbrev pub doc_at : Table → ℕ → Forest
 doc_at t n = slice_index_or t.docs n none
 

@@ -46,9 +46,11 @@ no_aim = record {
 abbrev pub takes : ℕ → ℕ → Bool → Bool → Bool
 takes x y stays next = if x == y then stays else ((x + 1) == y) && next
 
+-- the element that is looked for stands there
 abbrev pub is_spot : Aim → ℕ → ℕ → Bool
 is_spot A n k = (n == A.template) && (k == A.place)
 
+-- the text is one that is looked for
 abbrev pub is_wordy : Aim → List ℕ → Bool
 is_wordy A s = A.wordy && not (is_blank_text s)
 
@@ -76,6 +78,7 @@ pub record Known : Type 0 where
   pub second : ℕ → ℕ
   pub whole : ℕ → ℕ
 
+-- the sizes from state x to state y
 abbrev pub known_at : Known → ℕ → ℕ → ℕ → ℕ
 known_at K x y = if x == y then K.stay else if y == 1 then K.first else if x == 1 then K.second else K.whole
 
@@ -111,6 +114,7 @@ plain_walk nodes plain = record {
 abbrev pub AreSizes : Reach → Type 0
 AreSizes r = (r.start ≤ 4098) × (r.middle ≤ 4098) × (r.last ≤ 4098)
 
+-- each is a size, or that of none
 abbrev pub AreCosts : Moves → Type 0
 AreCosts m = (m.start ≤ 4098) × (m.start_middle ≤ 4098) × (m.start_last ≤ 4098) × (m.middle ≤ 4098) × (m.middle_last ≤ 4098) × (m.last ≤ 4098)
 
@@ -118,6 +122,7 @@ AreCosts m = (m.start ≤ 4098) × (m.start_middle ≤ 4098) × (m.start_last �
 abbrev pub from : ℕ → Reach
 from x = record { start = if_so (x == 0) 0; middle = if_so (x == 1) 0; last = if_so (x == 2) 0 }
 
+-- the size in a state
 abbrev pub at : Reach → ℕ → ℕ
 at r x = if x == 0 then r.start else if x == 1 then r.middle else r.last
 
@@ -125,6 +130,7 @@ at r x = if x == 0 then r.start else if x == 1 then r.middle else r.last
 abbrev pub moves_of : (ℕ → ℕ → ℕ) → Moves
 moves_of f = record { start = f 0 0; start_middle = f 0 1; start_last = f 0 2; middle = f 1 1; middle_last = f 1 2; last = f 2 2 }
 
+-- what an item costs from state x to state y
 abbrev pub move_at : Moves → ℕ → ℕ → ℕ
 move_at m x y =
     if x == y then (if x == 0 then m.start else if x == 1 then m.middle else m.last) else if y == 1 then m.start_middle else if x == 1 then m.middle_last
@@ -138,9 +144,11 @@ next_reach r m = record {
   last = min (plus r.start m.start_last) (min (plus r.middle m.middle_last) (plus r.last m.last));
 }
 
+-- the sizes behind one item more, by what it costs
 abbrev pub after : Reach → (ℕ → ℕ → ℕ) → Reach
 after r f = next_reach r (moves_of f)
 
+-- what a text costs
 abbrev pub text_cost : Aim → List ℕ → ℕ → ℕ → ℕ
 text_cost A s x y = if_so (takes x y true (is_wordy A s)) 1
 
@@ -148,6 +156,7 @@ text_cost A s x y = if_so (takes x y true (is_wordy A s)) 1
 abbrev pub says_wordy : Aim → Way → Bool
 says_wordy A w = (w.is_free || list_any (λ s. not (is_blank_text s)) w.words) && A.wordy
 
+-- what a gap with this way costs
 abbrev pub gap_cost : Walk → Way → ℕ → ℕ → ℕ
 gap_cost u w x y = min (if_so (takes x y (is_loose w) (says_wordy u.aim w)) 1) (least_of (known_at u.known x y) w.led)
 
@@ -155,9 +164,11 @@ gap_cost u w x y = min (if_so (takes x y (is_loose w) (says_wordy u.aim w)) 1) (
 abbrev pub deep_cost : Aim → ℕ → ℕ → ℕ → Reach → ℕ → ℕ → ℕ → ℕ
 deep_cost A n k own inner cost x y = min (plus own (at inner (y - x))) (if_so (((x + 1) == y) && is_spot A n k) cost)
 
+-- what an element costs that is looked for at the top
 abbrev pub top_cost : Aim → List ℕ → ℕ → ℕ → ℕ → ℕ
 top_cost A tag v x y = if_so (takes x y (A.stays tag) (A.next x tag)) v
 
+-- what an element costs
 abbrev pub element_cost : Aim → ℕ → ℕ → List ℕ → ℕ → Reach → ℕ → ℕ → ℕ → ℕ → ℕ
 element_cost A n k tag own inner cost plain x y = if A.deep then deep_cost A n k own inner cost x y else top_cost A tag (plus own plain) x y
 
@@ -170,10 +181,11 @@ walk u n k r (element tag a i t) =
     walk u n (k + 1 + elements i) (after r (element_cost u.aim n (k + 1) tag (plus 1 (attrs_least (ways_at u.nodes n) a)) (walk u n (k + 1) (from 0) i) u.cost
     (walk (plain_walk u.nodes u.plain) n 0 (from 0) i).start)) t
 
--- of an element whose items are walked over by themselves, and of one with what is looked for inside it, from one state on
+-- the size of an element whose items are walked over by themselves
 abbrev pub flat_size : Walk → ℕ → List Attr → Forest → ℕ
 flat_size u n a i = plus (plus 1 (attrs_least (ways_at u.nodes n) a)) (walk (plain_walk u.nodes u.plain) n 0 (from 0) i).start
 
+-- of one with what is looked for inside it, from one state on
 abbrev pub inside_size : Walk → ℕ → ℕ → List Attr → Forest → ℕ → ℕ
 inside_size u n k a i z = plus (plus 1 (attrs_least (ways_at u.nodes n) a)) (at (walk u n (k + 1) (from 0) i) z)
 
@@ -195,6 +207,7 @@ item_cost u n k (element tag a i t) = element_cost u.aim n (k + 1) tag (plus 1 (
 abbrev pub seek : Walk → ℕ → ℕ → (ℕ → ℕ) → Walk
 seek u x y v = record { aim = u.aim; nodes = u.nodes; plain = u.plain; known = known_with u.known x y v; cost = u.cost }
 
+-- the size of template n by what is known
 abbrev pub seek_value : List Forest → Walk → ℕ → ℕ → (ℕ → ℕ) → ℕ → ℕ
 seek_value templates u x y v n = at (walk (seek u x y v) n 0 (from x) (template_at templates n)) y
 

@@ -1,5 +1,5 @@
 //! What is looked for in documents.
-ghost use Rattle.std.specs.Prelude.{◌≡◌, ◌≤◌, IfOk};
+ghost use Rattle.std.specs.Prelude.{◌≡◌, ◌≤◌, IfOk, true};
 ghost use Rattle.bw_explain.specs.Aims as spec;
 ghost use Rattle.bw_explain.specs.Sizes as sizes;
 ghost use Rattle.bw_explain.specs.Walks.{is_spot};
@@ -25,6 +25,7 @@ pub struct Broken<'a> {
     pub element: &'a Element,
     pub rule: &'a Rule,
     pub atom: &'a Atom,
+    /// In items and attributes, the element itself among them.
     pub size: u32,
     pub made: &'a Made,
 }
@@ -41,6 +42,7 @@ pub enum Aim<'a> {
 }
 
 impl<'a> Aim<'a> {
+    /// Whether it is looked for at any depth.
     pub fn is_deep(&self) -> bool
         ensures { result ≡ (spec.aim_of self.now).deep }
     {
@@ -50,6 +52,7 @@ impl<'a> Aim<'a> {
         }
     }
 
+    /// Whether it is a text that isn't blank.
     pub fn is_wordy(&self) -> bool
         ensures { result ≡ (spec.aim_of self.now).wordy }
     {
@@ -100,6 +103,7 @@ impl<'a> Aim<'a> {
 
 /// The element that is looked for.
 pub fn copy_made(aim: &Aim) -> Result<Made, Memory>
+    requires { spec.cost_of aim.now ≤ 4096 }
     ensures { IfOk result (spec.IsCopy aim.now) }
 {
     match aim {
@@ -107,6 +111,6 @@ pub fn copy_made(aim: &Aim) -> Result<Made, Memory>
             attrs: one.made.attrs.copy()?,
             items: one.made.items.copy()?,
         }),
-        _ => Err(Memory),
+        _ => unreachable!(),
     }
 }

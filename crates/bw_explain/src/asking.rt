@@ -1,4 +1,4 @@
-//! What explains a fault, where the wrappers and the literals are made for it alone.
+//! `explain`: the wrappers and the literals are made for one fault.
 ghost use Rattle.std.specs.Prelude.{IfOk};
 ghost use Rattle.bw_judge.specs.Faults.{IsFault};
 ghost use Rattle.bw_shape.specs.Outlines.{IsPageGraph, root_of};

@@ -8,8 +8,8 @@ ghost use Rattle.bw_explain.specs.Ways.{graph};
 ghost use Rattle.bw_explain.specs.Explained.{Ties};
 ghost use Rattle.bw_explain.specs.Building as spec;
 
-use crate::scene::{node_of, said_of};
 use crate::way::{Node, Way};
+use bw_judge::scene::{node_of, said_of};
 use bw_lang::{GapId, Memory, TemplateId, Text, Words};
 use bw_shape::{Graphed, Node as Said, Saying};
 use bw_strings::{Literals, StrSet};

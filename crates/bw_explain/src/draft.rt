@@ -5,7 +5,7 @@ ghost use Rattle.bw_lang.specs.Document.Forest.{none, element as node};
 ghost use Rattle.bw_lang.specs.Document.View.{before};
 ghost use Rattle.bw_shape.specs.Nodes.Templates.{template_at};
 ghost use Rattle.bw_sum.specs.Unfolding.{FillsAttrs, Fills};
-ghost use Rattle.bw_explain.specs.Aims.{aim_of, cost_of, walk_of, Plain_of, IsElement, IsReady};
+ghost use Rattle.bw_explain.specs.Aims.{aim_of, cost_of, walk_of, IsPlain, IsElement, IsReady};
 ghost use Rattle.bw_explain.specs.Tables.{Documents};
 ghost use Rattle.bw_explain.specs.Walks as spec;
 ghost use Rattle.bw_explain.specs.Walks.{Runs, Adds};
@@ -15,8 +15,9 @@ use crate::aim::{Made, copy_made};
 use crate::fill::fill_attrs;
 use crate::gaps::put_gap;
 use crate::reach::Reach;
+use crate::sizes::MAX_SIZE;
 use crate::spotting::is_spotted;
-use crate::walk::{Walk, item_step, reach_items};
+use crate::walk::{Walk, item_step};
 use bw_lang::{Element, Item, Items, Memory};
 use std::alloc::Global;
 
@@ -53,7 +54,7 @@ impl Draft {
 #[cycle(draft)]
 fn make_top(alloc: Global, walk: &Walk, n: usize, element: &Element) -> Result<Made, Memory>
     requires n { n < length walk.now.page.templates.now }
-    requires plain { Documents (Plain_of walk.now.page) walk.now.plain.now }
+    requires plain { Documents (IsPlain walk.now.page) walk.now.plain.now }
     requires few { elements element.now.items < 2 ^ 32 }
     requires small { spec.flat_size (walk_of walk.now) n element.now.attrs element.now.items ≤ 4096 }
     ensures { IfOk result (IsElement (λ b j. FillsAttrs (graph walk.now.page.nodes.now) n element.now.attrs b
@@ -202,7 +203,7 @@ fn grow(
         (aim_of walk.now.aim) n place from (before item.now none) to) (spec.item_cost (walk_of walk.now) n place (before item.now none) from to)
         (if from == to then own.old else base.now) own.new) }
 {
-    if to > walk.high || size > 4096 {
+    if to > walk.high || size > MAX_SIZE {
         return Ok(());
     }
     rebase(from == to, base, own)?;

@@ -2,7 +2,7 @@
 ghost use Rattle.std.specs.Prelude.{ℕ, ◌<◌, ◌^◌, IfOk, length};
 ghost use Rattle.bw_lang.specs.Document.Documents.{elements};
 ghost use Rattle.bw_shape.specs.Nodes.Templates.{template_at};
-ghost use Rattle.bw_explain.specs.Aims.{Plain_of, AreTops, IsBroken};
+ghost use Rattle.bw_explain.specs.Aims.{IsPlain, AreTops, IsBroken};
 ghost use Rattle.bw_explain.specs.Tables.{Solved};
 
 use crate::aim::{Aim, Made};
@@ -10,7 +10,7 @@ use crate::atom::Atom;
 use crate::draft::draft_items;
 use crate::own::{fill_own, own_least};
 use crate::page::Page;
-use crate::sizes::plus;
+use crate::sizes::{MAX_SIZE, plus};
 use crate::solve::{Tables, solve};
 use crate::table::Table;
 use crate::walk::{Walk, reach_items};
@@ -21,6 +21,7 @@ use std::alloc::Global;
 /// The least size of what fills an element so that it is broken, and one of that size, if it isn't too big.
 #[derive(Drop)]
 pub struct Whole {
+    /// In items and attributes, the element itself among them.
     pub size: u32,
     pub made: Made,
 }
@@ -37,7 +38,7 @@ fn element_with<'x>(
 ) -> Result<Whole, Memory>
     requires n { n < length page.now.templates.now }
     requires few { elements element.now.items < 2 ^ 32 }
-    requires plain { Solved (Plain_of page.now) plain.now }
+    requires plain { Solved (IsPlain page.now) plain.now }
     requires tables { AreTops page.now rule.now atom.now tables.now }
     ensures { IfOk result (IsBroken page.now rule.now atom.now n element.now) }
 {
@@ -52,7 +53,7 @@ fn element_with<'x>(
     let own = own_least(page, rule, atom, n, &element.attrs);
     let inner = reach_items(&walk, n, 0, 0, &element.items);
     let size = plus(plus(1, own), inner.reach.at(walk.high));
-    if size > 4096 {
+    if size > MAX_SIZE {
         let made = Made {
             attrs: Attrs::new(alloc),
             items: Items::new(alloc),
@@ -81,7 +82,7 @@ pub fn broken_element<'x>(
     requires n { n < length page.now.templates.now }
     requires few { (m : ℕ) → elements (template_at page.now.templates.now m) < 2 ^ 32 }
     requires within { elements element.now.items < 2 ^ 32 }
-    requires plain { Solved (Plain_of page.now) plain.now }
+    requires plain { Solved (IsPlain page.now) plain.now }
     ensures { IfOk result (IsBroken page.now rule.now atom.now n element.now) }
 {
     let aim = Aim::Tops(rule, atom);

@@ -1,4 +1,4 @@
-//! What a fault is explained by.
+//! The kinds of answers.
 
 use bw_lang::Tree;
 

@@ -1,4 +1,4 @@
-//! What a fault is explained by.
+//! The least document in which one element is broken, or of all that the root unfolds to.
 ghost use Rattle.std.specs.Prelude.{ℕ, ◌<◌, ◌^◌, IfOk, length};
 ghost use Rattle.bw_lang.specs.Document.Documents.{elements};
 ghost use Rattle.bw_shape.specs.Nodes.Templates.{template_at};
@@ -9,7 +9,7 @@ ghost use Rattle.bw_explain.specs.Explained.{spot_of};
 ghost use Rattle.bw_explain.specs.Ways.{graph};
 
 use crate::explained::Explained;
-use crate::finding::{Spot, answer, find_all, found_at, ways_of};
+use crate::finding::{Spot, answer, atoms_of, find_all, found_at};
 use crate::page::Page;
 use crate::solve::solve_plain;
 use bw_lang::Memory;
@@ -42,7 +42,7 @@ pub fn explain_element(
         (atoms_of number rule.now) root) e) }
 {
     let plain = solve_plain(alloc, page)?;
-    let ways = ways_of(alloc, number, rule)?;
-    let found = find_all(alloc, page, &plain, rule, ways.as_slice(), spot, root)?;
+    let atoms = atoms_of(alloc, number, rule)?;
+    let found = find_all(alloc, page, &plain, rule, atoms.as_slice(), spot, root)?;
     answer(found)
 }

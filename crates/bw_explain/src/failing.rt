@@ -35,7 +35,7 @@ fn some_fails(rule: &Rule, atom: &Atom, name: &str, words: &Words) -> bool
         .any(|word| !passes(rule, atom, name, word.as_str()))
 }
 
-/// The first list of values of an attribute.
+/// A list of values of an attribute, if it has one: a string that it lacks isn't permitted.
 fn list_of<'a>(lists: &'a [ValueList], name: &str) -> Option<&'a ValueList>
     ensures { MatchOption result (list_any (λ l. same l.name name.now) lists.now ≡ false)
         (λ l. (list_any (λ l. same l.name name.now) lists.now ≡ true) ×
@@ -75,7 +75,7 @@ fn longest(words: &[Text]) -> usize
     most
 }
 
-/// A string that is none of the words: one x more than the longest has.
+/// A string that is none of the words: it is longer than each.
 fn longer(alloc: Global, words: &Words) -> Result<Text, Memory>
     ensures { IfOk result (λ s. wording.is_among words.now s ≡ false) }
 {
@@ -87,7 +87,7 @@ fn longer(alloc: Global, words: &Words) -> Result<Text, Memory>
     Ok(Text::from_string(text))
 }
 
-/// The first word that fails.
+/// A word that fails.
 fn first_failing(rule: &Rule, atom: &Atom, name: &str, words: &Words) -> Result<Text, Memory>
     requires { list_any (λ s. not (spec.passes rule.now atom.now name.now s)) words.now ≡ true }
     ensures { IfOk result (λ s. (wording.is_among words.now s ≡ true) × (spec.passes rule.now atom.now name.now s ≡ false)) }
@@ -97,7 +97,7 @@ fn first_failing(rule: &Rule, atom: &Atom, name: &str, words: &Words) -> Result<
             return word.copy();
         }
     }
-    Err(Memory)
+    unreachable!()
 }
 
 /// A string that may fill the gap and is free to be any, and fails.
@@ -119,7 +119,7 @@ fn free_failing(
             None => word_failing(rule, atom, name, way),
         },
         Atom::Outside(_, values) => longer(alloc, values),
-        _ => Err(Memory),
+        _ => unreachable!(),
     }
 }
 
@@ -147,7 +147,7 @@ fn bound_failing(
         Atom::NotAllowed => way.word(alloc),
         Atom::OtherValue => word_failing(rule, atom, name, way),
         Atom::Outside(_, _) => word_failing(rule, atom, name, way),
-        _ => Err(Memory),
+        _ => unreachable!(),
     }
 }
 

@@ -1,9 +1,10 @@
-//! A page that shows a fault.
-ghost use Rattle.std.specs.Prelude.{◌≡◌, ◌==◌, ℕ, ◌<◌, ◌^◌, true, false, IfOk, length};
+//! What explains a fault of a page graph, by a basis that is lent.
+ghost use Rattle.std.specs.Prelude.{◌≡◌, ◌==◌, ℕ, ◌<◌, ◌^◌, true, false, IfOk, Some, length};
 ghost use Rattle.bw_judge.specs.Faults.{IsFault};
 ghost use Rattle.bw_lang.specs.Document.Documents.{elements};
 ghost use Rattle.bw_shape.specs.Nodes.Templates.{template_at};
 ghost use Rattle.bw_schema.specs.declared.rules.Rule.{Rule};
+ghost use Rattle.bw_schema.specs.Rules.{rule_of};
 ghost use Rattle.bw_shape.specs.Outlines.{IsPageGraph, root_of};
 ghost use Rattle.bw_strings.specs.Literals.{literals_of};
 ghost use Rattle.bw_sum.specs.Graph.{graph as summary_graph};
@@ -11,7 +12,7 @@ ghost use Rattle.bw_sum.specs.Templates.{all_items, template_items};
 ghost use Rattle.bw_sum.specs.Unfolding.{Unfolds};
 ghost use Rattle.bw_explain.specs.Atoms.{atoms_of};
 ghost use Rattle.bw_explain.specs.Explained as spec;
-ghost use Rattle.bw_explain.specs.Explained.{IsAnswer, IsExplained, IsSplit, IsSpot, NotValid, IsAt, FindsOne, Place};
+ghost use Rattle.bw_explain.specs.Explained.{IsAnswer, IsExplained, IsPlaced, IsSplit, IsSpot, NotValid, IsAt, FindsOne, Place};
 ghost use Rattle.bw_explain.specs.Shows.{Shows};
 ghost use Rattle.bw_explain.specs.Ways.{graph};
 
@@ -20,7 +21,7 @@ use crate::explained::Explained;
 use crate::explaining::{explain_element, explain_root};
 use crate::finding::Spot;
 use crate::page::Page;
-use crate::places::element_of;
+use crate::places::{element_of, rule_at};
 use crate::split::is_split;
 use crate::way::Node;
 use bw_faults::Fault;
@@ -32,7 +33,7 @@ use bw_sum::Summary;
 use bw_types::Typed;
 use std::alloc::Global;
 
-/// What a fault of an element is explained by, which stands there.
+/// What a fault of an element is explained by, where this is its element.
 fn explain_spot(
     alloc: Global,
     page: &Page,
@@ -43,13 +44,12 @@ fn explain_spot(
 ) -> Result<Explained, Memory>
     requires few { (m : ℕ) → elements (template_at page.now.templates.now m) < 2 ^ 32 }
     requires spot { IsSpot page.now.templates.now fault.now spot.now }
+    requires rule { (r : Rule) × (rule_of schema.now.elements spot.now.element.now.tag ≡ Some r) }
     ensures { IfOk result (λ e. (p : Place) (r : Rule) → IsAt (template_at page.now.templates.now) schema.now.elements fault.now p r
         → IsAnswer (FindsOne (template_at page.now.templates.now) (graph page.now.nodes.now) p r (atoms_of fault.now.number r) root) e) }
 {
-    match schema.elements().of(spot.element.tag.as_str()) {
-        Some(rule) => explain_element(alloc, page, rule, fault.number, spot, root),
-        None => Err(Memory),
-    }
+    let rule = rule_at(schema.elements(), spot);
+    explain_element(alloc, page, rule, fault.number, spot, root)
 }
 
 /// What a fault of an element is explained by, by the ways of all templates.
@@ -61,10 +61,11 @@ fn explain_ways(
     root: usize,
 ) -> Result<Explained, Memory>
     requires few { (m : ℕ) → elements (template_at page.now.templates.now m) < 2 ^ 32 }
+    requires placed { IsPlaced page.now.templates.now schema.now.elements fault.now }
     ensures { IfOk result (λ e. (p : Place) (r : Rule) → IsAt (template_at page.now.templates.now) schema.now.elements fault.now p r
         → IsAnswer (FindsOne (template_at page.now.templates.now) (graph page.now.nodes.now) p r (atoms_of fault.now.number r) root) e) }
 {
-    let spot = element_of(page.templates, fault)?;
+    let spot = element_of(page.templates, fault);
     explain_spot(alloc, page, schema, fault, &spot, root)
 }
 
@@ -79,6 +80,7 @@ fn explain_nodes<'x>(
 ) -> Result<Explained, Memory>
     requires both { length nodes.now ≡ length templates.now }
     requires few { (m : ℕ) → elements (template_at templates.now m) < 2 ^ 32 }
+    requires placed { (fault.now.number == 6) ≡ false → IsPlaced templates.now schema.now.elements fault.now }
     ensures root { IfOk result (λ e. (fault.now.number == 6) ≡ true → IsAnswer (Unfolds (template_at templates.now) (graph nodes.now) root) e) }
     ensures element { IfOk result (λ e. (fault.now.number == 6) ≡ false → (p : Place) (r : Rule)
         → IsAt (template_at templates.now) schema.now.elements fault.now p r
@@ -100,44 +102,44 @@ fn first_of(page: &Summary) -> u32
     page.roots.as_slice()[0].number()
 }
 
-/// What a fault is explained by, where these are the templates of the service and the wrappers.
+/// The same, but for needs with an Or: what a fault is explained by where they count as sure.
 fn explain_within(
     alloc: Global,
-    templates: &TemplateItems,
+    basis: &Basis<'_>,
     page: &Summary,
-    typed: &Typed,
-    literals: &Literals,
-    schema: &Schema,
     fault: &Fault,
 ) -> Result<Explained, Memory>
-    requires templates { templates.now ≡ all_items typed.now.service }
-    requires page { IsPageGraph typed.now.service page.now }
-    requires literals { literals.now ≡ literals_of typed.now.service }
-    requires fault { IsFault (template_items typed.now.service) (summary_graph (literals_of typed.now.service) page.now) (root_of page.now) schema.now
-        fault.now.point fault.now }
-    ensures { IfOk result (λ e. IsAnswer (Shows (template_items typed.now.service) (summary_graph (literals_of typed.now.service) page.now)
-        schema.now.elements fault.now (root_of page.now)) e) }
+    requires page { IsPageGraph basis.now.typed.now.service page.now }
+    requires fault { IsFault (template_items basis.now.typed.now.service) (summary_graph (literals_of basis.now.typed.now.service) page.now) (root_of page.now)
+        basis.now.schema.now fault.now.point fault.now }
+    ensures { IfOk result (λ e. IsAnswer (Shows (template_items basis.now.typed.now.service)
+        (summary_graph (literals_of basis.now.typed.now.service) page.now) basis.now.schema.now.elements fault.now (root_of page.now)) e) }
 {
-    let graphed = nodes_of(alloc, templates.len(), literals, page)?;
-    let ways = ways_of(alloc, literals, &graphed, page)?;
+    let graphed = nodes_of(alloc, basis.templates.len(), basis.literals, page)?;
+    let ways = ways_of(alloc, basis.literals, &graphed, page)?;
     let root = first_of(page) as usize;
-    explain_nodes(alloc, templates, ways.as_slice(), schema, fault, root)
+    explain_nodes(
+        alloc,
+        basis.templates,
+        ways.as_slice(),
+        basis.schema,
+        fault,
+        root,
+    )
 }
 
-/// Where no page shows the fault, that a need with an Or isn't sure.
-fn or_split(explained: Explained) -> Explained
-    ensures { result ≡ spec.or_split explained }
+/// Whether no page shows the fault.
+fn is_none(explained: &Explained) -> bool
+    ensures { result ≡ spec.is_none explained.now }
 {
     match explained {
-        Explained::Page(tree) => Explained::Page(tree),
-        Explained::TooBig => Explained::TooBig,
-        Explained::NoUnfolding => Explained::Disjunction,
-        Explained::Disjunction => Explained::Disjunction,
+        Explained::NoUnfolding => true,
+        Explained::Page(_) | Explained::TooBig | Explained::Disjunction => false,
     }
 }
 
 /// A page in which a fault 1 to 7 of a page graph shows, of the least size there is, or why there is none. The page graph and
-/// the fault are as `judge_by` has them.
+/// the fault are as `explain` has them.
 ///
 /// The page isn't valid by the schema.
 pub fn explain_by(
@@ -156,19 +158,14 @@ pub fn explain_by(
         fault.now) e) }
     ensures refused { IfOk result (NotValid basis.now.schema.now) }
 {
+    let found = explain_within(alloc, basis, page, fault)?;
+    if !is_none(&found) {
+        return Ok(found);
+    }
     let is_split = is_split(alloc, basis, page, fault)?;
-    let found = explain_within(
-        alloc,
-        basis.templates,
-        page,
-        basis.typed,
-        basis.literals,
-        basis.schema,
-        fault,
-    )?;
     if is_split {
-        Ok(or_split(found))
+        Ok(Explained::Disjunction)
     } else {
-        Ok(found)
+        Ok(Explained::NoUnfolding)
     }
 }

@@ -4,7 +4,7 @@ ghost use Rattle.bw_lang.specs.Document.Documents.{elements};
 ghost use Rattle.bw_shape.specs.Nodes.Templates.{template_at};
 ghost use Rattle.bw_explain.specs.Atoms as atoms;
 ghost use Rattle.bw_explain.specs.declared.atom.Atom.TheVariants.{Absent, BadText};
-ghost use Rattle.bw_explain.specs.Aims.{Plain_of, IsBroken};
+ghost use Rattle.bw_explain.specs.Aims.{IsPlain, IsBroken};
 ghost use Rattle.bw_explain.specs.Explained as spec;
 ghost use Rattle.bw_explain.specs.Explained.{spot_of};
 ghost use Rattle.bw_explain.specs.Tables.{Solved};
@@ -16,7 +16,7 @@ use crate::element::{Whole, broken_element};
 use crate::explained::Explained;
 use crate::needs::add_needs;
 use crate::page::Page;
-use crate::sizes::NONE;
+use crate::sizes::{MAX_SIZE, NONE, PAST};
 use crate::solve::solve;
 use crate::table::Table;
 use bw_lang::{Element, Items, Memory, Name, Text, Tree};
@@ -27,6 +27,7 @@ use std::alloc::Global;
 #[derive(Clone, Copy)]
 pub struct Spot<'a> {
     pub template: usize,
+    /// In pre-order, from 1.
     pub place: u32,
     pub element: &'a Element,
 }
@@ -34,6 +35,7 @@ pub struct Spot<'a> {
 /// The least size of some documents, and one of that size.
 #[derive(Drop)]
 pub struct Found {
+    /// In items and attributes; `PAST` for more than `MAX_SIZE`, and `NONE` where there is none.
     pub size: u32,
     pub doc: Items,
 }
@@ -90,7 +92,7 @@ fn find_one(
     root: usize,
 ) -> Result<Found, Memory>
     requires few { (m : ℕ) → elements (template_at page.now.templates.now m) < 2 ^ 32 }
-    requires plain { Solved (Plain_of page.now) plain.now }
+    requires plain { Solved (IsPlain page.now) plain.now }
     requires spot { spot.now.template < length page.now.templates.now }
     requires within { elements spot.now.element.now.items < 2 ^ 32 }
     ensures { IfOk result (λ f. spec.IsBest (spec.Finds (template_at page.now.templates.now) (graph page.now.nodes.now) (spot_of spot.now) rule.now
@@ -110,7 +112,7 @@ fn made_of<'x>(
     spot: &'x Spot<'x>,
 ) -> Result<Whole, Memory>
     requires few { (m : ℕ) → elements (template_at page.now.templates.now m) < 2 ^ 32 }
-    requires plain { Solved (Plain_of page.now) plain.now }
+    requires plain { Solved (IsPlain page.now) plain.now }
     requires spot { spot.now.template < length page.now.templates.now }
     requires within { elements spot.now.element.now.items < 2 ^ 32 }
     ensures { IfOk result (IsBroken page.now rule.now atom.now spot.now.template spot.now.element.now) }
@@ -131,29 +133,29 @@ pub fn find_all(
     page: &Page,
     plain: &Table,
     rule: &Rule,
-    ways: &[Atom],
+    atoms: &[Atom],
     spot: &Spot,
     root: usize,
 ) -> Result<Found, Memory>
     requires few { (m : ℕ) → elements (template_at page.now.templates.now m) < 2 ^ 32 }
-    requires plain { Solved (Plain_of page.now) plain.now }
+    requires plain { Solved (IsPlain page.now) plain.now }
     requires spot { spot.now.template < length page.now.templates.now }
     requires within { elements spot.now.element.now.items < 2 ^ 32 }
     ensures { IfOk result (λ f. spec.IsBest (spec.FindsOne (template_at page.now.templates.now) (graph page.now.nodes.now) (spot_of spot.now) rule.now
-        ways.now root) f.size f.doc) }
+        atoms.now root) f.size f.doc) }
 {
     let mut best = Found {
         size: NONE,
         doc: Items::new(alloc),
     };
-    for atom in ways {
+    for atom in atoms {
         let next = find_one(alloc, page, plain, rule, atom, spot, root)?;
         best = better(best, next);
     }
     Ok(best)
 }
 
-/// One way for each name.
+/// One atom for each name.
 fn absent_of(alloc: Global, names: &[Text]) -> Result<Vec<Atom>, Memory>
     ensures { IfOk result (λ v. v.items ≡ map Absent names.now) }
 {
@@ -164,8 +166,8 @@ fn absent_of(alloc: Global, names: &[Text]) -> Result<Vec<Atom>, Memory>
     Ok(list)
 }
 
-/// One way.
-fn one_way(alloc: Global, atom: Atom) -> Result<Vec<Atom>, Memory>
+/// One atom.
+fn one_atom(alloc: Global, atom: Atom) -> Result<Vec<Atom>, Memory>
     ensures { IfOk result (λ v. v.items ≡ atom ∷ []) }
 {
     let mut list = Vec::new(alloc);
@@ -173,19 +175,19 @@ fn one_way(alloc: Global, atom: Atom) -> Result<Vec<Atom>, Memory>
     Ok(list)
 }
 
-/// The way in which an element has a text, where it may have none.
-fn text_ways(alloc: Global, is_allowed: bool) -> Result<Vec<Atom>, Memory>
+/// The atom of an element that has a text, where it may have none.
+fn text_atoms(alloc: Global, is_allowed: bool) -> Result<Vec<Atom>, Memory>
     ensures { IfOk result (λ v. v.items ≡ (if is_allowed then [] else BadText ∷ [])) }
 {
     if is_allowed {
         Ok(Vec::new(alloc))
     } else {
-        one_way(alloc, Atom::BadText)
+        one_atom(alloc, Atom::BadText)
     }
 }
 
-/// The ways in which an element breaks one of its needs that has no Or.
-fn need_ways(alloc: Global, needs: &Formulas) -> Result<Vec<Atom>, Memory>
+/// The atoms of the needs without Or.
+fn need_atoms(alloc: Global, needs: &Formulas) -> Result<Vec<Atom>, Memory>
     ensures { IfOk result (λ v. v.items ≡ atoms.need_atoms needs.now) }
 {
     let mut list = Vec::new(alloc);
@@ -193,27 +195,27 @@ fn need_ways(alloc: Global, needs: &Formulas) -> Result<Vec<Atom>, Memory>
     Ok(list)
 }
 
-/// The ways in which an element breaks the rule of that number.
-pub fn ways_of(alloc: Global, number: u8, rule: &Rule) -> Result<Vec<Atom>, Memory>
+/// The atoms of a rule for the fault of that number: the ways in which an element breaks it so.
+pub fn atoms_of(alloc: Global, number: u8, rule: &Rule) -> Result<Vec<Atom>, Memory>
     ensures { IfOk result (λ v. v.items ≡ atoms.atoms_of number rule.now) }
 {
     if number == 1 {
-        return one_way(alloc, Atom::NotAllowed);
+        return one_atom(alloc, Atom::NotAllowed);
     }
     if number == 2 {
         return absent_of(alloc, rule.must.as_slice());
     }
     if number == 3 {
-        return one_way(alloc, Atom::OtherValue);
+        return one_atom(alloc, Atom::OtherValue);
     }
     if number == 4 {
-        return one_way(alloc, Atom::BadChild);
+        return one_atom(alloc, Atom::BadChild);
     }
     if number == 5 {
-        return text_ways(alloc, rule.text);
+        return text_atoms(alloc, rule.text);
     }
     if number == 7 {
-        return need_ways(alloc, &rule.needs);
+        return need_atoms(alloc, &rule.needs);
     }
     Ok(Vec::new(alloc))
 }
@@ -222,10 +224,10 @@ pub fn ways_of(alloc: Global, number: u8, rule: &Rule) -> Result<Vec<Atom>, Memo
 pub fn answer(found: Found) -> Result<Explained, Memory>
     ensures { IfOk result (λ e. e ≡ spec.answer_of found.size found.doc) }
 {
-    if found.size > 4097 {
+    if found.size > PAST {
         return Ok(Explained::NoUnfolding);
     }
-    if found.size > 4096 {
+    if found.size > MAX_SIZE {
         return Ok(Explained::TooBig);
     }
     Ok(Explained::Page(Tree {

@@ -90,7 +90,7 @@ fn put_way(
     Ok(())
 }
 
-/// The same at a gap of a template.
+/// The same at a gap of a template; a gap without a way leaves `out` as it was.
 pub fn put_gap(
     alloc: Global,
     walk: &Walk,

@@ -3,7 +3,7 @@ ghost use Rattle.std.specs.Prelude.{◌≡◌, ◌≤◌};
 ghost use Rattle.std.specs.List.{list_all};
 ghost use Rattle.bw_explain.specs.Sizes as spec;
 
-use crate::sizes::NONE;
+use crate::sizes::{NONE, PAST};
 use crate::way::Node;
 use bw_lang::{AttrValue, Attrs};
 
@@ -36,7 +36,7 @@ pub fn attrs_least(node: &Node, attrs: &Attrs) -> u32
     ensures most { result ≤ 4098 }
 {
     if may_fill_all(node, attrs) {
-        attrs.as_slice().len().min(4097) as u32
+        attrs.as_slice().len().min(PAST as usize) as u32
     } else {
         NONE
     }

@@ -1,4 +1,4 @@
-//! The ways in which an element breaks one of its needs that has no Or.
+//! The atoms of needs: the ways in which an element breaks one that has no Or.
 ghost use Rattle.std.specs.Prelude.{◌≡◌, ◌++◌, OnOk};
 ghost use Rattle.bw_explain.specs.Atoms as spec;
 ghost use Rattle.bw_explain.specs.Atoms.{is_plain};
@@ -35,7 +35,7 @@ fn are_plain(formulas: &Formulas) -> bool
     true
 }
 
-/// Puts the ways of a formula behind others.
+/// Puts the atoms of a formula behind others.
 #[cycle(need)]
 fn add_need(formula: &Formula, ways: &mut Vec<Atom>) -> Result<(), Memory>
     ensures { OnOk result (ways.new.items ≡ ways.old.items ++ spec.atoms_one formula.now) }
@@ -55,7 +55,7 @@ fn add_need(formula: &Formula, ways: &mut Vec<Atom>) -> Result<(), Memory>
     Ok(())
 }
 
-/// Puts the ways of the formulas without Or behind others.
+/// Puts the atoms of the formulas without Or behind others.
 #[cycle(need)]
 pub fn add_needs(formulas: &Formulas, ways: &mut Vec<Atom>) -> Result<(), Memory>
     ensures { OnOk result (ways.new.items ≡ ways.old.items ++ spec.need_atoms formulas.now) }

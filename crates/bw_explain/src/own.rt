@@ -14,7 +14,7 @@ use crate::failing::{failing_word, fails, passes};
 use crate::fill::{fill_attrs, fill_value};
 use crate::least::{attrs_least, may_fill_all};
 use crate::page::Page;
-use crate::sizes::NONE;
+use crate::sizes::{NONE, PAST};
 use crate::way::Node;
 use bw_lang::{Attr, AttrValue, Attrs, Memory, Name};
 use bw_schema::Rule;
@@ -73,7 +73,7 @@ fn failing_own(page: &Page, rule: &Rule, atom: &Atom, n: usize, attrs: &Attrs) -
 {
     let node = page.node(n);
     if may_fill_all(node, attrs) && some_may_fail(rule, atom, node, attrs) {
-        attrs.as_slice().len().min(4097) as u32
+        attrs.as_slice().len().min(PAST as usize) as u32
     } else {
         NONE
     }
@@ -87,7 +87,7 @@ fn leaving_own(page: &Page, rule: &Rule, atom: &Atom, name: &Name, n: usize, att
 {
     let node = page.node(n);
     if may_fill_all(node, attrs) && all_may_leave(rule, atom, node, name, attrs) {
-        attrs.as_slice().len().min(4097) as u32
+        attrs.as_slice().len().min(PAST as usize) as u32
     } else {
         NONE
     }
@@ -114,7 +114,7 @@ fn failing_value(
                 let word = failing_word(alloc, rule, atom, attr.name.as_str(), way)?;
                 Ok(AttrValue::Fixed(word))
             }
-            None => Err(Memory),
+            None => unreachable!(),
         },
     }
 }
@@ -145,7 +145,7 @@ fn leaving_value(
                     Ok(AttrValue::Fixed(word))
                 }
             }
-            None => Err(Memory),
+            None => unreachable!(),
         },
     }
 }

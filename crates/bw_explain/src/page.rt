@@ -10,7 +10,9 @@ use bw_shape::TemplateItems;
 /// The items of each template, and the ways of its gaps.
 #[derive(Clone, Copy)]
 pub struct Page<'a> {
+    /// The items of each template, and of the wrappers behind them.
     pub templates: &'a TemplateItems<'a>,
+    /// The ways of the gaps of each.
     pub nodes: &'a [Node],
     ghost both: { length nodes.now ≡ length templates.now },
 }
@@ -23,6 +25,7 @@ impl<'a> Page<'a> {
         self.templates.len()
     }
 
+    /// The items of a template.
     pub fn items(&self, n: usize) -> &Items
         requires { n < length self.now.templates.now }
         ensures { result.now ≡ template_at self.now.templates.now n }
@@ -30,6 +33,7 @@ impl<'a> Page<'a> {
         self.templates.at(n)
     }
 
+    /// The ways of a template's gaps.
     pub fn node(&self, n: usize) -> &Node
         requires { n < length self.now.templates.now }
         ensures { result.now ≡ ways_at self.now.nodes.now n }

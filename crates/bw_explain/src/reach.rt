@@ -25,31 +25,7 @@ pub struct Moves {
 }
 
 impl Moves {
-    /// From one state to another.
-    pub fn at(self, from: u32, to: u32) -> u32
-        requires { spec.AreCosts self }
-        ensures is { result ≡ spec.move_at self from to }
-        ensures most { result ≤ 4098 }
-    {
-        if from == to {
-            return if from == 0 {
-                self.start
-            } else if from == 1 {
-                self.middle
-            } else {
-                self.last
-            };
-        }
-        if to == 1 {
-            self.start_middle
-        } else if from == 1 {
-            self.middle_last
-        } else {
-            self.start_last
-        }
-    }
-
-    /// The same from each state to itself, to the next and to the one behind that.
+    /// What a part costs from each state to itself, to the next and to the one behind that.
     pub fn even(stay: u32, next: u32, jump: u32) -> Moves
         ensures { result ≡ record { start = stay; start_middle = next; start_last = jump; middle = stay; middle_last = next; last = stay } }
     {
@@ -107,7 +83,7 @@ impl Reach {
         }
     }
 
-    /// The state from which the least size in another comes.
+    /// The state from which the least size behind one item more comes.
     pub fn origin(self, moves: Moves, to: u32) -> u32
         requires sizes { spec.AreSizes self }
         requires costs { spec.AreCosts moves }

@@ -9,7 +9,7 @@ ghost use Rattle.bw_explain.specs.Walks as spec;
 
 use crate::draft::draft_items;
 use crate::next::Next;
-use crate::sizes::{NONE, if_so};
+use crate::sizes::{MAX_SIZE, NONE, PAST, if_so};
 use crate::table::Table;
 use crate::walk::{Walk, reach_items};
 use bw_lang::{Items, Memory};
@@ -49,7 +49,7 @@ fn open_size<'x>(walk: &'x Walk<'x>, known: &'x Table, n: usize) -> u32
         (size_at known.now) n else 4098) }
     ensures most { result ≤ 4098 }
 {
-    if known.size(n) <= 4097 {
+    if known.size(n) <= PAST {
         return NONE;
     }
     let walk = beside(walk, known);
@@ -87,7 +87,7 @@ fn next_document<'x>(
     requires size { next.size ≡ spec.seek_value walk.now.page.templates.now (walk_of walk.now) walk.now.low walk.now.high (size_at known.now) next.at }
     ensures { IfOk result (λ d. next.size ≤ 4096 → Has walk.now.page walk.now.aim walk.now.low walk.now.high next.at d × (size d ≤ next.size)) }
 {
-    if next.size > 4096 {
+    if next.size > MAX_SIZE {
         return Ok(Items::new(alloc));
     }
     let walk = beside(walk, known);

@@ -1,9 +1,15 @@
-//! Sizes of documents: 4097 stands for each size over 4096, and 4098 for no document.
+//! Sizes of documents, in items and attributes, those left open among them.
 ghost use Rattle.std.specs.Prelude.{◌≡◌, ◌≤◌};
 ghost use Rattle.bw_explain.specs.Sizes.{plus, if_so};
 
-/// Where there is no document.
-pub const NONE: u32 = 4098;
+/// The greatest size of a page that is given.
+pub const MAX_SIZE: u32 = 4_096;
+
+/// Stands for each greater size.
+pub const PAST: u32 = 4_097;
+
+/// Stands for no document.
+pub const NONE: u32 = 4_098;
 
 /// The sum of two sizes.
 pub fn plus(a: u32, b: u32) -> u32
@@ -12,7 +18,7 @@ pub fn plus(a: u32, b: u32) -> u32
     ensures sum { result ≡ plus a b }
     ensures most { result ≤ 4098 }
 {
-    (a + b).min(4097).max(a.max(b))
+    (a + b).min(PAST).max(a.max(b))
 }
 
 /// The size where it may be.

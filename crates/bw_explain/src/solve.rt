@@ -2,7 +2,7 @@
 ghost use Rattle.std.specs.Prelude.{◌≡◌, ℕ, ◌≤◌, ◌<◌, ◌^◌, true, false, IfOk};
 ghost use Rattle.bw_lang.specs.Document.Documents.{elements};
 ghost use Rattle.bw_shape.specs.Nodes.Templates.{template_at};
-ghost use Rattle.bw_explain.specs.Aims.{aim_of, cost_of, Has, Plain_of, IsFairAim, IsSought, AreSolved};
+ghost use Rattle.bw_explain.specs.Aims.{aim_of, cost_of, Has, IsPlain, IsFairAim, IsSought, AreSolved};
 ghost use Rattle.bw_explain.specs.Tables.{Solved};
 
 use crate::aim::Aim;
@@ -90,7 +90,7 @@ pub fn solve(
     requires cost { cost_of aim.now ≤ 4098 }
     requires goal { goal ≤ 2 }
     requires deep { (aim_of aim.now).deep ≡ true → goal ≤ 1 }
-    requires plain { (aim_of aim.now).deep ≡ false → Solved (Plain_of page.now) plain.now }
+    requires plain { (aim_of aim.now).deep ≡ false → Solved (IsPlain page.now) plain.now }
     requires fair { IsFairAim page.now aim.now }
     ensures { IfOk result (λ t. AreSolved page.now aim.now t goal) }
 {
@@ -118,7 +118,7 @@ pub fn solve(
 /// The least ones of all documents.
 pub fn solve_plain(alloc: Global, page: &Page) -> Result<Table, Memory>
     requires few { (m : ℕ) → elements (template_at page.now.templates.now m) < 2 ^ 32 }
-    ensures { IfOk result (Solved (Plain_of page.now)) }
+    ensures { IfOk result (Solved (IsPlain page.now)) }
 {
     let none = Table::new(alloc, 0, NONE)?;
     let aim = Aim::Plain;

@@ -1,25 +1,47 @@
 //! Whether a need with an Or isn't sure at the element of a fault.
-ghost use Rattle.std.specs.Prelude.{◌≡◌, ◌<◌, IfOk, Some, length};
+ghost use Rattle.std.specs.Prelude.{◌≡◌, ◌<◌, ◌&&◌, not, IfOk, Some, length};
 ghost use Rattle.bw_judge.specs.Faults.{IsFault};
 ghost use Rattle.bw_judge.specs.Pages.{scene_at};
+ghost use Rattle.bw_judge.specs.Sure.{sure_one};
 ghost use Rattle.bw_schema.specs.Rules.{rule_of};
 ghost use Rattle.bw_shape.specs.Outlines.{IsPageGraph, root_of};
 ghost use Rattle.bw_strings.specs.Literals.{literals_of};
 ghost use Rattle.bw_sum.specs.Graph.{graph as summary_graph};
 ghost use Rattle.bw_sum.specs.Templates.{template_items};
+ghost use Rattle.bw_explain.specs.Atoms.{is_plain_one};
 ghost use Rattle.bw_explain.specs.Explained.{IsSplit, IsSpot, Tells};
 ghost use Rattle.bw_explain.specs.Splits.{some_split};
 
 use crate::finding::Spot;
-use crate::places::element_of;
-use crate::scene::{Scene, node_of, said_of};
+use crate::needs::is_plain;
+use crate::places::{element_of, rule_at};
 use bw_faults::Fault;
-use bw_lang::Memory;
-use bw_schema::Rule;
+use bw_judge::scene::{Scene, scene_of};
+use bw_lang::{Attrs, Items, Memory};
+use bw_schema::{Formula, Formulas, Rule};
 use bw_shape::{Basis, Outline, shape_by};
 use bw_strings::Literals;
 use bw_sum::Summary;
 use std::alloc::Global;
+
+fn is_unsure(scene: &Scene, need: &Formula, attrs: &Attrs, items: &Items) -> bool
+    ensures { result ≡ (not (is_plain_one need.now) && not (sure_one scene.now need.now attrs.now items.now)) }
+{
+    !is_plain(need) && !scene.is_sure(need, attrs, items)
+}
+
+/// Whether some need with an Or isn't sure at an element.
+#[tactic(auto, using(crate::proofs::Splitting::split_before))]
+fn some_split(scene: &Scene, needs: &Formulas, attrs: &Attrs, items: &Items) -> bool
+    ensures { result ≡ some_split scene.now needs.now attrs.now items.now }
+{
+    for need in needs.as_slice() {
+        if is_unsure(scene, need, attrs, items) {
+            return true;
+        }
+    }
+    false
+}
 
 /// Whether a need of the element that has an Or isn't sure, by the outline of the page graph.
 fn is_split_by(outline: &Outline, literals: &Literals, spot: &Spot, rule: &Rule) -> bool
@@ -28,20 +50,16 @@ fn is_split_by(outline: &Outline, literals: &Literals, spot: &Spot, rule: &Rule)
     ensures { result ≡ some_split (scene_at outline.now.graphed.nodes.items outline.now.graphed.said.items literals.now outline.now.tables
         outline.now.pairs.items spot.now.template) rule.now.needs spot.now.element.now.attrs spot.now.element.now.items }
 {
-    let scene = Scene {
-        tags: &outline.tables.tags,
-        literals,
-        tops: &outline.tables.tops,
-        miss: &outline.tables.miss,
-        cross: &outline.tables.cross,
-        pairs: outline.pairs.as_slice(),
-        node: node_of(outline.graphed.nodes.as_slice(), spot.template),
-        said: said_of(outline.graphed.said.as_slice(), spot.template),
-    };
-    scene.some_split(&rule.needs, &spot.element.attrs, &spot.element.items)
+    let scene = scene_of(outline, literals, spot.template);
+    some_split(
+        &scene,
+        &rule.needs,
+        &spot.element.attrs,
+        &spot.element.items,
+    )
 }
 
-/// Whether a need of the element of a fault 7 that has an Or isn't sure.
+/// The same of a fault 7, where this is its element and its rule.
 fn is_split_at(
     alloc: Global,
     basis: &Basis<'_>,
@@ -79,9 +97,7 @@ pub fn is_split(
     if fault.number != 7 {
         return Ok(false);
     }
-    let spot = element_of(basis.templates, fault)?;
-    match basis.schema.elements().of(spot.element.tag.as_str()) {
-        Some(rule) => is_split_at(alloc, basis, page, fault, &spot, rule),
-        None => Err(Memory),
-    }
+    let spot = element_of(basis.templates, fault);
+    let rule = rule_at(basis.schema.elements(), &spot);
+    is_split_at(alloc, basis, page, fault, &spot, rule)
 }

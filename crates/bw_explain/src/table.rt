@@ -60,13 +60,6 @@ impl Table {
         })
     }
 
-    /// The number of templates.
-    pub fn len(&self) -> usize
-        ensures { result ≡ length self.now.sizes }
-    {
-        self.sizes.len()
-    }
-
     /// The size that was found.
     pub fn size(&self, n: usize) -> u32
         ensures size { result ≡ size_at self.now n }

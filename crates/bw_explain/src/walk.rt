@@ -34,6 +34,7 @@ pub struct Walk<'a> {
     pub aim: Aim<'a>,
     pub plain: &'a Table,
     pub known: Known<'a>,
+    /// The first state and the last.
     pub low: u32,
     pub high: u32,
 }
@@ -154,7 +155,7 @@ impl<'a> Walk<'a> {
     }
 }
 
-/// What costs what may stand at a gap.
+/// What a gap with this way costs.
 fn way_moves(walk: &Walk, way: &Way) -> Moves
     ensures is { result ≡ spec.moves_of (spec.gap_cost (walk_of walk.now) way.now) }
     ensures most { spec.AreCosts result }

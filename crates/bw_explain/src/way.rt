@@ -72,6 +72,7 @@ impl Node {
         self.ways.iter().any(|way| way.gap == gap)
     }
 
+    /// The ways as a slice.
     pub fn as_slice(&self) -> &[Way]
         ensures { result.now ≡ self.now }
     {
@@ -105,30 +106,35 @@ impl Way {
         }
     }
 
+    /// The gap.
     pub fn gap(&self) -> GapId
         ensures { result ≡ self.now.at }
     {
         self.gap
     }
 
+    /// Whether it may be left open.
     pub fn is_open(&self) -> bool
         ensures { result ≡ self.now.is_open }
     {
         self.is_open
     }
 
+    /// Whether any string may fill it.
     pub fn is_free(&self) -> bool
         ensures { result ≡ self.now.is_free }
     {
         self.is_free
     }
 
+    /// The strings that may fill it.
     pub fn words(&self) -> &Words
         ensures { result.now ≡ self.now.words }
     {
         &self.words
     }
 
+    /// The numbers of the templates that may stand there.
     pub fn led(&self) -> &[u32]
         ensures { result.now ≡ self.now.led }
     {
@@ -142,7 +148,7 @@ impl Way {
         self.is_free || !self.words.as_slice().is_empty()
     }
 
-    /// A string that may fill the gap: x, or the first word.
+    /// A string that may fill the gap.
     pub fn word(&self, alloc: Global) -> Result<Text, Memory>
         requires { sizes.is_said self.now ≡ true }
         ensures { IfOk result (λ s. spec.says self.now s ≡ true) }
@@ -152,7 +158,7 @@ impl Way {
         }
         match self.words.as_slice().first() {
             Some(word) => word.copy(),
-            None => Err(Memory),
+            None => unreachable!(),
         }
     }
 
@@ -170,7 +176,7 @@ impl Way {
         self.is_free || has_words(self.words.as_slice())
     }
 
-    /// A string that may fill the gap that isn't blank: x, or the first such word.
+    /// A string that may fill the gap and isn't blank.
     pub fn wordy_word(&self, alloc: Global) -> Result<Text, Memory>
         requires { (self.now.is_free || list_any (λ s. not (blank s)) self.now.words) ≡ true }
         ensures { IfOk result (λ s. (spec.says self.now s ≡ true) × (not (blank s) ≡ true)) }
@@ -183,7 +189,7 @@ impl Way {
                 return word.copy();
             }
         }
-        Err(Memory)
+        unreachable!()
     }
 }
 

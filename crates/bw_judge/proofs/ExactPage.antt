@@ -1,8 +1,9 @@
 -- The list of faults is exactly that of the page graph.
-use Rattle.std.proofs.Common.{◌≡◌, inl, inr, ℕ, suc, ◌+◌, not, List, [], ◌∷◌, Option, Some, None, is_some, unwrap_or, if◌then◌else◌, refl, ap, sym, ◌∙◌, subst}
+use Rattle.std.proofs.Common.{◌≡◌, inl, inr, ℕ, suc, ◌+◌, not, List, [], ◌∷◌, Option, Some, None, if◌then◌else◌, refl, ap, sym, ◌∙◌, subst}
 use Rattle.std.proofs.Common.{arith}
 use Rattle.std.specs.List.{Contains}
-use Rattle.std.proofs.lemmas.Bool.{false≢true, cases_Bool, not-true}
+use Rattle.std.proofs.lemmas.Bool.{cases_Bool, not-true}
+use Rattle.std.proofs.lemmas.Option.{none-some, same_Some}
 use Rattle.bw_lang.specs.declared.items.Attr.{Attr}
 use Rattle.bw_lang.specs.Document.Forest.{Forest, none, text, gap, element}
 use Rattle.bw_lang.specs.Document.Documents.{elements}
@@ -60,24 +61,18 @@ from_place P s f (fault.after_text m) h = from_place P s f m h
 from_place P s f (fault.after_gap m) h = from_place P s f m h
 
 -- the tags in an element of a template are known
-known_at : (tags : List (List ℕ)) {t : Forest} {k : ℕ} {tag : List ℕ} {a : List Attr} {i : Forest} → At t k tag a i → AreKnown tags t → AreKnown tags i
+pub known_at : (tags : List (List ℕ)) {t : Forest} {k : ℕ} {tag : List ℕ} {a : List Attr} {i : Forest} → At t k tag a i → AreKnown tags t → AreKnown tags i
 known_at tags fault.here h = h.1.0
 known_at tags (fault.inside m) h = known_at tags m h.1.0
 known_at tags (fault.after_element m) h = known_at tags m h.1.1
 known_at tags (fault.after_text m) h = known_at tags m h
 known_at tags (fault.after_gap m) h = known_at tags m h
 
-same_some : {X : Type 0} (x y : X) → Some x ≡ Some y → x ≡ y
-same_some x y e = ap (λ o. unwrap_or o x) e
-
-none_some : {X : Type 0} (x : X) → None ≡ Some x → ⊥
-none_some x e = false≢true (ap is_some e)
-
 -- the rule of a tag is one of the rules
-rule_in : (rules : List Rule) (tag : List ℕ) (r : Rule) → rule_of rules tag ≡ Some r → Contains rules r
-rule_in [] tag r h = absurd (none_some r h)
+pub rule_in : (rules : List Rule) (tag : List ℕ) (r : Rule) → rule_of rules tag ≡ Some r → Contains rules r
+rule_in [] tag r h = absurd (none-some r h)
 rule_in (q ∷ rules) tag r h = elim (cases_Bool (same q.tag tag)) [
-  | inl it ↦ (0, omega arith, same_some q r (sym (ap (λ b. if b then Some q else rule_of rules tag) it) ∙ h))
+  | inl it ↦ (0, omega arith, same_Some q r (sym (ap (λ b. if b then Some q else rule_of rules tag) it) ∙ h))
   | inr isnt ↦ let c = rule_in rules tag r (sym (ap (λ b. if b then Some q else rule_of rules tag) isnt) ∙ h) in (suc c.0, omega (arith, c.1), c.2)
 ]
 

@@ -1,10 +1,9 @@
 //! The faults 1 to 7 of a page graph.
-ghost use Rattle.std.specs.Prelude.{◌≡◌, ℕ, ◌^◌, ◌<◌, [], IfOk, OnOk, length, slice_index_or};
+ghost use Rattle.std.specs.Prelude.{◌≡◌, ℕ, ◌^◌, ◌<◌, [], IfOk, OnOk, length};
 ghost use Rattle.std.specs.List.{All};
 ghost use Rattle.bw_faults.specs.Lists.{Adds, Lists, OfSome};
 ghost use Rattle.bw_lang.specs.Document.Documents.{elements, close};
 ghost use Rattle.bw_lang.specs.Document.Forest.{Forest};
-ghost use Rattle.bw_shape.specs.Nodes.Nodes.{node_at};
 ghost use Rattle.bw_shape.specs.Nodes.Templates.{template_at};
 ghost use Rattle.bw_shape.specs.Rows.Rows.{at};
 ghost use Rattle.bw_schema.specs.Validity.{Valid};
@@ -20,11 +19,11 @@ ghost use Rattle.bw_judge.specs.Pages as page;
 
 use crate::content::{Spot, add_if};
 use crate::elements::judge_items;
-use crate::scene::Scene;
+use crate::scene::scene_of;
 use bw_faults::Faults;
 use bw_lang::{Element, Item, Items, Memory, Name};
 use bw_schema::Schema;
-use bw_shape::{Basis, Node, Outline, Saying, Sayings, Wrappers};
+use bw_shape::{Basis, Outline, Wrappers};
 use bw_strings::Literals;
 use bw_sum::Summary;
 use bw_types::Typed;
@@ -55,22 +54,6 @@ fn judge_root(
     }
 }
 
-/// The node of the template of that number.
-fn node_of(nodes: &[Node], n: usize) -> &Node
-    requires { n < length nodes.now }
-    ensures { result.now ≡ node_at nodes.now n }
-{
-    &nodes[n]
-}
-
-/// The strings at the gaps of the template of that number.
-fn said_of(said: &[Sayings], n: usize) -> &[Saying]
-    requires { n < length said.now }
-    ensures { result.now ≡ slice_index_or said.now n [] }
-{
-    said[n].as_slice()
-}
-
 /// Adds the faults of the elements of a template.
 fn judge_template(
     alloc: Global,
@@ -87,16 +70,7 @@ fn judge_template(
     ensures { OnOk result (Adds
         (page.OfOutline basis.now.templates.now basis.now.literals.now outline.now basis.now.schema.now point n) faults.old faults.new) }
 {
-    let scene = Scene {
-        tags: &outline.tables.tags,
-        literals: basis.literals,
-        tops: &outline.tables.tops,
-        miss: &outline.tables.miss,
-        cross: &outline.tables.cross,
-        pairs: outline.pairs.as_slice(),
-        node: node_of(outline.graphed.nodes.as_slice(), n as usize),
-        said: said_of(outline.graphed.said.as_slice(), n as usize),
-    };
+    let scene = scene_of(outline, basis.literals, n as usize);
     let spot = Spot {
         point,
         template: n,

@@ -7,7 +7,7 @@ mod elements;
 mod judging;
 pub mod laws;
 mod misses;
-mod scene;
-mod sureness;
+pub mod scene;
+pub mod sureness;
 
 pub use judging::{judge, judge_by};

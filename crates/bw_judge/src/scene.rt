@@ -1,14 +1,16 @@
 //! What is known of the elements of a template, and of their attributes.
-ghost use Rattle.std.specs.Prelude.{◌≡◌, ◌==◌, ◌||◌, ◌&&◌, not, [], slice_index_or};
+ghost use Rattle.std.specs.Prelude.{◌≡◌, ◌<◌, ◌==◌, ◌||◌, ◌&&◌, not, [], length, slice_index_or};
 ghost use Rattle.std.specs.List.{list_any, list_all};
 ghost use Rattle.bw_lang.specs.Table.Names.{same};
 ghost use Rattle.bw_schema.specs.Words as word;
+ghost use Rattle.bw_shape.specs.Nodes.Nodes.{node_at};
 ghost use Rattle.bw_strings.specs.Asking.{text_of};
+ghost use Rattle.bw_judge.specs.Pages.{scene_at};
 ghost use Rattle.bw_judge.specs.Scene as spec;
 
 use bw_lang::{Attr, AttrValue, Attrs, GapId, Words};
 use bw_schema::{ValueList, ValueLists, is_among};
-use bw_shape::{Node, Saying, Table, Tags};
+use bw_shape::{Node, Outline, Saying, Sayings, Table, Tags};
 use bw_strings::{Literals, StrSet};
 use std::marker::Model;
 
@@ -41,6 +43,41 @@ impl<'a> Model for Scene<'a> {
       node = s.node.now;
       said = s.said.now;
     } };
+}
+
+/// The node of the template of that number.
+pub fn node_of(nodes: &[Node], n: usize) -> &Node
+    requires { n < length nodes.now }
+    ensures { result.now ≡ node_at nodes.now n }
+{
+    &nodes[n]
+}
+
+/// The strings at the gaps of the template of that number.
+pub fn said_of(said: &[Sayings], n: usize) -> &[Saying]
+    requires { n < length said.now }
+    ensures { result.now ≡ slice_index_or said.now n [] }
+{
+    said[n].as_slice()
+}
+
+/// What is known of the template of that number, by the outline of its page graph.
+pub fn scene_of<'a>(outline: &'a Outline, literals: &'a Literals, n: usize) -> Scene<'a>
+    requires node { n < length outline.now.graphed.nodes.items }
+    requires said { n < length outline.now.graphed.said.items }
+    ensures { result ≡ scene_at outline.now.graphed.nodes.items outline.now.graphed.said.items literals.now outline.now.tables
+        outline.now.pairs.items n }
+{
+    Scene {
+        tags: &outline.tables.tags,
+        literals,
+        tops: &outline.tables.tops,
+        miss: &outline.tables.miss,
+        cross: &outline.tables.cross,
+        pairs: outline.pairs.as_slice(),
+        node: node_of(outline.graphed.nodes.as_slice(), n),
+        said: said_of(outline.graphed.said.as_slice(), n),
+    }
 }
 
 /// Whether the literal of that number is a word of the list.

@@ -61,8 +61,9 @@ impl<'a> Scene<'a> {
         items_cross(self.tags, self.node, self.tops, self.cross, pair, items)
     }
 
+    /// Whether a formula is sure at an element.
     #[cycle(sure)]
-    fn is_sure(&self, formula: &Formula, attrs: &Attrs, items: &Items) -> bool
+    pub fn is_sure(&self, formula: &Formula, attrs: &Attrs, items: &Items) -> bool
         ensures { result ≡ spec.sure_one self.now formula.now attrs.now items.now }
     {
         match formula {

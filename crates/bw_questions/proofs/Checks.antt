@@ -1,5 +1,5 @@
 -- The check: what its answers exclude, and what is said where it refuses.
-use Rattle.std.proofs.Common.{◌≡◌, ◌≢◌, ℕ, List, [], refl, sym, subst, arith, Option, None, Some, IfSome, Ok, Err, IsErrOf, ap, ◌∙◌}
+use Rattle.std.proofs.Common.{◌≡◌, ◌≢◌, ℕ, List, [], refl, sym, subst, arith, Option, None, Some, IfSome, Result, Ok, Err, IsErrOf, ap, ◌∙◌}
 use Rattle.bw_check.specs.Accepts.{Accepts, IsCheckFault}
 use Rattle.bw_check.specs.declared.fault.CheckFault.{CheckFault}
 use Rattle.bw_check.specs.declared.fault.CheckFault.TheVariants as checks
@@ -92,6 +92,14 @@ pub accepted_said : (told : Option Disk) (name : List ℕ) (judging : Judging) (
     → IfSome told (λ d. (accepted_file d name judging form).gives ruled) → IfSome told (λ d. (accepted_file d name judging form >>= accepted).gives work)
 accepted_said None name judging form ruled work e g = tt
 accepted_said (Some d) name judging form ruled work e g = (ruled, g, e)
+
+-- two parts had no read fault, and what came of them isn't one
+pub quiet_shows : {A B D : Type 0} (r : Result D Stop) (a : A) (b : B) (x y z : ℕ) → Shows (IsErrOf {T = A} (Ok a) stop.ReadFault) x y
+    → Shows (IsErrOf {T = B} (Ok b) stop.ReadFault) y z → (IsErrOf r stop.ReadFault → ⊥) → Shows (IsErrOf r stop.ReadFault) x z
+quiet_shows r a b x y z first second quiet = record {
+  only = λ f. absurd (quiet f);
+  other = λ f. second.other (no_stop b stop.ReadFault) ∙ first.other (no_stop a stop.ReadFault);
+}
 
 -- three parts had no read fault
 pub none_shows : {A B C D : Type 0} (v : D) (a : A) (b : B) (c : C) (x y z w : ℕ) → Shows (IsErrOf {T = A} (Ok a) stop.ReadFault) x y

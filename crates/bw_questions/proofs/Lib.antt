@@ -1,5 +1,6 @@
 pub mod Answering
 pub mod Checks
+pub mod Explanations
 pub mod Files
 pub mod FormatFiles
 pub mod Loads

@@ -137,7 +137,7 @@ short_text seen bytes given how x e a = subst (λ b. length b ≤ MAX_FILE_BYTES
 -- ---- why a service isn't taken
 
 -- a text says why the question goes wrong, or there was no memory for it
-said_stops : {A : Type 0} (q : Question A) (refusal : Refusal) (t : Result (Vec ℕ Global) Memory) (s : Stop)
+pub said_stops : {A : Type 0} (q : Question A) (refusal : Refusal) (t : Result (Vec ℕ Global) Memory) (s : Stop)
     → IfOk t (λ x. SaysText refusal x.items s) → IfErr t (λ e. s ≡ stop.Memory)
     → IfOk t (λ x. q.says (record { status = status_for refusal; text = x.items })) → IsStop q s
 said_stops q refusal (Ok x) s is none says = text_stops q refusal x.items s is says

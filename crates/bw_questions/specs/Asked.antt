@@ -1,5 +1,5 @@
 -- The questions of files, one after another: what each holds, and whether the check accepts it; and the work that is left.
-use Rattle.std.specs.Prelude.{◌≡◌, ◌≢◌, ◌≤◌, ℕ, List, [], ◌++◌, length, Option, None, Some, Ok, Err, codes, IsUtf8}
+use Rattle.std.specs.Prelude.{◌≡◌, ◌≢◌, ◌≤◌, ℕ, Bool, true, false, List, [], ◌++◌, length, Option, None, Some, Ok, Err, codes, IsUtf8}
 use Rattle.std.specs.Str.Lines.{lines}
 use Rattle.bw_check.specs.Accepts.{Accepts, IsCheckFault}
 use Rattle.bw_check.specs.declared.fault.CheckFault.{CheckFault}
@@ -33,6 +33,7 @@ use Rattle.bw_valid.specs.Breaches.{breach}
 use Rattle.bw_valid.specs.declared.breach.Breach.{Breach}
 use Rattle.bw_questions.specs.Behind.{Shown, shown_file, AreShown, behind_syntax, behind_type, blamed_in, behind_fault}
 use Rattle.bw_command.specs.Commands.{command_of}
+use Rattle.bw_questions.specs.Explaining.{IsExplanation}
 use Rattle.bw_questions.specs.FaultLines.{check_text, page_names}
 use Rattle.bw_questions.specs.Lines.{syntax_line, type_line, no_file_line, no_page_line, breach_line, schema_line, format_line, no_texts_line}
 use Rattle.bw_questions.specs.Making.{made_text}
@@ -173,9 +174,29 @@ pub data Work : Type 0 where
 abbrev pub accepted : Ruled → Question Work
 accepted ruled = found (prints (line (codes "accepted")))
 
--- the service of a file, where it is accepted, and no more is asked for
-abbrev pub check_work : Disk → List ℕ → Judging → Question Work
-check_work disk name judging = accepted_file disk name judging None >>= accepted
+-- does the check accept the service by the schema? Where it doesn't, what explains that is said behind its lines.
+abbrev pub examined : Option Shown → Service → Schema → Question Work
+examined how tree by = record {
+  gives = λ work. Accepts tree by × (work ≡ prints (line (codes "accepted")));
+  says = λ said. (fault : CheckFault) × IsCheckFault tree by fault × (fault ≢ checks.Memory) × (drafts : List Draft) × AreShown how drafts
+      × (more : List ℕ) × IsExplanation tree by fault more
+      × (said ≡ record { status = ServiceRefused; text = check_text how (behind_fault how drafts) (page_names tree) fault ++ more });
+}
+
+-- the schema that is named, and then that check
+abbrev pub examined_by : Option Shown → Disk → Option (List ℕ) → Service → Question Work
+examined_by how disk named tree = schema disk named >>= examined how tree
+
+-- the same of the service of a file, which is read before the schema
+abbrev pub examined_file : Disk → List ℕ → Judging → Question Work
+examined_file disk name judging =
+    service_file (shown_file judging.source disk name) disk name
+    >>= examined_by (shown_file judging.source disk name) disk judging.schema
+
+-- the service of a file, where it is accepted, and no more is asked for; or, with true, what explains why it isn't
+abbrev pub check_work : Disk → List ℕ → Judging → Bool → Question Work
+check_work disk name judging false = accepted_file disk name judging None >>= accepted
+check_work disk name judging true = examined_file disk name judging
 
 -- the service of a text, without formats, where it is accepted by the built-in schema
 abbrev pub accepted_text : List ℕ → Question Ruled

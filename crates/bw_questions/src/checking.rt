@@ -1,5 +1,5 @@
 //! Services that the check accepts.
-ghost use Rattle.std.specs.Prelude.{◌≡◌, ◌≤◌, length, None, Some, IfOk, IfSome, IsErrOf, codes};
+ghost use Rattle.std.specs.Prelude.{◌≡◌, ◌≤◌, false, length, None, Some, IfOk, IfSome, IsErrOf, codes};
 ghost use Rattle.bw_lang.specs.declared.limits.TheConstants.{MAX_FILE_BYTES};
 ghost use Rattle.bw_lang.specs.Service.Reads.{Reads};
 ghost use Rattle.bw_out.specs.Causes.{Shows};
@@ -141,7 +141,7 @@ pub fn load_accepted<R: Threads + Sync, F: Files, P: Pulse>(
 ) -> Result<(), Stop>
     requires { AreWorkers judging.now.workers }
     ensures answers { IfSome (F.told files.old) (λ disk.
-        IsAnswer (λ done. prints (line (codes "accepted"))) (check_work disk service.now judging.now) result) }
+        IsAnswer (λ done. prints (line (codes "accepted"))) (check_work disk service.now judging.now false) result) }
     ensures told { F.told files.new ≡ F.told files.old }
     ensures read_fault { Shows (IsErrOf result Stop.ReadFault) (F.faults files.old) (F.faults files.new) }
 {
@@ -218,7 +218,7 @@ fn checked<R: Threads + Sync, P: Pulse>(
 }
 
 /// The names of the templates by their numbers, and behind them those of the wrappers of shown and of last pages.
-fn page_names(alloc: Global, typed: &Typed) -> Result<Words, Memory>
+pub fn page_names(alloc: Global, typed: &Typed) -> Result<Words, Memory>
     ensures { IfOk result (λ names. names ≡ lines.page_names typed.now.service) }
 {
     let mut names = Words::new(alloc);

@@ -72,7 +72,7 @@ fn points_text(alloc: Global, points: u64, sight: &Option<Sight<'_>>) -> Result<
 }
 
 /// A line for each fault, and what is shown behind it.
-fn fault_lines(
+pub fn fault_lines(
     alloc: Global,
     names: &[Text],
     faults: &Faults,

@@ -2,6 +2,7 @@
 #![tactic(auto)]
 
 mod checking;
+mod explaining;
 mod fault_lines;
 mod formats;
 mod judging;
@@ -17,6 +18,7 @@ mod stop;
 mod tools;
 
 pub use checking::{Kept, Served, load_accepted, load_checked, load_kept, made_checked};
+pub use explaining::load_explained;
 pub use fault_lines::push_shown;
 pub use judging::load_valid;
 pub use lighting::load_lights;

@@ -5,7 +5,7 @@
 //! each step by which a new file comes into its place: the program ends, no link that waited holds a byte, and who begins again with
 //! the journal answers what was left.
 //!
-//! With the word `memory` it answers a guest book's requests, checks a service by four workers, shows why one is refused, tells
+//! With the word `memory` it answers a guest book's requests, checks a service by four workers, shows and explains why one is refused, tells
 //! lights, saves sessions, of a journal too, and goes on from them, visits, and serves links beside a journal, which is begun anew or
 //! not, for tools/without_memory. It ends with code 20 where a request for memory was refused and a run ended for it, with 21 where a
 //! request was answered by 503, and with 22 where there was no memory for the trial itself.

@@ -17,66 +17,103 @@ const CALLS_MOST: u64 = 100_000;
 /// The exit code of a run whose file could not be read.
 const READ_FAULT: u8 = 5;
 
-/// The files that no run leaves: a guest book, a request of it, formats of its field, texts, and a script.
-const FILES: [(&str, &[u8]); 5] = [
+/// The exit code of a run whose service is refused.
+const REFUSED: u8 = 3;
+
+/// A request of the guest book.
+const REQUEST: &[u8] = b"GET /visit HTTP/1.1\r\nHost: a\r\n\r\n";
+
+/// The files that no run leaves: a guest book, a service that is refused and the schema that refuses it, a request of the guest
+/// book, formats of its field, texts, and a script.
+const FILES: [(&str, &[u8]); 7] = [
     ("s", GUESTS),
-    ("r", b"GET /visit HTTP/1.1\r\nHost: a\r\n\r\n"),
+    (
+        "b",
+        b"service A { html H = <html><p href=\"x\">x</p></html>; session s() { exit H; } }",
+    ),
+    ("x", b"schema 1\nroot x\nelement x\n"),
+    ("r", REQUEST),
     ("f", b"who [A-Za-z]+\n"),
     ("t", b"who Bo\n"),
     ("v", b"visit\nwho=Bo\n"),
 ];
 
-/// A command, and the file of which a read fails.
+/// A command, the file of which a read fails, and the exit code of a run in which none does.
 #[derive(Clone, Copy)]
 struct Trial {
     words: &'static [&'static str],
     file: &'static str,
+    code: u8,
 }
 
-const TRIALS: [Trial; 11] = [
+/// Words of which two files are read.
+const EXPLAINED: &[&str] = &["check", "b", "--schema", "x", "--explain"];
+
+const TRIALS: [Trial; 13] = [
     Trial {
         words: &["check", "s"],
         file: "s",
+        code: 0,
+    },
+    Trial {
+        words: EXPLAINED,
+        file: "b",
+        code: REFUSED,
+    },
+    Trial {
+        words: EXPLAINED,
+        file: "x",
+        code: REFUSED,
     },
     Trial {
         words: &["light", "f", "t"],
         file: "f",
+        code: 0,
     },
     Trial {
         words: &["light", "f", "t"],
         file: "t",
+        code: 0,
     },
     Trial {
         words: &["replay", "s", "r", "--formats", "f"],
         file: "f",
+        code: 0,
     },
     Trial {
         words: &["replay", "s", "r", "--load", "l"],
         file: "l",
+        code: 0,
     },
     Trial {
         words: &["freeze", "s", "r", "--load", "l"],
         file: "l",
+        code: 0,
     },
     Trial {
         words: &["freeze", "s", "r"],
         file: "r",
+        code: 0,
     },
     Trial {
         words: &["freeze", "s", "--journal", "j"],
         file: "j",
+        code: 0,
     },
     Trial {
         words: &["freeze", "s", "--journal", "k"],
         file: "k",
+        code: 0,
     },
     Trial {
         words: &["serve", "s", "--journal", "k", "--rotate", "1"],
         file: "k",
+        code: 0,
     },
     Trial {
         words: &["visit", "s", "v"],
         file: "v",
+        code: 0,
     },
 ];
 
@@ -91,7 +128,7 @@ struct Left {
 impl Left {
     /// What these runs leave.
     fn new<R: Threads + Sync>(rt: &R, alloc: Global) -> Result<Left, Wrong> {
-        let folder = [whole_file("s", FILES[0].1), whole_file("r", FILES[1].1)];
+        let folder = [whole_file("s", GUESTS), whole_file("r", REQUEST)];
         let saved = told(rt, alloc, &["freeze", "s", "r"], &folder)?.output;
         let journal = left_by(
             rt,
@@ -121,7 +158,7 @@ fn at_its_world<R: Threads + Sync>(
     alloc: Global,
     journal: &[u8],
 ) -> Result<Vec<u8>, Wrong> {
-    let folder = [whole_file("s", FILES[0].1), whole_file("j", journal)];
+    let folder = [whole_file("s", GUESTS), whole_file("j", journal)];
     left_by(
         rt,
         alloc,
@@ -134,8 +171,8 @@ fn at_its_world<R: Threads + Sync>(
 /// A journal behind one more request.
 fn gone_on<R: Threads + Sync>(rt: &R, alloc: Global, journal: &[u8]) -> Result<Vec<u8>, Wrong> {
     let folder = [
-        whole_file("s", FILES[0].1),
-        whole_file("r", FILES[1].1),
+        whole_file("s", GUESTS),
+        whole_file("r", REQUEST),
         whole_file("j", journal),
     ];
     left_by(
@@ -197,7 +234,7 @@ fn try_one<R: Threads + Sync>(
         let got = run_of(rt, alloc, left, trial, &[call])?;
         let (status, is_quiet) = (got.status, got.output.is_empty());
         drop(got);
-        if status == 0 {
+        if status == trial.code {
             return Ok(u32::try_from(call - 1).unwrap_or(0));
         }
         if status != READ_FAULT {

@@ -1,4 +1,4 @@
-//! Want of memory where a refusal is shown, where lights are told, where sessions are saved and loaded, in a visit, and beside a
+//! Want of memory where a refusal is shown and explained, where lights are told, where sessions are saved and loaded, in a visit, and beside a
 //! journal, which goes on or is begun anew: one request for it is refused.
 use crate::beside::{Beside, Kept, keep, left_by};
 use crate::journals::JOURNAL_FAULT;
@@ -9,9 +9,9 @@ use crate::wrongs::Wrong;
 use std::alloc::Global;
 use std::thread::Threads;
 
-/// A service whose page lacks the field that is received.
+/// A service whose page lacks the field that is received, and has an attribute that isn't allowed.
 const LACKING: &[u8] =
-    b"service Lacking { html Ask = <html><p>Name</p></html>; session go() { string x = \"\"; show Ask receive [x=x]; exit Ask; } }";
+    b"service Lacking { html Ask = <html><p href=\"x\">Name</p></html>; session go() { string x = \"\"; show Ask receive [x=x]; exit Ask; } }";
 
 /// Formats, and a text of each light.
 const FORMATS: &[u8] = b"age [0-9][0-9]?\nword (a|b)+c\n";
@@ -23,10 +23,10 @@ const SCRIPT: &[u8] = b"visit\nwho=Bo\n";
 
 const TEXTS: &[u8] = b"age 4\nage\nword abab\nword x\n";
 
-/// Checks a service that is refused and shown, and says what a refused request for memory led to.
+/// Checks a service that is refused, shown and explained, and says what a refused request for memory led to.
 pub fn try_shown<R: Threads + Sync>(rt: &R, alloc: Global) -> Result<Came, Wrong> {
     let folder = [whole_file("s", LACKING)];
-    let words = ["check", "s", "--show-source"];
+    let words = ["check", "s", "--show-source", "--explain"];
     let got = told(rt, alloc, &words, &folder)?;
     let again = told(rt, alloc, &words, &folder)?;
     came_of_words(&got, &again)

@@ -24,7 +24,8 @@ use Rattle.bw_shape.proofs.Nodes.Bools.{fails_at, any_at, all_at, passes_at, sam
 use Rattle.std.proofs.lemmas.Slice.Eq.{bytes_eq-Decides}
 use Rattle.std.proofs.Math.Bool.{and_assoc, or-false}
 
-then_eq : (a b : Ordering) → is_eq (ordering_then a b) ≡ (is_eq a && is_eq b)
+-- two orders one behind the other say equal where both do
+pub then_eq : (a b : Ordering) → is_eq (ordering_then a b) ≡ (is_eq a && is_eq b)
 then_eq Less b = refl
 then_eq Equal b = refl
 then_eq Greater b = refl

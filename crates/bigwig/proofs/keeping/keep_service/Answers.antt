@@ -1,4 +1,4 @@
-use Rattle.std.proofs.Common.{◌∙◌, ap, refl}
+use Rattle.std.proofs.Common.{◌∙◌, ap, inl, refl}
 use Rattle.bw_questions.specs.Asked.{Ruled, Task}
 use Rattle.bw_questions.specs.Behind.{content_of}
 use Rattle.bw_questions.specs.Checks.{IsRuled}
@@ -9,6 +9,7 @@ use Rattle.bigwig.specs.Lent.{seen_of}
 use Rattle.bigwig.specs.Works.{Outside}
 use Rattle.bigwig.proofs.Beside.{closed_told, journal_shows, told_all}
 use Rattle.bigwig.proofs.Causes.{fault_causes}
+use Rattle.bigwig.proofs.HalfBegun.{task_is_no_save}
 use Rattle.bigwig.proofs.keeping.keep_service.Goals as goal
 
 pub returns-in-Err-clause-keeps : goal.returns-in-Err-clause-keeps
@@ -22,7 +23,7 @@ returns-in-Err-clause-keeps g c =
     told_all _ (λ disk. (ruled : Ruled) (x : Task) → IsRuled c.args.kept.served.checked.typed.service c.args.kept.served.formats ruled
     → IsTask g.F.File.Channel.left c.args.task x
     → IsKept ruled c.args.kept.text.items (content_of (disk c.args.name.now)) x o after c.tell_fault.result)
-    (λ disk ruled x is t. failed (record { prints = c.tell_fault.ensures.prints; kept = refl }))
+    (λ disk ruled x is t. failed (task_is_no_save g.F.File.Channel.left c.args.task x t) (record { prints = c.tell_fault.ensures.prints; kept = refl }) (inl c.in-Err.ensures.deeds))
 
 pub returns-in-Ok-clause-keeps : goal.returns-in-Ok-clause-keeps
 returns-in-Ok-clause-keeps g c =

@@ -7,7 +7,7 @@ use Rattle.bigwig.proofs.obeying.obey.Goals as goal
 
 pub returns-in-Check-clause-comes : goal.returns-in-Check-clause-comes
 returns-in-Check-clause-comes g c =
-    of_command _ _ _ _ _ _ c.in-Check.is (speaks_comes _ (λ disk. work disk (Check c.in-Check.service c.in-Check.judging)) _ _ _
+    of_command _ _ _ _ _ _ c.in-Check.is (speaks_comes _ (λ disk. work disk (Check c.in-Check.service c.in-Check.judging c.in-Check.explain)) _ _ _
     (seen_of g.F.Files g.J.Journals g.D.Door g.K.Keys g.W.Channel c.args.lent.now) _ c.check_command.ensures.comes)
 
 pub returns-in-Valid-clause-comes : goal.returns-in-Valid-clause-comes

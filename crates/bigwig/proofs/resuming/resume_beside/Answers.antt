@@ -1,14 +1,18 @@
 use Rattle.std.proofs.Common.{refl, ap, ◌∙◌}
 use Rattle.bw_questions.specs.Asked.Task.{to_answer}
-use Rattle.bigwig.specs.Keeping.IsKept.{failed}
 use Rattle.bigwig.specs.Lent.{seen_of}
 use Rattle.bigwig.specs.Works.{Outside}
 use Rattle.bigwig.proofs.Beside.{begun_kept}
+use Rattle.bigwig.proofs.HalfBegun.{answers_not_saves, half_kept}
 use Rattle.bigwig.proofs.Resumed.{stream_resumed}
 use Rattle.bigwig.proofs.resuming.resume_beside.Goals as goal
 
 pub returns-in-Err-clause-keeps : goal.returns-in-Err-clause-keeps
-returns-in-Err-clause-keeps g c ruled text content bytes is read has = failed (record { prints = c.tell_fault.ensures.prints; kept = refl })
+returns-in-Err-clause-keeps g c ruled text content bytes is read has =
+    half_kept ruled text content (to_answer bytes c.args.stream.most) c.args.server.now.world c.args.opening
+    (record (seen_of g.F.Files g.J.Journals g.D.Door g.K.Keys g.W.Channel c.args.lent.now) { deeds = g.I.Journal.deeds c.args.journal.now }) _
+    c.tell_fault.result (answers_not_saves bytes c.args.stream.most) read c.requires.none c.in-Err.ensures.failed
+    (record { prints = c.tell_fault.ensures.prints; kept = refl })
 
 pub returns-in-Ok-began-clause-keeps : goal.returns-in-Ok-began-clause-keeps
 returns-in-Ok-began-clause-keeps g c ruled text content bytes is read has =

@@ -13,3 +13,4 @@ returns c =
     (c.get_str-7.ensures ∙ first_value-rows f (codes "port")) (c.get_str-8.ensures ∙ first_value-rows f (codes "formats"))
     (c.get_str-9.ensures ∙ first_value-rows f (codes "journal")) (c.get_str-10.ensures ∙ first_value-rows f (codes "load"))
     (c.get_str-11.ensures ∙ first_value-rows f (codes "rotate")) (c.get_str-12.ensures ∙ first_value-rows f (codes "show-source"))
+    (c.get_str-13.ensures ∙ first_value-rows f (codes "explain"))

@@ -18,4 +18,5 @@ returns c =
     let e9 = c.in_ok-c-9.ensures ∙ ap (λ (a : App). with_rule a (option_rule (codes "journal"))) e8 in
     let e10 = c.in_ok-c-10.ensures ∙ ap (λ (a : App). with_rule a (option_rule (codes "load"))) e9 in
     let e11 = c.in_ok-c-11.ensures ∙ ap (λ (a : App). with_rule a (option_rule (codes "rotate"))) e10 in
-    IfOk-weaker c.with_flag.result _ _ (λ r h. h ∙ ap (λ (a : App). with_rule a (flag_rule (codes "show-source"))) e11) c.with_flag.ensures
+    let e12 = c.in_ok-c-12.ensures ∙ ap (λ (a : App). with_rule a (flag_rule (codes "show-source"))) e11 in
+    IfOk-weaker c.with_flag-2.result _ _ (λ r h. h ∙ ap (λ (a : App). with_rule a (flag_rule (codes "explain"))) e12) c.with_flag-2.ensures

@@ -1,4 +1,4 @@
-use Rattle.std.proofs.Common.{ap, sym, ◌∙◌}
+use Rattle.std.proofs.Common.{ap, sym}
 use Rattle.bw_explain.specs.Building.{way_for}
 use Rattle.bw_explain.specs.Ways.{Way}
 use Rattle.bw_explain.proofs.Tying.{made_more, has_more, has_already}

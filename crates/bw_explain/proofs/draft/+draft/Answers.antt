@@ -1,6 +1,7 @@
 use Rattle.std.proofs.Common.{◌≡◌, ◌+◌, ◌<◌, ◌≤◌, ◌==◌, if◌then◌else◌, length, take, refl, ap, sym, ◌∙◌, subst, arith}
 use Rattle.std.proofs.lemmas.List.{take_all}
 use Rattle.std.proofs.lemmas.Result.{on_ok_weaker}
+use Rattle.std.proofs.lemmas.Result.{IfOk-weaker}
 use Rattle.bw_lang.specs.declared.items.Item.{Item}
 use Rattle.bw_lang.specs.Document.Forest.{Forest, none, text, element, forest_size}
 use Rattle.bw_lang.specs.Document.Documents.{append}
@@ -18,9 +19,8 @@ use Rattle.bw_explain.specs.Tables.{size_at}
 use Rattle.bw_explain.specs.Walks.{Runs, Adds, IsDraft, plain_walk, doc_of, from, at, walk, moves_of, move_at, next_reach, item_cost}
 use Rattle.bw_explain.specs.Ways.{ways_at, graph}
 use Rattle.bw_explain.proofs.Drafting.{draft_more, last_base, middle_base, move_of, origin_low, origin_small, item_place}
-use Rattle.bw_explain.proofs.MakingElements.{attrs_fit, words_run, element_run, top_run, inside_run, spot_run}
+use Rattle.bw_explain.proofs.MakingElements.{attrs_fit, words_run, element_run, top_run, inside_run, spot_run, spot_small}
 use Rattle.bw_explain.proofs.MakingDrafts.{draft_begun, flat_is, flat_ready, top_made, inside_made}
-use Rattle.bw_explain.proofs.Placing.{mapped}
 use Rattle.bw_explain.proofs.Walking.{walk_step, elements_step}
 use Rattle.bw_explain.proofs.draft.+draft.Goals as goal
 
@@ -133,21 +133,28 @@ pub make-returns-then-not-is_deep : goal.make-returns-then-not-is_deep
 make-returns-then-not-is_deep t c =
     let w = c.args.walk.now in
     let e = c.args.element.now in
-    mapped c.make_top.result (λ (m : Made) h. top_run w.page w.aim c.args.n c.args.place c.args.from c.args.to e.tag e.attrs e.items (walk_of w) m refl
+    IfOk-weaker c.make_top.result _ _ (λ (m : Made) h. top_run w.page w.aim c.args.n c.args.place c.args.from c.args.to e.tag e.attrs e.items (walk_of w) m refl
     (sym c.if-not-is_deep.ensures) c.requires.small h) c.make_top.ensures
+
+pub make-copy_made-requires : goal.make-copy_made-requires
+make-copy_made-requires t c =
+    let w = c.args.walk.now in
+    let e = c.args.element.now in
+    spot_small w.page w.aim c.args.n c.args.place c.args.from c.args.to e.tag e.attrs e.items (walk_of w) (sym c.if-not-is_deep.ensures) c.requires.small
+    c.if-is_spotted.ensures
 
 pub make-returns-then-is_spotted : goal.make-returns-then-is_spotted
 make-returns-then-is_spotted t c =
     let w = c.args.walk.now in
     let e = c.args.element.now in
-    mapped c.copy_made.result (λ (m : Made) h. spot_run w.page w.aim c.args.n c.args.place c.args.from c.args.to e.tag e.attrs e.items (walk_of w) m refl refl
+    IfOk-weaker c.copy_made.result _ _ (λ (m : Made) h. spot_run w.page w.aim c.args.n c.args.place c.args.from c.args.to e.tag e.attrs e.items (walk_of w) m refl refl
     (sym c.if-not-is_deep.ensures) c.requires.small c.if-is_spotted.ensures c.requires.ready.made h) c.copy_made.ensures
 
 pub make-returns : goal.make-returns
 make-returns t c =
     let w = c.args.walk.now in
     let e = c.args.element.now in
-    mapped c.make_inside.result (λ (m : Made) h. inside_run w.page w.aim c.args.n c.args.place c.args.from c.args.to e.tag e.attrs e.items (walk_of w) m refl
+    IfOk-weaker c.make_inside.result _ _ (λ (m : Made) h. inside_run w.page w.aim c.args.n c.args.place c.args.from c.args.to e.tag e.attrs e.items (walk_of w) m refl
     (sym c.if-not-is_deep.ensures) c.requires.states.1 c.if-is_spotted.ensures h) c.make_inside.ensures
 
 -- ---- an item that takes one state to another

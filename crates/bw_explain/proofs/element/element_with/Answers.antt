@@ -1,6 +1,5 @@
 use Rattle.std.proofs.Common.{◌≤◌, refl, ap, ◌∙◌, subst}
 use Rattle.bw_explain.specs.declared.reach.Reach.{Reach}
-use Rattle.bw_explain.specs.Aims.{top_goals}
 use Rattle.bw_explain.specs.Owns.{own_least}
 use Rattle.bw_explain.specs.Sizes.{plus}
 use Rattle.bw_explain.specs.Walks.{doc_of, from, at, walk}
@@ -20,10 +19,10 @@ draft_items-requires-clause-ready c = record {
 
 pub fill_own-requires-clause-there : goal.fill_own-requires-clause-there
 fill_own-requires-clause-there c = subst (λ v. v ≤ 4097) c.own_least-own.ensures.is
-    (own_within c.own_least-own.result c.at.result c.plus.result c.plus-size.result c.plus-size.ensures.sum c.plus.ensures.sum c.if-size-gt4096.false)
+    (own_within c.own_least-own.result c.at.result c.plus.result c.plus-size.result c.plus-size.ensures.sum c.plus.ensures.sum c.if-size-gt-MAX_SIZE.false)
 
-pub returns-then-size-gt4096 : goal.returns-then-size-gt4096
-returns-then-size-gt4096 c =
+pub returns-then-size-gt-MAX_SIZE : goal.returns-then-size-gt-MAX_SIZE
+returns-then-size-gt-MAX_SIZE c =
     let p = c.args.page.now in
     let r = c.args.rule.now in
     let a = c.args.atom.now in
@@ -32,10 +31,10 @@ returns-then-size-gt4096 c =
     let u = walk (top_walk p r a c.args.tables.now c.known.result c.args.plain.now c.requires.tables k.stay k.first k.second k.whole c.requires.plain)
     c.args.n 0 (from 0) e.items in
     big_is_broken p r a c.args.tables.now c.known.result c.args.plain.now c.requires.tables k.stay k.first k.second k.whole c.requires.plain c.args.n e
-    (record { size = c.plus-size.result; made = record { attrs = c.new.result; items = c.new-then-size-gt4096.result } })
+    (record { size = c.plus-size.result; made = record { attrs = c.new.result; items = c.new-then-size-gt-MAX_SIZE.result } })
     (c.plus-size.ensures.sum ∙ ap (λ z. plus z c.at.result) (c.plus.ensures.sum ∙ ap (plus 1) c.own_least-own.ensures.is)
     ∙ ap (plus (plus 1 (own_least p.nodes.now r a c.args.n e.attrs))) (c.at.ensures.is ∙ ap (λ (x : Reach). at x c.goals.result) c.reach_items-inner.ensures.is
-    ∙ ap (at u) c.goals.ensures.is)) c.plus-size.ensures.most c.if-size-gt4096.true
+    ∙ ap (at u) c.goals.ensures.is)) c.plus-size.ensures.most c.if-size-gt-MAX_SIZE.true
 
 pub returns : goal.returns
 returns c =

@@ -13,7 +13,7 @@ loop-atom-init c = best_none (FindsOne (template_at c.args.page.now.templates.no
 
 pub loop-atom-preserved : goal.loop-atom-preserved
 loop-atom-preserved c =
-    let xs = c.args.ways.now in
+    let xs = c.args.atoms.now in
     let i = c.loop-atom.atom-index in
     let x : Atom = c.atom-item.result in
     let T = template_at c.args.page.now.templates.now in

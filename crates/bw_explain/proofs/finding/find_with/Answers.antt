@@ -1,11 +1,11 @@
 use Rattle.std.proofs.Common.{sym}
 use Rattle.std.proofs.lemmas.Bool.{false≢true}
+use Rattle.std.proofs.lemmas.Result.{IfOk-weaker}
 use Rattle.bw_shape.specs.Nodes.Templates.{template_at}
 use Rattle.bw_explain.specs.Explained.{Finds, spot_of}
 use Rattle.bw_explain.specs.Ways.{graph}
 use Rattle.bw_explain.proofs.Best.{best_at}
 use Rattle.bw_explain.proofs.Numbers.{same_le}
-use Rattle.bw_explain.proofs.Placing.{mapped}
 use Rattle.bw_explain.proofs.finding.find_with.Goals as goal
 
 pub solve-requires-clause-deep : goal.solve-requires-clause-deep
@@ -18,7 +18,7 @@ pub solve-requires-clause-fair : goal.solve-requires-clause-fair
 solve-requires-clause-fair c = record { cost = c.requires.broken.size; made = c.requires.broken.made }
 
 pub returns : goal.returns
-returns c = mapped c.found_at.result (λ f h. best_at (Finds (template_at c.args.page.now.templates.now) (graph c.args.page.now.nodes.now)
+returns c = IfOk-weaker c.found_at.result _ _ (λ f h. best_at (Finds (template_at c.args.page.now.templates.now) (graph c.args.page.now.nodes.now)
     (spot_of c.args.spot.now) c.args.rule.now c.args.atom.now) c.in_ok-tables.tables.first c.args.root f.size f.doc
     (c.in_ok-tables.ensures.first (same_le 1)) h)
     c.found_at.ensures

@@ -1,12 +1,12 @@
 use Rattle.std.proofs.Common.{◌≤◌, length, refl, subst}
 use Rattle.std.specs.List.{list_all}
+use Rattle.std.proofs.lemmas.Result.{IfOk-weaker}
 use Rattle.bw_explain.specs.declared.atom.Atom.TheVariants.{NotAllowed, OtherValue, Absent, Outside}
 use Rattle.bw_explain.specs.Sizes.{capped, may_fill}
 use Rattle.bw_explain.specs.Ways.{ways_at}
 use Rattle.bw_explain.proofs.Breaking.{own_size, failing_broken, absent_broken, outside_broken}
 use Rattle.bw_explain.proofs.Numbers.{if_there}
 use Rattle.bw_explain.proofs.OwnCases.{failing_parts, leaving_parts, other_least, other_broken}
-use Rattle.bw_explain.proofs.Placing.{mapped}
 use Rattle.bw_explain.proofs.own.fill_own.Goals as goal
 
 pub fill_failing-requires-clause-fills : goal.fill_failing-requires-clause-fills
@@ -62,7 +62,7 @@ returns-in-NotAllowed c =
     let r = c.args.rule.now in
     let a = c.args.atom.now in
     let ns = c.args.page.now.nodes.now in
-    mapped c.fill_failing.result (λ b h. (
+    IfOk-weaker c.fill_failing.result _ _ (λ b h. (
       h.0,
       failing_broken r a NotAllowed b c.in-NotAllowed.is refl h.1,
       own_size ns r c.args.n c.args.attrs.now b h.0 a c.requires.there,
@@ -73,7 +73,7 @@ returns-in-OtherValue c =
     let r = c.args.rule.now in
     let a = c.args.atom.now in
     let ns = c.args.page.now.nodes.now in
-    mapped c.fill_failing-in-OtherValue.result (λ b h. (
+    IfOk-weaker c.fill_failing-in-OtherValue.result _ _ (λ b h. (
       h.0,
       failing_broken r a OtherValue b c.in-OtherValue.is refl h.1,
       own_size ns r c.args.n c.args.attrs.now b h.0 a c.requires.there,
@@ -84,7 +84,7 @@ returns-in-Absent c =
     let r = c.args.rule.now in
     let a = c.args.atom.now in
     let ns = c.args.page.now.nodes.now in
-    mapped c.fill_leaving.result (λ b h. (
+    IfOk-weaker c.fill_leaving.result _ _ (λ b h. (
       h.0,
       absent_broken r a c.in-Absent.name b c.in-Absent.is h.1,
       own_size ns r c.args.n c.args.attrs.now b h.0 a c.requires.there,
@@ -95,7 +95,7 @@ returns-in-Outside c =
     let r = c.args.rule.now in
     let a = c.args.atom.now in
     let ns = c.args.page.now.nodes.now in
-    mapped c.fill_leaving-in-Outside.result (λ b h. (
+    IfOk-weaker c.fill_leaving-in-Outside.result _ _ (λ b h. (
       h.0,
       outside_broken r a c.in-Outside.name c.in-Outside.field-1 b c.in-Outside.is h.1,
       own_size ns r c.args.n c.args.attrs.now b h.0 a c.requires.there,
@@ -107,7 +107,7 @@ returns-in_default c =
     let r = c.args.rule.now in
     let a = c.args.atom.now in
     let ns = c.args.page.now.nodes.now in
-    mapped c.fill_attrs.result (λ b h. (
+    IfOk-weaker c.fill_attrs.result _ _ (λ b h. (
       h.0,
       other_broken ns r c.args.n c.args.attrs.now a b d.not-NotAllowed d.not-OtherValue d.not-Absent d.not-Outside,
       own_size ns r c.args.n c.args.attrs.now b h.0 a c.requires.there,

@@ -5,7 +5,8 @@ use Rattle.bw_lang.specs.Document.Forest.{none, element}
 use Rattle.bw_lang.specs.Document.View.{before}
 use Rattle.bw_judge.specs.Faults.{At, here, inside}
 use Rattle.bw_explain.specs.Places.{IsThere}
-use Rattle.bw_explain.proofs.Placing.{element_among, mapped_match}
+use Rattle.std.proofs.lemmas.Result.{MatchResult-weaker}
+use Rattle.bw_explain.proofs.Placing.{element_among}
 use Rattle.bw_explain.proofs.Walking.{elements_step}
 use Rattle.bw_explain.proofs.places.+at.Goals as goal
 
@@ -29,11 +30,10 @@ pub item_element-returns-else-place-eq1 : goal.item_element-returns-else-place-e
 item_element-returns-else-place-eq1 t c =
     let e = c.in-Element.element in
     let p : 1 + (c.args.place - 1) ≡ c.args.place = let r = c.requires in omega (arith, r) in
-    mapped_match c.element_at.result
+    MatchResult-weaker c.element_at.result c.element_at.ensures
     (λ n h. subst (λ (x : Item). IsThere (before x none) c.args.place n.now) (sym c.in-Element.is)
     (subst (λ k. IsThere (element e.tag e.attrs e.items none) k n.now) p (inside h)))
     (λ r h. (let a = ap (λ (x : Item). elements (before x none)) c.in-Element.is in let b = h.0 in let q = p in omega (arith, a, b, q), h.1))
-    c.element_at.ensures
 
 pub element_at-returns-in-Ok : goal.element_at-returns-in-Ok
 element_at-returns-in-Ok t c = subst (λ f. IsThere f c.args.place c.in-Ok.found.now) c.as_slice-item-items.ensures

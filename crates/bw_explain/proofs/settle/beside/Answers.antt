@@ -1,7 +1,7 @@
 use Rattle.std.proofs.Common.{ap}
 use Rattle.bw_explain.specs.Aims.{aim_of, cost_of}
 use Rattle.bw_explain.specs.Tables.{size_at}
-use Rattle.bw_explain.specs.Walks.{Known, Walk}
+use Rattle.bw_explain.specs.Walks.{Known}
 use Rattle.bw_explain.proofs.Given.{with_is}
 use Rattle.bw_explain.proofs.settle.beside.Goals as goal
 

@@ -20,4 +20,4 @@ returns-clause-is c =
     ∙ value_is w b t e.page e.aim e.states.0 e.states.1 n c.items.result.now e.walk
     (c.items.ensures ∙ ap (λ (p : Page). template_at p.templates.now n) e.page)
     ∙ sym (is_above (size_at t n) (seek_value w.page.templates.now (walk_of w) w.low w.high (size_at t) n)
-    (let s = c.size.ensures.size in let l = c.if-size-le4097.false in omega (arith, s, l)))
+    (let s = c.size.ensures.size in let l = c.if-size-le-PAST.false in omega (arith, s, l)))

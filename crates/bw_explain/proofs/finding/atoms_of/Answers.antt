@@ -1,10 +1,10 @@
 use Rattle.std.proofs.Common.{◌≡◌, ◌==◌, Bool, true, false, if◌then◌else◌, List, [], map, ne_eqb, refl, ap, sym, ◌∙◌}
 use Rattle.std.proofs.lemmas.Bool.{false≢true}
+use Rattle.std.proofs.lemmas.Result.{IfOk-weaker}
 use Rattle.bw_explain.specs.declared.atom.Atom.{Atom}
 use Rattle.bw_explain.specs.declared.atom.Atom.TheVariants.{Absent}
 use Rattle.bw_explain.specs.Atoms.{atoms_of}
-use Rattle.bw_explain.proofs.Placing.{mapped}
-use Rattle.bw_explain.proofs.finding.ways_of.Goals as goal
+use Rattle.bw_explain.proofs.finding.atoms_of.Goals as goal
 
 none_of : (b c d e f g : Bool) (A B C D E F : List Atom) → b ≡ false → c ≡ false → d ≡ false → e ≡ false → f ≡ false → g ≡ false
     → (if b then A else if c then B else if d then C else if e then D else if f then E else if g then F else []) ≡ []
@@ -18,30 +18,30 @@ none_of false false false false false false A B C D E F h i j k l m = refl
 
 pub returns-then-number-eq1 : goal.returns-then-number-eq1
 returns-then-number-eq1 c =
-    mapped c.one_way.result (λ v h. h ∙ ap (λ n. atoms_of n c.args.rule.now) (sym c.if-number-eq1.true)) c.one_way.ensures
+    IfOk-weaker c.one_atom.result _ _ (λ v h. h ∙ ap (λ n. atoms_of n c.args.rule.now) (sym c.if-number-eq1.true)) c.one_atom.ensures
 
 pub returns-then-number-eq2 : goal.returns-then-number-eq2
 returns-then-number-eq2 c =
-    mapped c.absent_of.result (λ v h. h ∙ ap (map Absent) c.as_slice.ensures ∙ ap (λ n. atoms_of n c.args.rule.now) (sym c.if-number-eq2.true))
+    IfOk-weaker c.absent_of.result _ _ (λ v h. h ∙ ap (map Absent) c.as_slice.ensures ∙ ap (λ n. atoms_of n c.args.rule.now) (sym c.if-number-eq2.true))
     c.absent_of.ensures
 
 pub returns-then-number-eq3 : goal.returns-then-number-eq3
 returns-then-number-eq3 c =
-    mapped c.one_way-then-number-eq3.result (λ v h. h ∙ ap (λ n. atoms_of n c.args.rule.now) (sym c.if-number-eq3.true))
-    c.one_way-then-number-eq3.ensures
+    IfOk-weaker c.one_atom-then-number-eq3.result _ _ (λ v h. h ∙ ap (λ n. atoms_of n c.args.rule.now) (sym c.if-number-eq3.true))
+    c.one_atom-then-number-eq3.ensures
 
 pub returns-then-number-eq4 : goal.returns-then-number-eq4
 returns-then-number-eq4 c =
-    mapped c.one_way-then-number-eq4.result (λ v h. h ∙ ap (λ n. atoms_of n c.args.rule.now) (sym c.if-number-eq4.true))
-    c.one_way-then-number-eq4.ensures
+    IfOk-weaker c.one_atom-then-number-eq4.result _ _ (λ v h. h ∙ ap (λ n. atoms_of n c.args.rule.now) (sym c.if-number-eq4.true))
+    c.one_atom-then-number-eq4.ensures
 
 pub returns-then-number-eq5 : goal.returns-then-number-eq5
 returns-then-number-eq5 c =
-    mapped c.text_ways.result (λ v h. h ∙ ap (λ n. atoms_of n c.args.rule.now) (sym c.if-number-eq5.true)) c.text_ways.ensures
+    IfOk-weaker c.text_atoms.result _ _ (λ v h. h ∙ ap (λ n. atoms_of n c.args.rule.now) (sym c.if-number-eq5.true)) c.text_atoms.ensures
 
 pub returns-then-number-eq7 : goal.returns-then-number-eq7
 returns-then-number-eq7 c =
-    mapped c.need_ways.result (λ v h. h ∙ ap (λ n. atoms_of n c.args.rule.now) (sym c.if-number-eq7.true)) c.need_ways.ensures
+    IfOk-weaker c.need_atoms.result _ _ (λ v h. h ∙ ap (λ n. atoms_of n c.args.rule.now) (sym c.if-number-eq7.true)) c.need_atoms.ensures
 
 pub returns : goal.returns
 returns c =

@@ -1,7 +1,0 @@
-use Rattle.std.proofs.Common.{◌≡◌, drop}
-use Rattle.bw_schema.specs.NeedsView.{needs}
-use Rattle.bw_explain.specs.Splits.{some_split}
-use Rattle.bw_explain.proofs.scene.Scene.some_split.Given as goal
-
-abbrev pub invariant-loop-need : goal.invariant-loop-need
-invariant-loop-need l = some_split l.self l.needs l.attrs l.items ≡ some_split l.self (needs (drop l.need-index l.need-items)) l.attrs l.items
