@@ -1,7 +1,7 @@
 //! What a command asks for is done.
 ghost use Rattle.std.specs.Prelude.{◌≢◌, IfSome};
 ghost use Rattle.bigwig.specs.Asked.{work};
-ghost use Rattle.bw_command.specs.Commands.{AsksApart, AsksToReplay, AsksToServe, IsInRange};
+ghost use Rattle.bw_command.specs.Commands.{AsksToFreeze, AsksToReplay, AsksToServe, AsksToVisit, IsInRange};
 ghost use Rattle.bigwig.specs.Lent.{AreSame, HasCauses, faults_of, seen_of};
 ghost use Rattle.bigwig.specs.Outcomes.{Comes};
 
@@ -56,14 +56,13 @@ pub fn obey<
         Command::Light { formats, texts } => {
             light_command(tools.alloc, formats, texts, lent.files, lent.out)
         }
-        Command::Freeze { .. } | Command::Preserve { .. } | Command::Visit { .. } => {
-            obey_apart(tools, command, lent)
-        }
+        Command::Freeze { .. } | Command::Preserve { .. } => obey_freeze(tools, command, lent),
+        Command::Visit { .. } => obey_visit(tools, command, lent),
     }
 }
 
-/// `freeze` and `visit`: saves what waits behind requests or in the world of a journal, or answers a scripted user.
-fn obey_apart<
+/// `freeze`: saves what waits behind requests, or in the world that a journal brings back.
+fn obey_freeze<
     R: Threads + Sync,
     F: Files,
     J: Journals,
@@ -74,7 +73,7 @@ fn obey_apart<
     L: Ledger,
 >(tools: &Tools<R, P>, command: &Command, lent: &mut Lent<F, J, D, K, W, Steps<L>>) -> Status
     requires range { IsInRange command.now }
-    requires apart { AsksApart command.now }
+    requires freeze { AsksToFreeze command.now }
     ensures comes { IfSome (F.told lent.old.files.now) (λ disk. Comes (work disk command.now)
         (seen_of F.Files J.Journals D.Door K.Keys W.Channel lent.old) (seen_of F.Files J.Journals D.Door K.Keys W.Channel lent.new) result) }
     ensures not_usage { result ≢ Status.Usage }
@@ -110,6 +109,30 @@ fn obey_apart<
             };
             preserve_command(tools, named, journal, lent)
         }
+        _ => unreachable!(),
+    }
+}
+
+/// `visit`: answers a scripted user.
+fn obey_visit<
+    R: Threads + Sync,
+    F: Files,
+    J: Journals,
+    D: WideDoor,
+    K: Keys,
+    W: Sink,
+    P: Pulse,
+    L: Ledger,
+>(tools: &Tools<R, P>, command: &Command, lent: &mut Lent<F, J, D, K, W, Steps<L>>) -> Status
+    requires range { IsInRange command.now }
+    requires visit { AsksToVisit command.now }
+    ensures comes { IfSome (F.told lent.old.files.now) (λ disk. Comes (work disk command.now)
+        (seen_of F.Files J.Journals D.Door K.Keys W.Channel lent.old) (seen_of F.Files J.Journals D.Door K.Keys W.Channel lent.new) result) }
+    ensures not_usage { result ≢ Status.Usage }
+    ensures causes { HasCauses result (faults_of F.Files J.Journals D.Door W.Channel lent.old) (faults_of F.Files J.Journals D.Door W.Channel lent.new) }
+    ensures same { AreSame lent.old lent.new }
+{
+    match command {
         Command::Visit {
             service,
             script,

@@ -224,12 +224,16 @@ AsksToReplay (Replay service requests judging formats load most) = ⊤
 AsksToReplay (Resume service requests judging formats journal most) = ⊤
 AsksToReplay _ = ⊥
 
--- the command is `freeze`, beside a journal or not, or `visit`
-abbrev pub AsksApart : Command → Type 0
-AsksApart (Freeze service requests judging formats load most) = ⊤
-AsksApart (Preserve service judging formats journal) = ⊤
-AsksApart (Visit service script judging formats) = ⊤
-AsksApart _ = ⊥
+-- the command is `freeze`, of requests or of a journal
+abbrev pub AsksToFreeze : Command → Type 0
+AsksToFreeze (Freeze service requests judging formats load most) = ⊤
+AsksToFreeze (Preserve service judging formats journal) = ⊤
+AsksToFreeze _ = ⊥
+
+-- the command is `visit`
+abbrev pub AsksToVisit : Command → Type 0
+AsksToVisit (Visit service script judging formats) = ⊤
+AsksToVisit _ = ⊥
 
 -- the command is `serve`, beside a journal or not
 abbrev pub AsksToServe : Command → Type 0

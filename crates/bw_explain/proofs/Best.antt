@@ -8,6 +8,7 @@ use Rattle.bw_lang.specs.Document.Forest.{Forest}
 use Rattle.bw_lang.specs.Document.Documents.{close}
 use Rattle.bw_schema.specs.declared.rules.Rule.{Rule}
 use Rattle.bw_sum.specs.Graph.{Graph}
+use Rattle.bw_explain.specs.declared.sizes.TheConstants.{MAX_SIZE, PAST, NONE}
 use Rattle.bw_explain.specs.declared.atom.Atom.{Atom}
 use Rattle.bw_explain.specs.declared.explained.Explained.TheVariants as answers
 use Rattle.bw_explain.specs.declared.finding.Found.{Found}
@@ -28,7 +29,7 @@ is_not_less s m h = elim (test_says s m) [ inl k ↦ absurd (false≢true (sym h
 pub best_at : (Has : ℕ → Forest → Type 0) (t : Table) (n s : ℕ) (d : Forest) → Solved Has t → IsFoundAt t n s d → IsBest (Has n) s d
 best_at Has t n s d is f = record {
   least = subst (λ x. IsLeast (Has n) x) (sym f.0) (is.least n);
-  doc = λ l. subst (λ e. Has n e × (size e ≤ s)) (sym f.1) (let k = is.doc n (subst (λ x. x ≤ 4096) f.0 l) in
+  doc = λ l. subst (λ e. Has n e × (size e ≤ s)) (sym f.1) (let k = is.doc n (subst (λ x. x ≤ MAX_SIZE) f.0 l) in
       (k.0, subst (λ x. size (doc_at t n) ≤ x) (sym f.0) k.1));
 }
 
@@ -40,7 +41,7 @@ best_same Has Also s d f g is = record {
   doc = λ l. let k = is.doc l in (f d k.0, k.1);
 }
 
-pub best_none : (Has : Forest → Type 0) (d : Forest) → ((e : Forest) → Has e → ⊥) → IsBest Has 4098 d
+pub best_none : (Has : Forest → Type 0) (d : Forest) → ((e : Forest) → Has e → ⊥) → IsBest Has NONE d
 best_none Has d f = record {
   least = record { low = λ e h. absurd (f e h); high = λ l. absurd (omega (arith, l)) };
   doc = λ l. absurd (omega (arith, l));
@@ -96,17 +97,17 @@ best_more templates G p r xs a n best next new b q e =
     q))))
 
 pub best_explained : (Has : Forest → Type 0) (s : ℕ) (d : Forest) → IsBest Has s d → IsAnswer Has (answer_of s d)
-best_explained Has s d is = by (nat_lt 4097 s) (nat_lt 4096 s) refl refl
+best_explained Has s d is = by (nat_lt PAST s) (nat_lt MAX_SIZE s) refl refl
   where
-    by : (b c : Bool) → nat_lt 4097 s ≡ b → nat_lt 4096 s ≡ c → IsAnswer Has
+    by : (b c : Bool) → nat_lt PAST s ≡ b → nat_lt MAX_SIZE s ≡ c → IsAnswer Has
         (if b then answers.NoUnfolding else if c then answers.TooBig else answers.Page (record { items = close d }))
-    by true c e g = none_there (λ x h. let k = is.least.low x h in let l = is_less 4097 s e in absurd (omega (arith, k, l)))
+    by true c e g = none_there (λ x h. let k = is.least.low x h in let l = is_less PAST s e in absurd (omega (arith, k, l)))
     by false true e g =
-        let l = is_not_less 4097 s e in
-        let o = is_less 4096 s g in
+        let l = is_not_less PAST s e in
+        let o = is_less MAX_SIZE s g in
         let k = is.least.high l in
         all_big k.0 k.1 (λ y h. let q = is.least.low y h in omega (arith, q, o))
     by false false e g =
-        let l = is_not_less 4096 s g in
+        let l = is_not_less MAX_SIZE s g in
         let k = is.doc l in
         page_of k.0 (let q = k.1 in omega (arith, q, l)) (λ y h. let q = k.1 in let r = is.least.low y h in omega (arith, q, r))

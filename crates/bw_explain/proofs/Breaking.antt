@@ -13,6 +13,7 @@ use Rattle.bw_shape.specs.Nodes.Templates.{template_at}
 use Rattle.bw_sum.specs.Graph.{Graph}
 use Rattle.bw_sum.specs.Unfolding.{FillsAttrs, Fills, Unfolds}
 use Rattle.bw_lang.specs.declared.items.Element.{Element}
+use Rattle.bw_explain.specs.declared.sizes.TheConstants.{MAX_SIZE, PAST, NONE}
 use Rattle.bw_explain.specs.declared.aim.Made.{Made}
 use Rattle.bw_explain.specs.declared.element.Whole.{Whole}
 use Rattle.bw_explain.specs.declared.atom.Atom.{Atom}
@@ -87,10 +88,10 @@ module _ (nodes : List (List Way)) (r : Rule) where
 
 -- what was filled has the least number
 module _ (nodes : List (List Way)) (r : Rule) (n : ℕ) (attrs b : List Attr) (fills : FillsAttrs (graph nodes) n attrs b) where
-  counted : (c : Bool) → if_so c (capped (length attrs)) ≤ 4097 → capped (length b) ≡ if_so c (capped (length attrs))
+  counted : (c : Bool) → if_so c (capped (length attrs)) ≤ PAST → capped (length b) ≡ if_so c (capped (length attrs))
   counted c l = ap capped (fills_attrs nodes fills).1 ∙ sym (if_there c (capped (length attrs)) l).1
 
-  pub own_size : (a : Atom) → own_least nodes r a n attrs ≤ 4097 → capped (length b) ≡ own_least nodes r a n attrs
+  pub own_size : (a : Atom) → own_least nodes r a n attrs ≤ PAST → capped (length b) ≡ own_least nodes r a n attrs
   own_size NotAllowed l = counted _ l
   own_size OtherValue l = counted _ l
   own_size (Absent x) l = counted _ l
@@ -132,16 +133,16 @@ module _ (templates : List Forest) (nodes : List (List Way)) (r : Rule) (a : Ato
     (each_is : (x y m : ℕ) → x ≤ y → y ≤ top_goals a
     → IsLeast (Runs (template_at templates) (graph nodes) (top_aim r a) m 0 x (template_at templates m) y) (known_at known x y m)) where
   abbrev u : Walk
-  u = record { aim = top_aim r a; nodes = nodes; plain = plain; known = known; cost = 4098 }
+  u = record { aim = top_aim r a; nodes = nodes; plain = plain; known = known; cost = NONE }
 
   abbrev inner : ℕ → Forest → ℕ
   inner n t = at (walk u n 0 (from 0) t) (top_goals a)
 
   inner_least : (n : ℕ) (t : Forest) → IsLeast (λ d. Runs (template_at templates) (graph nodes) (top_aim r a) n 0 0 t (top_goals a) d) (inner n t)
   inner_least n t = record {
-    low = λ d h. unbound (inner n t) (size d) (runs_low templates u 0 (top_goals a) (goals_most a) (λ o. refl) 4098
+    low = λ d h. unbound (inner n t) (size d) (runs_low templates u 0 (top_goals a) (goals_most a) (λ o. refl) NONE
         (λ o. flat_low templates nodes plain (λ m. (plain_is m).low)) (λ b j q f g. absurd (false≢true g)) (λ x y m lo le hi. inl ((each_is x y m le hi).low))
-        h (omega arith) (same_le (top_goals a)) (from 0) 0 (begin_low 0 4098 refl));
+        h (omega arith) (same_le (top_goals a)) (from 0) 0 (begin_low 0 NONE refl));
     high = λ l. walk_there templates u 0 (top_goals a) (goals_most a) (λ o. refl) (λ o. flat_there templates nodes plain (λ m. (plain_is m).high))
         (λ c. absurd (omega (arith, c))) (λ x y m lo le hi. (each_is x y m le hi).high) n 0 t l;
   }
@@ -160,9 +161,9 @@ module _ (templates : List Forest) (nodes : List (List Way)) (r : Rule) (a : Ato
         ((inner_least n t).low j (told_runs (top_aim r a) (template_at templates) (graph nodes) refl f 0 0 (top_goals a) k.1));
     high = λ l.
         let own = own_least nodes r a n attrs in
-        let b = (own_is nodes r a).high n attrs (right_of 1 own 4097 (omega arith) (left_of (plus 1 own) (inner n t) 4097 (omega arith) l (omega arith))
+        let b = (own_is nodes r a).high n attrs (right_of 1 own PAST (omega arith) (left_of (plus 1 own) (inner n t) PAST (omega arith) l (omega arith))
         (omega arith)) in
-        let j = (inner_least n t).high (right_of (plus 1 own) (inner n t) 4097 (omega arith) l (omega arith)) in (
+        let j = (inner_least n t).high (right_of (plus 1 own) (inner n t) PAST (omega arith) l (omega arith)) in (
           b.0,
           (
             j.0,
@@ -174,25 +175,25 @@ module _ (templates : List Forest) (nodes : List (List Way)) (r : Rule) (a : Ato
         );
   })
 
-  pub made_is : (n : ℕ) (attrs : List Attr) (t : Forest) (v : ℕ) (m : Made) → v ≡ plus (plus 1 (own_least nodes r a n attrs)) (inner n t) → v ≤ 4096
+  pub made_is : (n : ℕ) (attrs : List Attr) (t : Forest) (v : ℕ) (m : Made) → v ≡ plus (plus 1 (own_least nodes r a n attrs)) (inner n t) → v ≤ MAX_SIZE
       → FillsAttrs (graph nodes) n attrs m.attrs → own_broken r a m.attrs ≡ true → capped (length m.attrs) ≡ own_least nodes r a n attrs
       → Runs (template_at templates) (graph nodes) (top_aim r a) n 0 0 t (top_goals a) m.items → size m.items ≤ inner n t
       → IsElement (λ b j. FillsAttrs (graph nodes) n attrs b × Fills (template_at templates) (graph nodes) n t j × (is_broken r a b j ≡ true)) v m
   made_is n attrs t v m e l q h c run s = record {
     fit = (q, runs_fill (template_at templates) (graph nodes) (top_aim r a) (λ c i. refl) run, filled_broken n m.attrs m.items h run);
     most = subst (λ w. 1 + length m.attrs + size m.items ≤ w) (sym e)
-        (own_exact (own_least nodes r a n attrs) (inner n t) (length m.attrs) (size m.items) (subst (λ w. w ≤ 4096) e l) (sym c) s);
+        (own_exact (own_least nodes r a n attrs) (inner n t) (length m.attrs) (size m.items) (subst (λ w. w ≤ MAX_SIZE) e l) (sym c) s);
   }
 
   -- of what a walk over its items drafted
   pub drafted_is : (n : ℕ) (attrs : List Attr) (t : Forest) (v : ℕ) (m : Made) (high : ℕ) (doc : ℕ → Forest) → high ≡ top_goals a
-      → v ≡ plus (plus 1 (own_least nodes r a n attrs)) (inner n t) → v ≤ 4096 → FillsAttrs (graph nodes) n attrs m.attrs → own_broken r a m.attrs ≡ true
+      → v ≡ plus (plus 1 (own_least nodes r a n attrs)) (inner n t) → v ≤ MAX_SIZE → FillsAttrs (graph nodes) n attrs m.attrs → own_broken r a m.attrs ≡ true
       → capped (length m.attrs) ≡ own_least nodes r a n attrs
       → IsDraft (template_at templates) (graph nodes) (top_aim r a) n 0 0 high t (walk u n 0 (from 0) t) doc → m.items ≡ doc high
       → IsElement (λ b j. FillsAttrs (graph nodes) n attrs b × Fills (template_at templates) (graph nodes) n t j × (is_broken r a b j ≡ true)) v m
   drafted_is n attrs t v m high doc g e l q h c draft same_doc =
-      let small = right_of (plus 1 (own_least nodes r a n attrs)) (inner n t) 4096 (omega arith) (subst (λ w. w ≤ 4096) e l) (omega arith) in
-      let d = draft high (same_le high) (subst (λ y. at (walk u n 0 (from 0) t) y ≤ 4096) (sym g) small) in
+      let small = right_of (plus 1 (own_least nodes r a n attrs)) (inner n t) MAX_SIZE (omega arith) (subst (λ w. w ≤ MAX_SIZE) e l) (omega arith) in
+      let d = draft high (same_le high) (subst (λ y. at (walk u n 0 (from 0) t) y ≤ MAX_SIZE) (sym g) small) in
       made_is n attrs t v m e l q h c
       (subst (λ y. Runs (template_at templates) (graph nodes) (top_aim r a) n 0 0 t y m.items) g
       (subst (Runs (template_at templates) (graph nodes) (top_aim r a) n 0 0 t high) (sym same_doc) d.0))
@@ -252,12 +253,12 @@ module _ (p : Page) (r : Rule) (a : Atom) (t : Tables) (k : Lent) (flat : Table)
     (first : k.first.now ≡ t.first) (second : k.second.now ≡ t.second) (whole : k.whole.now ≡ t.whole)
     (plain : Solved (λ m d. Unfolds (template_at p.templates.now) (graph p.nodes.now) m d) flat) where
   abbrev pub top_walk : Walk
-  top_walk = record { aim = top_aim r a; nodes = p.nodes.now; plain = size_at flat; known = known_of k; cost = 4098 }
+  top_walk = record { aim = top_aim r a; nodes = p.nodes.now; plain = size_at flat; known = known_of k; cost = NONE }
 
   abbrev pub IsSize : ℕ → Element → ℕ → Type 0
   IsSize n e v = v ≡ plus (plus 1 (own_least p.nodes.now r a n e.attrs)) (at (walk top_walk n 0 (from 0) e.items) (top_goals a))
 
-  pub big_is_broken : (n : ℕ) (e : Element) (w : Whole) → IsSize n e w.size → w.size ≤ 4098 → 4096 < w.size → IsBroken p r a n e w
+  pub big_is_broken : (n : ℕ) (e : Element) (w : Whole) → IsSize n e w.size → w.size ≤ NONE → MAX_SIZE < w.size → IsBroken p r a n e w
   big_is_broken n e w s m h = record {
     size = cost_is p.templates.now p.nodes.now r a (size_at flat) (known_of k) plain.least (lent_least p r a t k tops stay first second whole) n e.attrs e.items
         w.size s;
@@ -265,7 +266,7 @@ module _ (p : Page) (r : Rule) (a : Atom) (t : Tables) (k : Lent) (flat : Table)
     made = λ l. absurd (omega (arith, l, h));
   }
 
-  pub made_is_broken : (n : ℕ) (e : Element) (w : Whole) (high : ℕ) (doc : ℕ → Forest) → IsSize n e w.size → w.size ≤ 4098 → high ≡ top_goals a
+  pub made_is_broken : (n : ℕ) (e : Element) (w : Whole) (high : ℕ) (doc : ℕ → Forest) → IsSize n e w.size → w.size ≤ NONE → high ≡ top_goals a
       → FillsAttrs (graph p.nodes.now) n e.attrs w.made.attrs × (own_broken r a w.made.attrs ≡ true)
       × (capped (length w.made.attrs) ≡ own_least p.nodes.now r a n e.attrs)
       → IsDraft (template_at p.templates.now) (graph p.nodes.now) (top_aim r a) n 0 0 high e.items (walk top_walk n 0 (from 0) e.items) doc

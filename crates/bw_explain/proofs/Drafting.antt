@@ -5,6 +5,7 @@ use Rattle.bw_lang.specs.Document.Forest.{Forest, none}
 use Rattle.bw_lang.specs.Document.Documents.{append, elements}
 use Rattle.bw_lang.specs.Document.View.{forest, before}
 use Rattle.bw_sum.specs.Graph.{Graph}
+use Rattle.bw_explain.specs.declared.sizes.TheConstants.{MAX_SIZE}
 use Rattle.bw_explain.specs.declared.reach.Moves.{Moves}
 use Rattle.bw_explain.specs.declared.reach.Reach.{Reach}
 use Rattle.bw_explain.specs.Sizes.{size, plus}
@@ -24,13 +25,13 @@ pub record Grown (templates : ℕ → Forest) (G : Graph) (A : Aim) (n j : ℕ) 
 
 pub draft_step : (templates : ℕ → Forest) (G : Graph) (A : Aim) (n k j x high : ℕ) (t item : Forest) (r new : Reach) (f : ℕ → ℕ → ℕ) (doc out : ℕ → Forest)
     → j ≡ k + elements t → IsDraft templates G A n k x high t r doc
-    → ((y : ℕ) → y ≤ high → at new y ≤ 4096 → Grown templates G A n j item r new f doc y (out y))
+    → ((y : ℕ) → y ≤ high → at new y ≤ MAX_SIZE → Grown templates G A n j item r new f doc y (out y))
     → IsDraft templates G A n k x high (append t item) new out
 draft_step templates G A n k j x high t item r new f doc out place draft grown y h l =
     let g = grown y h l in
-    let s : plus (at r g.origin) (f g.origin y) ≤ 4096 = subst (λ v. v ≤ 4096) g.least l in
+    let s : plus (at r g.origin) (f g.origin y) ≤ MAX_SIZE = subst (λ v. v ≤ MAX_SIZE) g.least l in
     let b = g.below in
-    let d = draft g.origin (omega (arith, b, h)) (left_of (at r g.origin) (f g.origin y) 4096 (omega arith) s (omega arith)) in
+    let d = draft g.origin (omega (arith, b, h)) (left_of (at r g.origin) (f g.origin y) MAX_SIZE (omega arith) s (omega arith)) in
     let a = g.adds in (
       subst (λ z. Runs templates G A n k x (append t item) y z) (sym a.behind)
           (both d.0 (subst (λ i. Runs templates G A n i g.origin item y a.some) place a.has)),
@@ -72,7 +73,7 @@ module _ (templates : ℕ → Forest) (G : Graph) (A : Aim) (n k j x high : ℕ)
   new = next_reach r (moves_of f)
 
   abbrev Grows : ℕ → ℕ → Forest → Forest → Type 0
-  Grows o y old out = y ≤ high → at new y ≤ 4096 → Adds (λ e. Runs templates G A n j o item y e) (f o y) old out
+  Grows o y old out = y ≤ high → at new y ≤ MAX_SIZE → Adds (λ e. Runs templates G A n j o item y e) (f o y) old out
 
   -- the documents of all states are those for one item more
   pub draft_more : one ≤ 1 → two ≤ 2 → at new 1 ≡ plus (at r one) (f one 1) → at new 2 ≡ plus (at r two) (f two 2) → Grows 0 0 start start2
@@ -80,7 +81,7 @@ module _ (templates : ℕ → Forest) (G : Graph) (A : Aim) (n k j x high : ℕ)
       → IsDraft templates G A n k x high (append t item) new (doc_of start2 middle2 last2)
   draft_more b c d e g h i = draft_step templates G A n k j x high t item r new f (doc_of start middle last) (doc_of start2 middle2 last2) place draft grown
     where
-      grown : (y : ℕ) → y ≤ high → at new y ≤ 4096 → Grown templates G A n j item r new f (doc_of start middle last) y (doc_of start2 middle2 last2 y)
+      grown : (y : ℕ) → y ≤ high → at new y ≤ MAX_SIZE → Grown templates G A n j item r new f (doc_of start middle last) y (doc_of start2 middle2 last2 y)
       grown zero a l = record { origin = 0; below = omega arith; least = refl; adds = g a l }
       grown (suc zero) a l = record { origin = one; below = b; least = d; adds = h a l }
       grown (suc (suc zero)) a l = record { origin = two; below = c; least = e; adds = i a l }
@@ -88,16 +89,16 @@ module _ (templates : ℕ → Forest) (G : Graph) (A : Aim) (n k j x high : ℕ)
 
 -- the state from which a document that isn't too big comes isn't below the first
 pub origin_low : (templates : ℕ → Forest) (G : Graph) (A : Aim) (n k x low high o y c v : ℕ) (t : Forest) (r : Reach) (doc : ℕ → Forest) → low ≤ x
-    → IsDraft templates G A n k x high t r doc → v ≡ plus (at r o) c → v ≤ 4096 → o ≤ y → y ≤ high → low ≤ o
+    → IsDraft templates G A n k x high t r doc → v ≡ plus (at r o) c → v ≤ MAX_SIZE → o ≤ y → y ≤ high → low ≤ o
 origin_low templates G A n k x low high o y c v t r doc first draft e l h m =
-    let k = rises templates G A (draft o (omega (arith, h, m)) (left_of (at r o) c 4096 (omega arith) (subst (λ z. z ≤ 4096) e l) (omega arith))).0 in
+    let k = rises templates G A (draft o (omega (arith, h, m)) (left_of (at r o) c MAX_SIZE (omega arith) (subst (λ z. z ≤ MAX_SIZE) e l) (omega arith))).0 in
     omega (arith, k, first)
 
 -- and what the item costs isn't too big either
-pub origin_small : (f : ℕ → ℕ → ℕ) (o y v a : ℕ) (m : Moves) → m ≡ moves_of f → v ≡ plus a (move_at m o y) → v ≤ 4096 → o ≤ y → y ≤ 2 → f o y ≤ 4096
+pub origin_small : (f : ℕ → ℕ → ℕ) (o y v a : ℕ) (m : Moves) → m ≡ moves_of f → v ≡ plus a (move_at m o y) → v ≤ MAX_SIZE → o ≤ y → y ≤ 2 → f o y ≤ MAX_SIZE
 origin_small f o y v a m e g l h k =
-    subst (λ z. z ≤ 4096) (ap (λ z. move_at z o y) e ∙ move_of f o y h k)
-    (right_of a (move_at m o y) 4096 (omega arith) (subst (λ z. z ≤ 4096) g l) (omega arith))
+    subst (λ z. z ≤ MAX_SIZE) (ap (λ z. move_at z o y) e ∙ move_of f o y h k)
+    (right_of a (move_at m o y) MAX_SIZE (omega arith) (subst (λ z. z ≤ MAX_SIZE) g l) (omega arith))
 
 -- the number of elements before an item and in it
 pub item_place : (xs : List Item) (items : Forest) (i : ℕ) (x : Item) (place at : ℕ) → x ≡ get_or xs i x → i < length xs → forest xs ≡ items

@@ -64,7 +64,8 @@ spot_is templates rules f p r template place e is t g h =
     ∙ ap (λ x. record { template = template; place = place; tag = e.tag; attrs = e.attrs; inner = x }) s.2
 
 -- the element of a fault of a page graph stands in one of the templates, and has a rule
-pub fault_is_placed : (service : Service) (templates : List Forest) → templates ≡ all_items service → (G : Graph) (root : ℕ) (s : Schema) (point : ℕ) (f : Fault)
+pub fault_is_placed : (service : Service) (templates : List Forest) → templates ≡ all_items service → (G : Graph) (root : ℕ) (s : Schema) (point : ℕ)
+    (f : Fault)
     → IsFault (template_items service) G root s point f → (f.number == 6) ≡ false → IsPlaced templates s.elements f
 fault_is_placed service templates e G root s point f is six =
     subst (λ (T : ℕ → Forest). (p : Place) × ((r : Rule) × IsAt T s.elements f p r)) (sym (ap template_at e ∙ template_is service))

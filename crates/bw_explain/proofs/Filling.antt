@@ -17,6 +17,7 @@ use Rattle.bw_schema.specs.Words.{is_among}
 use Rattle.bw_shape.proofs.Nodes.Bools.{same_itself}
 use Rattle.bw_sum.specs.Graph.{Graph}
 use Rattle.bw_sum.specs.Unfolding.{FillsValue, kept, left_open, said_in, FillsAttrs, no_more, more}
+use Rattle.bw_explain.specs.declared.sizes.TheConstants.{PAST}
 use Rattle.bw_explain.specs.Ways.{Way, way_of, is_in, says, ways_at, graph}
 use Rattle.bw_explain.specs.Sizes.{size, capped, least_of, some_word, is_said, may_fill, attrs_least}
 use Rattle.bw_explain.specs.Walks.{Aim, is_wordy, says_wordy}
@@ -99,7 +100,7 @@ led_low known (k ∷ ms) m h = elim (or_cases (k == m) (is_in ms m) h) [
   | inr there ↦ let r = led_low known ms m there in omega (arith, r)
 ]
 
-pub led_there : (known : ℕ → ℕ) (ms : List ℕ) → least_of known ms ≤ 4097 → (m : ℕ) × (is_in ms m ≡ true) × (known m ≤ least_of known ms)
+pub led_there : (known : ℕ → ℕ) (ms : List ℕ) → least_of known ms ≤ PAST → (m : ℕ) × (is_in ms m ≡ true) × (known m ≤ least_of known ms)
 led_there known [] h = absurd (omega arith)
 led_there known (m ∷ ms) h = elim (order (known m) (least_of known ms)) [
   | inl here ↦ (m, or_left _ _ (eq-eqb m m refl), omega arith)
@@ -142,7 +143,7 @@ attrs_there nodes n (x ∷ a) h =
     let r = attrs_there nodes n a k.1 in
     (record { name = x.name; value = u.0 } ∷ r.0, more u.1 r.1, ap suc r.2)
 
-pub attrs_fill : (nodes : List (List Way)) (n : ℕ) (a : List Attr) → attrs_least (ways_at nodes n) a ≤ 4097 → (b : List Attr) × FillsAttrs (graph nodes) n a b
+pub attrs_fill : (nodes : List (List Way)) (n : ℕ) (a : List Attr) → attrs_least (ways_at nodes n) a ≤ PAST → (b : List Attr) × FillsAttrs (graph nodes) n a b
     × (capped (length b) ≡ attrs_least (ways_at nodes n) a)
 attrs_fill nodes n a h =
     let c = if_there (list_all (λ x. may_fill (ways_at nodes n) x.value) a) (capped (length a)) h in

@@ -3,6 +3,7 @@ use Rattle.std.proofs.Common.{◌≡◌, ◌⊎◌, inl, inr, ℕ, zero, suc, �
 use Rattle.std.proofs.lemmas.Bool.{false≢true, eq-eqb}
 use Rattle.bw_lang.specs.Document.Forest.{Forest}
 use Rattle.bw_shape.specs.Nodes.Templates.{template_at}
+use Rattle.bw_explain.specs.declared.sizes.TheConstants.{MAX_SIZE}
 use Rattle.bw_explain.specs.declared.walk.Known.{Known}
 use Rattle.bw_explain.specs.declared.walk.Walk.{Walk}
 use Rattle.bw_explain.specs.declared.aim.Aim.{Aim}
@@ -187,10 +188,10 @@ module _ (w b : Walk) (t : Table) (p : b.page ≡ w.page) (a : b.aim ≡ w.aim) 
 
     pub next_made : (v : ℕ) (doc : ℕ → Forest) (d : Forest) → v ≡ seek_value w.page.templates.now (walk_of w) w.low w.high (size_at t) n
         → IsDraft (template_at b.page.templates.now) (graph b.page.nodes.now) (aim_of b.aim) n 0 b.low b.high items
-        (walk (walk_of b) n 0 (from b.low) items) doc → d ≡ doc b.high → v ≤ 4096 → Has w.page w.aim w.low w.high n d × (size d ≤ v)
+        (walk (walk_of b) n 0 (from b.low) items) doc → d ≡ doc b.high → v ≤ MAX_SIZE → Has w.page w.aim w.low w.high n d × (size d ≤ v)
     next_made v doc d e draft is l =
         let m : at (walk (walk_of b) n 0 (from b.low) items) b.high ≡ v = value_is ∙ sym e in
-        let k = draft b.high (omega arith) (subst (λ z. z ≤ 4096) (sym m) l) in (
+        let k = draft b.high (omega arith) (subst (λ z. z ≤ MAX_SIZE) (sym m) l) in (
           subst (λ (z : Page). Has z w.aim w.low w.high n d) p
               (subst (λ (z : Aim). Has b.page z w.low w.high n d) a
               (subst (λ z. Has b.page b.aim z w.high n d) low

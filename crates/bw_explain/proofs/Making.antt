@@ -3,6 +3,7 @@ use Rattle.std.proofs.Common.{◌≡◌, inl, inr, ℕ, ◌+◌, ◌<◌, ◌≤
 use Rattle.std.proofs.lemmas.Bool.{and_parts, and_from}
 use Rattle.bw_lang.specs.Text.Bytes.{is_blank_text}
 use Rattle.bw_lang.specs.Document.Forest.{Forest, none, text, gap}
+use Rattle.bw_explain.specs.declared.sizes.TheConstants.{MAX_SIZE}
 use Rattle.bw_explain.specs.declared.walk.Walk.{Walk as Going}
 use Rattle.bw_explain.specs.Aims.{aim_of, walk_of, known_of, table_of}
 use Rattle.bw_explain.specs.Sizes.{size, if_so, least_of, is_loose}
@@ -16,7 +17,7 @@ use Rattle.bw_explain.proofs.Numbers.{least_is, if_there}
 use Rattle.bw_explain.proofs.Runs.{stay_takes, next_takes, taken}
 
 -- where no template has the least size, a string or the open gap does
-pub loose_for : (known : ℕ → ℕ) (ms : List ℕ) (b : Bool) (v : ℕ) → v ≡ min (if_so b 1) (least_of known ms) → v ≤ 4096
+pub loose_for : (known : ℕ → ℕ) (ms : List ℕ) (b : Bool) (v : ℕ) → v ≡ min (if_so b 1) (least_of known ms) → v ≤ MAX_SIZE
     → ((m : ℕ) → is_in ms m ≡ true → v < known m) → (b ≡ true) × (v ≡ 1)
 loose_for known ms b v e l h = elim (least_is (if_so b 1) (least_of known ms)) [
   | inl k ↦ let c = if_there b 1 (let q = e in omega (arith, q, k, l)) in (c.0, e ∙ k ∙ c.1)
@@ -27,14 +28,14 @@ loose_for known ms b v e l h = elim (least_is (if_so b 1) (least_of known ms)) [
       absurd (let q = e in omega (arith, a, b, q, k))
 ]
 
-pub none_picks : (w : Going) (way : Way) (x y : ℕ) (t : Table) (v : ℕ) → v ≡ gap_cost (walk_of w) way x y → v ≤ 4096 → t ≡ table_of w.known x y
+pub none_picks : (w : Going) (way : Way) (x y : ℕ) (t : Table) (v : ℕ) → v ≡ gap_cost (walk_of w) way x y → v ≤ MAX_SIZE → t ≡ table_of w.known x y
     → ((m : ℕ) → is_in way.led m ≡ true → v < size_at t m) → (takes x y (is_loose way) (says_wordy (aim_of w.aim) way) ≡ true) × (v ≡ 1)
 none_picks w way x y t v e l g h = loose_for (known_at (known_of w.known) x y) way.led (takes x y (is_loose way) (says_wordy (aim_of w.aim) way)) v e l
     (λ m i. subst (λ f. v < f m) (sym (known_is w.known x y)) (subst (λ z. v < size_at z m) g (h m i)))
 
 module _ (templates : ℕ → Forest) (nodes : List (List Way)) (A : Aim) (n k g x y v : ℕ) where
   -- what was put for a gap
-  pub picks_run : (w : Way) (t : Table) (old new : Forest) → way_of (ways_at nodes n) g ≡ w → v ≤ 4096
+  pub picks_run : (w : Way) (t : Table) (old new : Forest) → way_of (ways_at nodes n) g ≡ w → v ≤ MAX_SIZE
       → Documents (λ m d. Runs templates (graph nodes) A m 0 x (templates m) y d) t → Picks A w t x y v old new
       → Adds (Runs templates (graph nodes) A n k x (gap g none) y) v old new
   picks_run w t old new e l docs (loose {d = d} h o f) = record { some = d; behind = f; has = by h; most = sized h o }

@@ -6,6 +6,7 @@ use Rattle.bw_lang.specs.Document.Forest.{Forest, none}
 use Rattle.bw_shape.specs.Nodes.Templates.{template_at}
 use Rattle.bw_sum.specs.Graph.{Graph}
 use Rattle.bw_sum.specs.Unfolding.{FillsAttrs, Fills}
+use Rattle.bw_explain.specs.declared.sizes.TheConstants.{MAX_SIZE, NONE}
 use Rattle.bw_explain.specs.declared.aim.Aim.{Aim as Sought}
 use Rattle.bw_explain.specs.declared.aim.Aim.TheVariants.{Plain}
 use Rattle.bw_explain.specs.declared.aim.Made.{Made}
@@ -50,8 +51,8 @@ pub flat_is : (w f : Going) → f.page ≡ w.page → f.aim ≡ Plain → f.plai
     → walk_of f ≡ plain_walk w.page.nodes.now (size_at w.plain.now)
 flat_is w f p a q s t u v =
     ap (λ (x : Sought). record { aim = aim_of x; nodes = f.page.nodes.now; plain = size_at f.plain.now; known = known_of f.known; cost = cost_of x }) a
-    ∙ ap (λ (x : Page). record { aim = no_aim; nodes = x.nodes.now; plain = size_at f.plain.now; known = known_of f.known; cost = 4098 }) p
-    ∙ ap (λ x. record { aim = no_aim; nodes = w.page.nodes.now; plain = size_at x; known = known_of f.known; cost = 4098 }) q
+    ∙ ap (λ (x : Page). record { aim = no_aim; nodes = x.nodes.now; plain = size_at f.plain.now; known = known_of f.known; cost = NONE }) p
+    ∙ ap (λ x. record { aim = no_aim; nodes = w.page.nodes.now; plain = size_at x; known = known_of f.known; cost = NONE }) q
     ∙ ap (λ x. record {
       aim = no_aim;
       nodes = w.page.nodes.now;
@@ -62,7 +63,7 @@ flat_is w f p a q s t u v =
         second = size_at f.known.second.now;
         whole = size_at f.known.whole.now;
       };
-      cost = 4098;
+      cost = NONE;
     }) s
     ∙ ap (λ x. record {
       aim = no_aim;
@@ -74,7 +75,7 @@ flat_is w f p a q s t u v =
         second = size_at f.known.second.now;
         whole = size_at f.known.whole.now;
       };
-      cost = 4098;
+      cost = NONE;
     }) t
     ∙ ap (λ x. record {
       aim = no_aim;
@@ -86,7 +87,7 @@ flat_is w f p a q s t u v =
         second = size_at x;
         whole = size_at f.known.whole.now;
       };
-      cost = 4098;
+      cost = NONE;
     }) u
     ∙ ap (λ x. record {
       aim = no_aim;
@@ -98,7 +99,7 @@ flat_is w f p a q s t u v =
         second = size_at w.plain.now;
         whole = size_at x;
       };
-      cost = 4098;
+      cost = NONE;
     }) v
 
 same_table : (b c d : Bool) (s t u v x : Table) → s ≡ x → t ≡ x → u ≡ x → v ≡ x → (if b then s else if c then t else if d then u else v) ≡ x
@@ -128,7 +129,7 @@ flat_ready w f p a s t u v z docs = record {
 
 -- an element that was made of its attributes and of the document of one state of a walk over its items
 pub top_made : (w f : Going) (n : ℕ) (a : List Attr) (i : Forest) (m : Made) (doc : ℕ → Forest) → f.page ≡ w.page → f.aim ≡ Plain
-    → walk_of f ≡ plain_walk w.page.nodes.now (size_at w.plain.now) → flat_size (walk_of w) n a i ≤ 4096
+    → walk_of f ≡ plain_walk w.page.nodes.now (size_at w.plain.now) → flat_size (walk_of w) n a i ≤ MAX_SIZE
     → FillsAttrs (graph w.page.nodes.now) n a m.attrs × (length m.attrs ≡ length a)
     → IsDraft (template_at f.page.templates.now) (graph f.page.nodes.now) (aim_of f.aim) n 0 0 f.high i (walk (walk_of f) n 0 (from 0) i) doc → m.items ≡ doc 0
     → IsElement (λ b j. FillsAttrs (graph w.page.nodes.now) n a b × Fills (template_at w.page.templates.now) (graph w.page.nodes.now) n i j)
@@ -144,14 +145,14 @@ top_made w f n a i m doc p g is l q draft e =
     (subst (λ (z : Sought). IsDraft T G (aim_of z) n 0 0 f.high i (walk (walk_of f) n 0 (from 0) i) doc) g
     (subst (λ (z : Page). IsDraft (template_at z.templates.now) (graph z.nodes.now) (aim_of f.aim) n 0 0 f.high i
     (walk (walk_of f) n 0 (from 0) i) doc) p draft)) in
-    let k = d 0 (omega arith) (right_of (plus 1 (attrs_least ways a)) v 4096 (omega arith) l (omega arith)) in
+    let k = d 0 (omega arith) (right_of (plus 1 (attrs_least ways a)) v MAX_SIZE (omega arith) l (omega arith)) in
     record {
       fit = (q.0, subst (Fills T G n i) (sym e) (runs_fill T G no_aim (λ b j. refl) k.0));
       most = filled_size ways a v m l q.1 (subst (λ z. size z ≤ v) (sym e) k.1);
     }
 
 pub inside_made : (w : Going) (n k z : ℕ) (a : List Attr) (i : Forest) (m : Made) (doc : ℕ → Forest) → z ≤ w.high
-    → inside_size (walk_of w) n k a i z ≤ 4096 → FillsAttrs (graph w.page.nodes.now) n a m.attrs × (length m.attrs ≡ length a)
+    → inside_size (walk_of w) n k a i z ≤ MAX_SIZE → FillsAttrs (graph w.page.nodes.now) n a m.attrs × (length m.attrs ≡ length a)
     → IsDraft (template_at w.page.templates.now) (graph w.page.nodes.now) (aim_of w.aim) n (k + 1) 0 w.high i (walk (walk_of w) n (k + 1) (from 0) i) doc
     → m.items ≡ doc z
     → IsElement (λ b j. FillsAttrs (graph w.page.nodes.now) n a b
@@ -159,7 +160,7 @@ pub inside_made : (w : Going) (n k z : ℕ) (a : List Attr) (i : Forest) (m : Ma
 inside_made w n k z a i m doc h l q draft e =
     let ways = ways_at w.page.nodes.now n in
     let v = at (walk (walk_of w) n (k + 1) (from 0) i) z in
-    let d = draft z h (right_of (plus 1 (attrs_least ways a)) v 4096 (omega arith) l (omega arith)) in
+    let d = draft z h (right_of (plus 1 (attrs_least ways a)) v MAX_SIZE (omega arith) l (omega arith)) in
     record {
       fit = (q.0, subst (Runs (template_at w.page.templates.now) (graph w.page.nodes.now) (aim_of w.aim) n (k + 1) 0 i z) (sym e) d.0);
       most = filled_size ways a v m l q.1 (subst (λ s. size s ≤ v) (sym e) d.1);

@@ -8,6 +8,7 @@ use Rattle.bw_lang.specs.Document.Documents.{append}
 use Rattle.bw_shape.specs.Nodes.Templates.{template_at}
 use Rattle.bw_sum.specs.Graph.{Graph}
 use Rattle.bw_sum.specs.Unfolding.{FillsAttrs, Fills}
+use Rattle.bw_explain.specs.declared.sizes.TheConstants.{MAX_SIZE, PAST}
 use Rattle.bw_explain.specs.declared.aim.Aim.{Aim as Sought}
 use Rattle.bw_explain.specs.declared.aim.Aim.TheVariants.{Plain, Tops, One}
 use Rattle.bw_explain.specs.declared.aim.Made.{Made}
@@ -21,7 +22,7 @@ use Rattle.bw_explain.specs.Ways.{Way, ways_at, graph}
 use Rattle.bw_explain.proofs.Numbers.{left_of, right_of, if_there, own_exact}
 use Rattle.bw_explain.proofs.WalkLaws.{element_top, element_deep}
 
-small_by : (p q : ℕ) → p ≡ q → p ≤ 4096 → q ≤ 4097
+small_by : (p q : ℕ) → p ≡ q → p ≤ MAX_SIZE → q ≤ PAST
 small_by p q e h = omega (arith, e, h)
 
 within_by : (s v w p : ℕ) → s ≤ v → w ≡ v → p ≡ w → s ≤ p
@@ -30,17 +31,17 @@ within_by s v w p h e f = omega (arith, h, e, f)
 lesser_within : (s p a b : ℕ) → s ≤ a → p ≡ min a b → a < b → s ≤ p
 lesser_within s p a b h e l = omega (arith, h, e, l)
 
-other_by : (p a b : ℕ) → p ≡ min a b → p ≤ 4096 → b ≤ a → b ≤ 4097
+other_by : (p a b : ℕ) → p ≡ min a b → p ≤ MAX_SIZE → b ≤ a → b ≤ PAST
 other_by p a b e h l = omega (arith, e, h, l)
 
-other_cost : (p a b v w : ℕ) → p ≡ min a b → p ≤ 4096 → b ≤ a → b ≡ v → v ≡ w → w ≤ 4096
+other_cost : (p a b v w : ℕ) → p ≡ min a b → p ≤ MAX_SIZE → b ≤ a → b ≡ v → v ≡ w → w ≤ MAX_SIZE
 other_cost p a b v w e h l f g = omega (arith, e, h, l, f, g)
 
 other_within : (s p a b v w : ℕ) → s ≤ w → p ≡ min a b → b ≤ a → b ≡ v → v ≡ w → s ≤ p
 other_within s p a b v w h e l f g = omega (arith, h, e, l, f, g)
 
 module _ (templates : ℕ → Forest) (G : Graph) (A : Aim) (n k x y : ℕ) where
-  pub words_run : (s : List ℕ) (old new : Forest) → text_cost A s x y ≤ 4096 → new ≡ append old (text s none)
+  pub words_run : (s : List ℕ) (old new : Forest) → text_cost A s x y ≤ MAX_SIZE → new ≡ append old (text s none)
       → Adds (Runs templates G A n k x (text s none) y) (text_cost A s x y) old new
   words_run s old new l e =
       let c = if_there (takes x y true (is_wordy A s)) 1 (omega (arith, l)) in
@@ -53,25 +54,25 @@ module _ (templates : ℕ → Forest) (G : Graph) (A : Aim) (n k x y : ℕ) wher
       record { some = element tag m.attrs m.items none; behind = e; has = is.fit; most = let h = is.most in omega (arith, h) }
 
 -- of the attributes, where the size isn't too big
-pub attrs_fit : (ways : List Way) (a : List Attr) (v : ℕ) → plus (plus 1 (attrs_least ways a)) v ≤ 4096 → list_all (λ x. may_fill ways x.value) a ≡ true
+pub attrs_fit : (ways : List Way) (a : List Attr) (v : ℕ) → plus (plus 1 (attrs_least ways a)) v ≤ MAX_SIZE → list_all (λ x. may_fill ways x.value) a ≡ true
 attrs_fit ways a v l =
     (if_there (list_all (λ x. may_fill ways x.value) a) (capped (length a))
-    (right_of 1 (attrs_least ways a) 4097 (omega arith) (left_of (plus 1 (attrs_least ways a)) v 4097 (omega arith) (omega (arith, l)) (omega arith))
+    (right_of 1 (attrs_least ways a) PAST (omega arith) (left_of (plus 1 (attrs_least ways a)) v PAST (omega arith) (omega (arith, l)) (omega arith))
     (omega arith))).0
 
-pub attrs_are : (ways : List Way) (a : List Attr) (v : ℕ) → plus (plus 1 (attrs_least ways a)) v ≤ 4096 → attrs_least ways a ≡ capped (length a)
+pub attrs_are : (ways : List Way) (a : List Attr) (v : ℕ) → plus (plus 1 (attrs_least ways a)) v ≤ MAX_SIZE → attrs_least ways a ≡ capped (length a)
 attrs_are ways a v l =
     (if_there (list_all (λ x. may_fill ways x.value) a) (capped (length a))
-    (right_of 1 (attrs_least ways a) 4097 (omega arith) (left_of (plus 1 (attrs_least ways a)) v 4097 (omega arith) (omega (arith, l)) (omega arith))
+    (right_of 1 (attrs_least ways a) PAST (omega arith) (left_of (plus 1 (attrs_least ways a)) v PAST (omega arith) (omega (arith, l)) (omega arith))
     (omega arith))).1
 
 -- the size of an element that was filled
-pub filled_size : (ways : List Way) (a : List Attr) (v : ℕ) (m : Made) → plus (plus 1 (attrs_least ways a)) v ≤ 4096 → length m.attrs ≡ length a
+pub filled_size : (ways : List Way) (a : List Attr) (v : ℕ) (m : Made) → plus (plus 1 (attrs_least ways a)) v ≤ MAX_SIZE → length m.attrs ≡ length a
     → size m.items ≤ v → 1 + length m.attrs + size m.items ≤ plus (plus 1 (attrs_least ways a)) v
 filled_size ways a v m l e s = own_exact (attrs_least ways a) v (length m.attrs) (size m.items) l (attrs_are ways a v l ∙ ap capped (sym e)) s
 
 -- the element that is looked for, as it was copied
-copy_fits : (p : Page) (aim : Sought) (m : Made) → cost_of aim ≤ 4096 → IsMade p aim → IsCopy aim m
+copy_fits : (p : Page) (aim : Sought) (m : Made) → cost_of aim ≤ MAX_SIZE → IsMade p aim → IsCopy aim m
     → FillsAttrs (graph p.nodes.now) (aim_of aim).template (aim_of aim).attrs m.attrs
     × Fills (template_at p.templates.now) (graph p.nodes.now) (aim_of aim).template (aim_of aim).inner m.items
     × ((aim_of aim).good m.attrs m.items ≡ true) × (1 + length m.attrs + size m.items ≤ cost_of aim)
@@ -109,7 +110,7 @@ module _ (p : Page) (aim : Sought) (n k x y : ℕ) (tag : List ℕ) (a : List At
   deep_is u o = element_deep u.aim n (k + 1) tag (plus 1 (attrs_least (ways_at u.nodes n) a)) (walk u n (k + 1) (from 0) i) u.cost
       (walk (plain_walk u.nodes u.plain) n 0 (from 0) i).start x y o
 
-  pub top_run : (u : Walk) (m : Made) → u.aim ≡ A → A.deep ≡ false → item_cost u n k (element tag a i none) x y ≤ 4096
+  pub top_run : (u : Walk) (m : Made) → u.aim ≡ A → A.deep ≡ false → item_cost u n k (element tag a i none) x y ≤ MAX_SIZE
       → IsElement (λ b j. FillsAttrs G n a b × Fills T G n i j) (flat_size u n a i) m → IsElement Becomes (item_cost u n k (element tag a i none) x y) m
   top_run u m e flat l is =
       let f = top_is u (ap (λ (z : Aim). z.deep) e ∙ flat) in
@@ -130,14 +131,14 @@ module _ (p : Page) (aim : Sought) (n k x y : ℕ) (tag : List ℕ) (a : List At
       }
 
   -- where it is what is looked for, that isn't too big
-  pub spot_small : (u : Walk) → u.aim.deep ≡ true → item_cost u n k (element tag a i none) x y ≤ 4096
-      → spot_size u n k x y ≤ inside_size u n k a i (y - x) → u.cost ≤ 4096
+  pub spot_small : (u : Walk) → u.aim.deep ≡ true → item_cost u n k (element tag a i none) x y ≤ MAX_SIZE
+      → spot_size u n k x y ≤ inside_size u n k a i (y - x) → u.cost ≤ MAX_SIZE
   spot_small u o l h =
       let d = deep_is u o in
       let c = if_there (((x + 1) == y) && is_spot u.aim n (k + 1)) u.cost (other_by _ _ _ d l h) in
       other_cost _ _ _ _ _ d l h c.1 refl
 
-  pub spot_run : (u : Walk) (m : Made) → u.aim ≡ A → u.cost ≡ cost_of aim → A.deep ≡ true → item_cost u n k (element tag a i none) x y ≤ 4096
+  pub spot_run : (u : Walk) (m : Made) → u.aim ≡ A → u.cost ≡ cost_of aim → A.deep ≡ true → item_cost u n k (element tag a i none) x y ≤ MAX_SIZE
       → spot_size u n k x y ≤ inside_size u n k a i (y - x) → IsMade p aim → IsCopy aim m → IsElement Becomes (item_cost u n k (element tag a i none) x y) m
   spot_run u m e f deep l h made copied =
       let d = deep_is u (ap (λ (z : Aim). z.deep) e ∙ deep) in

@@ -1,12 +1,13 @@
 -- Sums of sizes.
 use Rattle.std.proofs.Common.{◌≡◌, ◌⊎◌, inl, inr, ℕ, ◌+◌, ◌<◌, ◌≤◌, min, Bool, true, false, refl, arith}
 use Rattle.std.proofs.lemmas.Bool.{false≢true}
+use Rattle.bw_explain.specs.declared.sizes.TheConstants.{MAX_SIZE, PAST}
 use Rattle.bw_explain.specs.Sizes.{plus, capped, if_so}
 
-split : (a : ℕ) → (a ≤ 4097) ⊎ (4097 < a)
+split : (a : ℕ) → (a ≤ PAST) ⊎ (PAST < a)
 split a = grind arith
 
-plus_small : (a b : ℕ) → a ≤ 4097 → b ≤ 4097 → plus a b ≡ min (a + b) 4097
+plus_small : (a b : ℕ) → a ≤ PAST → b ≤ PAST → plus a b ≡ min (a + b) PAST
 plus_small a b h k = omega arith
 
 pub plus-capped : (a b : ℕ) → plus (capped a) (capped b) ≡ capped (a + b)
@@ -15,13 +16,13 @@ plus-capped a b = omega arith
 pub plus_up : (a b c d : ℕ) → a ≤ c → b ≤ d → plus a b ≤ plus c d
 plus_up a b c d h k = omega arith
 
-pub plus_exact : (a b : ℕ) → plus a b ≤ 4096 → plus a b ≡ a + b
+pub plus_exact : (a b : ℕ) → plus a b ≤ MAX_SIZE → plus a b ≡ a + b
 plus_exact a b h = omega arith
 
-pub left_of : (a b c : ℕ) → 4096 ≤ c → plus a b ≤ c → c ≤ 4097 → a ≤ c
+pub left_of : (a b c : ℕ) → MAX_SIZE ≤ c → plus a b ≤ c → c ≤ PAST → a ≤ c
 left_of a b c k h l = omega arith
 
-pub right_of : (a b c : ℕ) → 4096 ≤ c → plus a b ≤ c → c ≤ 4097 → b ≤ c
+pub right_of : (a b c : ℕ) → MAX_SIZE ≤ c → plus a b ≤ c → c ≤ PAST → b ≤ c
 right_of a b c k h l = omega arith
 
 pub min_left : (a b : ℕ) → min a b ≤ a
@@ -52,7 +53,7 @@ pub if_true : (b : Bool) (v : ℕ) → b ≡ true → if_so b v ≡ v
 if_true true v h = refl
 if_true false v h = absurd (false≢true h)
 
-pub if_there : (b : Bool) (v : ℕ) → if_so b v ≤ 4097 → (b ≡ true) × (if_so b v ≡ v)
+pub if_there : (b : Bool) (v : ℕ) → if_so b v ≤ PAST → (b ≡ true) × (if_so b v ≡ v)
 if_there true v h = (refl, refl)
 if_there false v h = absurd (omega arith)
 
@@ -66,7 +67,7 @@ bounded_sum p q b s t h k = elim (split p) [
   ]
 ]
   where
-    bounded : (x p q b s t : ℕ) → x ≡ min (p + q) 4097 → min p b ≤ capped s → min q b ≤ capped t → min x b ≤ capped (s + t)
+    bounded : (x p q b s t : ℕ) → x ≡ min (p + q) PAST → min p b ≤ capped s → min q b ≤ capped t → min x b ≤ capped (s + t)
     bounded x p q b s t e h k = omega arith
 
 pub high_sum : (v r e d x : ℕ) → capped e ≤ v → capped d ≤ r → x ≡ e + d → capped x ≤ plus v r
@@ -86,12 +87,12 @@ own_low own v len j h k =
 pub own_high : (own v len j : ℕ) → capped len ≤ own → capped j ≤ v → capped (1 + len + j) ≤ plus (plus 1 own) v
 own_high own v len j h k = high_sum (plus 1 own) v (1 + len) j (1 + len + j) (high_sum 1 own 1 len (1 + len) (omega arith) h refl) k refl
 
-pub own_exact : (own v len j : ℕ) → plus (plus 1 own) v ≤ 4096 → own ≡ capped len → j ≤ v → 1 + len + j ≤ plus (plus 1 own) v
+pub own_exact : (own v len j : ℕ) → plus (plus 1 own) v ≤ MAX_SIZE → own ≡ capped len → j ≤ v → 1 + len + j ≤ plus (plus 1 own) v
 own_exact own v len j h e k =
     let a = plus_exact (plus 1 own) v h in
-    let b = left_of (plus 1 own) v 4096 (omega arith) h (omega arith) in
+    let b = left_of (plus 1 own) v MAX_SIZE (omega arith) h (omega arith) in
     let c = plus_exact 1 own b in
     sized (plus (plus 1 own) v) (plus 1 own) own v len j a c b e k
   where
-    sized : (w p own v len j : ℕ) → w ≡ p + v → p ≡ 1 + own → p ≤ 4096 → own ≡ capped len → j ≤ v → 1 + len + j ≤ w
+    sized : (w p own v len j : ℕ) → w ≡ p + v → p ≡ 1 + own → p ≤ MAX_SIZE → own ≡ capped len → j ≤ v → 1 + len + j ≤ w
     sized w p own v len j a c b e k = omega arith

@@ -5,6 +5,7 @@ use Rattle.std.proofs.lemmas.Bool.{and_parts}
 use Rattle.bw_lang.specs.declared.items.Attr.{Attr}
 use Rattle.bw_lang.specs.Table.Names.{same}
 use Rattle.bw_schema.specs.declared.rules.Rule.{Rule}
+use Rattle.bw_explain.specs.declared.sizes.TheConstants.{MAX_SIZE, PAST}
 use Rattle.bw_explain.specs.declared.atom.Atom.{Atom}
 use Rattle.bw_explain.specs.declared.atom.Atom.TheVariants.{NotAllowed, OtherValue, Absent, Outside, BadChild, BadText, Missing, Crossing}
 use Rattle.bw_explain.specs.Atoms.{passes, fails}
@@ -25,9 +26,9 @@ module _ (nodes : List (List Way)) (r : Rule) (n : ℕ) (attrs : List Attr) wher
 
   -- what holds where attributes can be broken so
   pub failing_parts : (a c : Atom) → a ≡ c → own_least nodes r c n attrs ≡ failing_own nodes (passes r c) (fails r c) n attrs
-      → own_least nodes r a n attrs ≤ 4097 → Fills × Fails a
+      → own_least nodes r a n attrs ≤ PAST → Fills × Fails a
   failing_parts a c e f l =
-      let k = subst (λ v. v ≤ 4097) f (subst (λ (z : Atom). own_least nodes r z n attrs ≤ 4097) e l) in
+      let k = subst (λ v. v ≤ PAST) f (subst (λ (z : Atom). own_least nodes r z n attrs ≤ PAST) e l) in
       let p = and_parts (list_all (λ x. may_fill (ways_at nodes n) x.value) attrs)
       (list_any (λ x. may_fail (ways_at nodes n) (passes r c) (fails r c) x.name x.value) attrs)
       (if_there (list_all (λ x. may_fill (ways_at nodes n) x.value) attrs
@@ -35,9 +36,9 @@ module _ (nodes : List (List Way)) (r : Rule) (n : ℕ) (attrs : List Attr) wher
       (p.0, subst (λ (z : Atom). Fails z) (sym e) p.1)
 
   pub leaving_parts : (a c : Atom) (x : List ℕ) → a ≡ c → own_least nodes r c n attrs ≡ leaving_own nodes (passes r c) (fails r c) x n attrs
-      → own_least nodes r a n attrs ≤ 4097 → Fills × Leaves a x
+      → own_least nodes r a n attrs ≤ PAST → Fills × Leaves a x
   leaving_parts a c x e f l =
-      let k = subst (λ v. v ≤ 4097) f (subst (λ (z : Atom). own_least nodes r z n attrs ≤ 4097) e l) in
+      let k = subst (λ v. v ≤ PAST) f (subst (λ (z : Atom). own_least nodes r z n attrs ≤ PAST) e l) in
       let p = and_parts (list_all (λ c. may_fill (ways_at nodes n) c.value) attrs)
       (list_all (λ y. not (same y.name x) || may_leave (ways_at nodes n) (passes r c) (fails r c) y.name y.value) attrs)
       (if_there (list_all (λ c. may_fill (ways_at nodes n) c.value) attrs
@@ -68,10 +69,10 @@ module _ (nodes : List (List Way)) (r : Rule) (n : ℕ) (attrs : List Attr) wher
   other_broken (Crossing x y) b f g h k = refl
 
 -- the number of attributes of an element that isn't too big
-below : 4096 ≤ 4097
+below : MAX_SIZE ≤ PAST
 below = omega arith
 
-pub own_within : (own inner sum whole : ℕ) → whole ≡ plus sum inner → sum ≡ plus 1 own → whole ≤ 4096 → own ≤ 4097
+pub own_within : (own inner sum whole : ℕ) → whole ≡ plus sum inner → sum ≡ plus 1 own → whole ≤ MAX_SIZE → own ≤ PAST
 own_within own inner sum whole e f h =
-    trans own 4096 4097 (right_of 1 own 4096 (same_le 4096)
-    (subst (λ v. v ≤ 4096) f (left_of sum inner 4096 (same_le 4096) (subst (λ v. v ≤ 4096) e h) below)) below) below
+    trans own MAX_SIZE PAST (right_of 1 own MAX_SIZE (same_le MAX_SIZE)
+    (subst (λ v. v ≤ MAX_SIZE) f (left_of sum inner MAX_SIZE (same_le MAX_SIZE) (subst (λ v. v ≤ MAX_SIZE) e h) below)) below) below

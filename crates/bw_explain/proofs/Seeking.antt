@@ -6,6 +6,7 @@ use Rattle.std.proofs.lemmas.List.{get_or_past}
 use Rattle.bw_lang.specs.Document.Forest.{Forest, none}
 use Rattle.bw_shape.specs.Nodes.Templates.{template_at}
 use Rattle.bw_sum.specs.Unfolding.{Fills, Unfolds}
+use Rattle.bw_explain.specs.declared.sizes.TheConstants.{PAST, NONE}
 use Rattle.bw_explain.specs.Sizes.{size, capped, Found, if_so, IsLeast}
 use Rattle.bw_explain.specs.Tables.{Bounds, Settles}
 use Rattle.bw_explain.specs.Walks.{Runs, nothing, Known, known_at, known_with, Walk, plain_walk, from, at, walk, seek, seek_value, CostIs}
@@ -24,7 +25,7 @@ same_four false true d f = refl
 same_four false false true f = refl
 same_four false false false f = refl
 
-pub unbound : (v s : ℕ) → min v 4098 ≤ capped (0 + s) → v ≤ capped s
+pub unbound : (v s : ℕ) → min v NONE ≤ capped (0 + s) → v ≤ capped s
 unbound v s h = omega arith
 
 module _ (templates : List Forest) (nodes : List (List Way)) (plain : ℕ → ℕ) where
@@ -33,21 +34,21 @@ module _ (templates : List Forest) (nodes : List (List Way)) (plain : ℕ → �
   flat_low low n t d f =
       let u = plain_walk nodes plain in
       unbound (walk u n 0 (from 0) t).start (size d)
-      (runs_low templates u 0 0 (omega arith) (λ o. refl) 4098 (λ o. absurd (false≢true (sym o))) (λ b j q g h. absurd (false≢true h))
+      (runs_low templates u 0 0 (omega arith) (λ o. refl) NONE (λ o. absurd (false≢true (sym o))) (λ b j q g h. absurd (false≢true h))
       (λ x y m a b c. inl (λ e r. subst (λ k. k m ≤ capped (size e)) (sym (same_four (x == y) (y == 1) (x == 1) plain))
       (low m e (runs_fill (template_at templates) (graph nodes) u.aim (λ b j. refl) r))))
-      (fill_runs (template_at templates) (graph nodes) u.aim refl f 0 0) (omega arith) (omega arith) (from 0) 0 (begin_low 0 4098 refl))
+      (fill_runs (template_at templates) (graph nodes) u.aim refl f 0 0) (omega arith) (omega arith) (from 0) 0 (begin_low 0 NONE refl))
 
-  pub flat_there : ((m : ℕ) → plain m ≤ 4097 → Found (Unfolds (template_at templates) (graph nodes) m) (plain m)) → (n : ℕ) (t : Forest)
-      → (walk (plain_walk nodes plain) n 0 (from 0) t).start ≤ 4097
+  pub flat_there : ((m : ℕ) → plain m ≤ PAST → Found (Unfolds (template_at templates) (graph nodes) m) (plain m)) → (n : ℕ) (t : Forest)
+      → (walk (plain_walk nodes plain) n 0 (from 0) t).start ≤ PAST
       → Found (Fills (template_at templates) (graph nodes) n t) (walk (plain_walk nodes plain) n 0 (from 0) t).start
   flat_there there n t l =
       let u = plain_walk nodes plain in
       let a = walk_there templates u 0 0 (omega arith) (λ o. refl) (λ o. absurd (false≢true (sym o))) (λ c. absurd (omega (arith, c)))
-      (λ x y m a b c h. found x y m a b c (subst (λ k. k m ≤ 4097) (same_four (x == y) (y == 1) (x == 1) plain) h)) n 0 t l in
+      (λ x y m a b c h. found x y m a b c (subst (λ k. k m ≤ PAST) (same_four (x == y) (y == 1) (x == 1) plain) h)) n 0 t l in
       (a.0, runs_fill (template_at templates) (graph nodes) u.aim (λ b j. refl) a.1, a.2)
     where
-      found : (x y m : ℕ) → 0 ≤ x → x ≤ y → y ≤ 0 → plain m ≤ 4097
+      found : (x y m : ℕ) → 0 ≤ x → x ≤ y → y ≤ 0 → plain m ≤ PAST
           → Found (Runs (template_at templates) (graph nodes) (plain_walk nodes plain).aim m 0 x (template_at templates m) y)
           (known_at (plain_walk nodes plain).known x y m)
       found x y m a b c h =
@@ -149,13 +150,13 @@ module _ (templates : List Forest) (u : Walk) (x y : ℕ) (order_is : x ≤ y) (
     | inr e ↦ inl (λ d r. subst (λ f. f m ≤ capped (size d)) (sym (known_other u.known v x y a b h k l most e)) ((known_is a b m h k l e).low d r))
   ]
 
-  known_there : (v : ℕ → ℕ) → ((m : ℕ) → v m ≤ 4097 → Found (Has x y m) (v m)) → (a b m : ℕ) → x ≤ a → a ≤ b → b ≤ y
-      → known_at (known_with u.known x y v) a b m ≤ 4097 → Found (Has a b m) (known_at (known_with u.known x y v) a b m)
+  known_there : (v : ℕ → ℕ) → ((m : ℕ) → v m ≤ PAST → Found (Has x y m) (v m)) → (a b m : ℕ) → x ≤ a → a ≤ b → b ≤ y
+      → known_at (known_with u.known x y v) a b m ≤ PAST → Found (Has a b m) (known_at (known_with u.known x y v) a b m)
   known_there v there a b m h k l = elim (which a b) [
-    | inl e ↦ subst (λ c. known_at (known_with u.known x y v) c b m ≤ 4097 → Found (Has c b m) (known_at (known_with u.known x y v) c b m)) (sym e.0)
-        (subst (λ c. known_at (known_with u.known x y v) x c m ≤ 4097 → Found (Has x c m) (known_at (known_with u.known x y v) x c m)) (sym e.1)
-        (subst (λ f. f m ≤ 4097 → Found (Has x y m) (f m)) (sym (known_same u.known v x y)) (there m)))
-    | inr e ↦ subst (λ f. f m ≤ 4097 → Found (Has a b m) (f m)) (sym (known_other u.known v x y a b h k l most e)) (known_is a b m h k l e).high
+    | inl e ↦ subst (λ c. known_at (known_with u.known x y v) c b m ≤ PAST → Found (Has c b m) (known_at (known_with u.known x y v) c b m)) (sym e.0)
+        (subst (λ c. known_at (known_with u.known x y v) x c m ≤ PAST → Found (Has x c m) (known_at (known_with u.known x y v) x c m)) (sym e.1)
+        (subst (λ f. f m ≤ PAST → Found (Has x y m) (f m)) (sym (known_same u.known v x y)) (there m)))
+    | inr e ↦ subst (λ f. f m ≤ PAST → Found (Has a b m) (f m)) (sym (known_other u.known v x y a b h k l most e)) (known_is a b m h k l e).high
   ]
 
   pub settles : Settles (length templates) (if_so (x == y) 0) (Has x y) (seek_value templates u x y)
@@ -164,7 +165,7 @@ module _ (templates : List Forest) (u : Walk) (x y : ℕ) (order_is : x ≤ y) (
         (λ o. flat_low templates u.nodes u.plain (λ m. (plain_is o m).low)) cost_is.low (known_low v B bounds) n d order_is h;
     high = λ v there n l. walk_there templates (seek u x y v) x y most zero_at
         (λ o. flat_there templates u.nodes u.plain (λ m. (plain_is o m).high)) cost_is.high (known_there v there) n 0 (template_at templates n) l;
-    outside = λ v m o. subst (λ t. (if_so (x == y) 0 ≤ 4097) ⊎ (4098 ≤ at (walk (seek u x y v) m 0 (from x) t) y)) (sym (get_or_past templates m none o)) outer;
+    outside = λ v m o. subst (λ t. (if_so (x == y) 0 ≤ PAST) ⊎ (NONE ≤ at (walk (seek u x y v) m 0 (from x) t) y)) (sym (get_or_past templates m none o)) outer;
     outside_least = λ m o l.
         let e = one l in
         let f : Has x y m none = subst (λ t. Runs (template_at templates) (graph u.nodes) u.aim m 0 x t y none) (sym (get_or_past templates m none o))
@@ -173,19 +174,19 @@ module _ (templates : List Forest) (u : Walk) (x y : ℕ) (order_is : x ≤ y) (
         (record { low = λ d h. omega (arith, z); high = λ k. (none, f, omega (arith, z)) }, λ k. (f, omega (arith, z)));
   }
     where
-      one : if_so (x == y) 0 ≤ 4097 → x ≡ y
+      one : if_so (x == y) 0 ≤ PAST → x ≡ y
       one l = elim (cases_Bool (x == y)) [
         | inl e ↦ eqb-true x y e
         | inr e ↦ let f = ap (λ b. if_so b 0) e in absurd (omega (arith, f, l))
       ]
 
-      split : (v : ℕ) → (v ≤ 4097) ⊎ (4098 ≤ v)
+      split : (v : ℕ) → (v ≤ PAST) ⊎ (NONE ≤ v)
       split v = grind arith
 
-      big : (v : ℕ) → (v ≤ 4097 → ⊥) → 4098 ≤ v
+      big : (v : ℕ) → (v ≤ PAST → ⊥) → NONE ≤ v
       big v f = elim (split v) [ inl l ↦ absurd (f l) | inr l ↦ l ]
 
-      outer : (if_so (x == y) 0 ≤ 4097) ⊎ (4098 ≤ at (from x) y)
+      outer : (if_so (x == y) 0 ≤ PAST) ⊎ (NONE ≤ at (from x) y)
       outer = elim (cases_Bool (x == y)) [
         | inl e ↦ let f = if_true (x == y) 0 e in inl (omega (arith, f))
         | inr e ↦ inr (big (at (from x) y) (λ l. false≢true (sym e ∙ eq-eqb x y (from_there x y most l))))

@@ -5,6 +5,7 @@ use Rattle.std.proofs.lemmas.List.{get_or_past, get_or-set_same, get_or-set_othe
 use Rattle.std.proofs.lemmas.List.Sums.{sum_by-set}
 use Rattle.std.proofs.lemmas.Bool.{false≢true}
 use Rattle.std.proofs.lemmas.Bool.Decides.{nat_tests}
+use Rattle.bw_explain.specs.declared.sizes.TheConstants.{MAX_SIZE, PAST, NONE}
 use Rattle.bw_explain.specs.declared.next.Next.{Next}
 use Rattle.std.specs.List.{sum_by}
 use Rattle.bw_lang.specs.Document.Forest.{Forest, none}
@@ -15,68 +16,68 @@ use Rattle.bw_explain.specs.Tables.{Table, size_at, doc_at, Settled, Solved, IsN
 below_or : (m n : ℕ) → (m < n) ⊎ (n ≤ m)
 below_or m n = grind arith
 
-small_or : (k : ℕ) → (k ≤ 4097) ⊎ (4097 < k)
+small_or : (k : ℕ) → (k ≤ PAST) ⊎ (PAST < k)
 small_or k = grind arith
 
 last : (m k : ℕ) → m < k + 1 → (m < k) ⊎ (m ≡ k)
 last m k h = grind arith
 
-pub is_above : (k v : ℕ) → 4097 < k → (if nat_lt 4097 k then v else 4098) ≡ v
-is_above k v h = ap (λ b. if b then v else 4098) (test k h)
+pub is_above : (k v : ℕ) → PAST < k → (if nat_lt PAST k then v else NONE) ≡ v
+is_above k v h = ap (λ b. if b then v else NONE) (test k h)
   where
-    test : (k : ℕ) → 4097 < k → nat_lt 4097 k ≡ true
+    test : (k : ℕ) → PAST < k → nat_lt PAST k ≡ true
     test k h = grind (arith, nat_tests)
 
-pub next_none : (known value : ℕ → ℕ) (at : ℕ) (least : ℕ) → least ≡ 4098 → IsNext 0 known value at least
+pub next_none : (known value : ℕ → ℕ) (at : ℕ) (least : ℕ) → least ≡ NONE → IsNext 0 known value at least
 next_none known value at least e = record { low = λ m h. absurd (omega (arith, h)); here = λ h. absurd (omega (arith, h, e)); most = omega (arith, e) }
 
--- one template more: size is its least size, or 4098 where it is settled
+-- one template more: size is its least size, or NONE where it is settled
 pub next_more : (k : ℕ) (known value : ℕ → ℕ) (at least size at2 least2 : ℕ) → IsNext k known value at least
-    → size ≡ (if nat_lt 4097 (known k) then value k else 4098) → size ≤ 4098
+    → size ≡ (if nat_lt PAST (known k) then value k else NONE) → size ≤ NONE
     → ((size < least) × (at2 ≡ k) × (least2 ≡ size)) ⊎ ((least ≤ size) × (at2 ≡ at) × (least2 ≡ least)) → IsNext (k + 1) known value at2 least2
 next_more k known value at least size at2 least2 h e most (inl n) = record {
   low = λ m l. elim (last m k l) [
     | inl b ↦ elim (h.low m b) [ inl s ↦ inl s | inr v ↦ let a = n.0 in let b = n.2 in inr (omega (arith, v, a, b)) ]
-    | inr is ↦ subst (λ j. (known j ≤ 4097) ⊎ (least2 ≤ value j)) (sym is)
+    | inr is ↦ subst (λ j. (known j ≤ PAST) ⊎ (least2 ≤ value j)) (sym is)
         (elim (small_or (known k)) [
           | inl s ↦ inl s
           | inr b ↦ let f = e
-              ∙ ap (λ t. if t then value k else 4098) (test (known k) b) in let g = n.2 in inr (omega (arith, f, g))
+              ∙ ap (λ t. if t then value k else NONE) (test (known k) b) in let g = n.2 in inr (omega (arith, f, g))
         ])
   ];
   here = λ l. elim (small_or (known k)) [
-    | inl s ↦ let f = e ∙ ap (λ t. if t then value k else 4098) (test_not (known k) s) in let g = n.2 in absurd (omega (arith, f, g, l))
+    | inl s ↦ let f = e ∙ ap (λ t. if t then value k else NONE) (test_not (known k) s) in let g = n.2 in absurd (omega (arith, f, g, l))
     | inr b ↦ let a = n.1 in (
       omega (arith, a),
-      subst (λ j. 4097 < known j) (sym n.1) b,
-      n.2 ∙ e ∙ ap (λ t. if t then value k else 4098) (test (known k) b)
+      subst (λ j. PAST < known j) (sym n.1) b,
+      n.2 ∙ e ∙ ap (λ t. if t then value k else NONE) (test (known k) b)
           ∙ ap value (sym n.1),
     )
   ];
   most = let a = n.2 in omega (arith, a, most);
 }
   where
-    test : (k : ℕ) → 4097 < k → nat_lt 4097 k ≡ true
+    test : (k : ℕ) → PAST < k → nat_lt PAST k ≡ true
     test k h = grind (arith, nat_tests)
 
-    test_not : (k : ℕ) → k ≤ 4097 → nat_lt 4097 k ≡ false
+    test_not : (k : ℕ) → k ≤ PAST → nat_lt PAST k ≡ false
     test_not k h = grind (arith, nat_tests)
 next_more k known value at least size at2 least2 h e most (inr n) = record {
   low = λ m l. elim (last m k l) [
     | inl b ↦ elim (h.low m b) [ inl s ↦ inl s | inr v ↦ let b = n.2 in inr (omega (arith, v, b)) ]
-    | inr is ↦ subst (λ j. (known j ≤ 4097) ⊎ (least2 ≤ value j)) (sym is)
+    | inr is ↦ subst (λ j. (known j ≤ PAST) ⊎ (least2 ≤ value j)) (sym is)
         (elim (small_or (known k)) [
           | inl s ↦ inl s
           | inr b ↦ let f = e
-              ∙ ap (λ t. if t then value k else 4098) (test (known k) b) in let g = n.2 in let a = n.0 in inr (omega (arith, f, g, a))
+              ∙ ap (λ t. if t then value k else NONE) (test (known k) b) in let g = n.2 in let a = n.0 in inr (omega (arith, f, g, a))
         ])
   ];
   here = λ l. let r = h.here (let g = n.2 in omega (arith, g, l)) in let a = n.1 in let b = r.0 in
-      (omega (arith, a, b), subst (λ j. 4097 < known j) (sym n.1) r.1, n.2 ∙ r.2 ∙ ap value (sym n.1));
+      (omega (arith, a, b), subst (λ j. PAST < known j) (sym n.1) r.1, n.2 ∙ r.2 ∙ ap value (sym n.1));
   most = let a = n.2 in let b = h.most in omega (arith, a, b);
 }
   where
-    test : (k : ℕ) → 4097 < k → nat_lt 4097 k ≡ true
+    test : (k : ℕ) → PAST < k → nat_lt PAST k ≡ true
     test k h = grind (arith, nat_tests)
 
 -- the sizes fall
@@ -93,10 +94,10 @@ replaced xs n m x d l = elim (equal_or m n) [
 both_at : (Has : Forest → Type 0) (d e : Forest) (k v : ℕ) → d ≡ e → k ≡ v → Has e × (size e ≤ v) → Has d × (size d ≤ k)
 both_at Has d e k v f g h = (subst Has (sym f) h.0, let s = ap size f in let a = h.1 in omega (arith, s, a, g))
 
-start_size : (count past n : ℕ) → ((n < count) × (get_or (replicate count 4098) n past ≡ 4098)) ⊎ ((count ≤ n) × (get_or (replicate count 4098) n past ≡ past))
+start_size : (count past n : ℕ) → ((n < count) × (get_or (replicate count NONE) n past ≡ NONE)) ⊎ ((count ≤ n) × (get_or (replicate count NONE) n past ≡ past))
 start_size count past n = elim (below_or n count) [
-  | inl l ↦ inl (l, get_or-replicate count n 4098 past l)
-  | inr o ↦ inr (o, get_or_past (replicate count 4098) n past (let e = length-replicate {A = ℕ} count 4098 in omega (arith, e, o)))
+  | inl l ↦ inl (l, get_or-replicate count n NONE past l)
+  | inr o ↦ inr (o, get_or_past (replicate count NONE) n past (let e = length-replicate {A = ℕ} count NONE in omega (arith, e, o)))
 ]
 
 start_doc : (count n : ℕ) → get_or (replicate count none) n none ≡ none
@@ -133,25 +134,25 @@ module _ (Has : ℕ → Forest → Type 0) (value : (ℕ → ℕ) → ℕ → �
     ]
   ]
 
-  pub start : (t : Table) → t ≡ record { past = past; sizes = replicate count 4098; docs = replicate count none } → Settled Has t
+  pub start : (t : Table) → t ≡ record { past = past; sizes = replicate count NONE; docs = replicate count none } → Settled Has t
   start t e = subst (Settled Has) (sym e) fresh
     where
-      fresh : Settled Has (record { past = past; sizes = replicate count 4098; docs = replicate count none })
+      fresh : Settled Has (record { past = past; sizes = replicate count NONE; docs = replicate count none })
       fresh = record {
         least = λ n l. elim (start_size count past n) [
           | inl r ↦ absurd (let a = r.1 in omega (arith, a, l))
-          | inr r ↦ subst (IsLeast (Has n)) (sym r.1) (laws.outside_least n r.0 (subst (λ k. k ≤ 4097) r.1 l)).0
+          | inr r ↦ subst (IsLeast (Has n)) (sym r.1) (laws.outside_least n r.0 (subst (λ k. k ≤ PAST) r.1 l)).0
         ];
         doc = λ n l. elim (start_size count past n) [
           | inl r ↦ absurd (let a = r.1 in omega (arith, a, l))
-          | inr r ↦ let small : past ≤ 4097 = (let a = r.1 in omega (arith, a, l)) in
-              both_at (Has n) (get_or (replicate count none) n none) none (get_or (replicate count 4098) n past) past (start_doc count n) r.1
+          | inr r ↦ let small : past ≤ PAST = (let a = r.1 in omega (arith, a, l)) in
+              both_at (Has n) (get_or (replicate count none) n none) none (get_or (replicate count NONE) n past) past (start_doc count n) r.1
               ((laws.outside_least n r.0 small).1 (let a = r.1 in omega (arith, a, l)))
         ];
       }
 
   next_least : (t : Table) (at b : ℕ) → length t.sizes ≡ count → t.past ≡ past → Settled Has t → IsNext count (size_at t) (value (size_at t)) at b → b
-      ≤ 4097 → IsLeast (Has at) b
+      ≤ PAST → IsLeast (Has at) b
   next_least t at b long p s n small =
       let here = n.here small in
       record {
@@ -161,29 +162,29 @@ module _ (Has : ℕ → Forest → Type 0) (value : (ℕ → ℕ) → ℕ → �
       }
 
   pub put : (t new : Table) (at b : ℕ) (doc : Forest) → length t.sizes ≡ count → length t.docs ≡ length t.sizes → t.past ≡ past → Settled Has t
-      → IsNext count (size_at t) (value (size_at t)) at b → b < 4098 → (b ≤ 4096 → Has at doc × (size doc ≤ b))
+      → IsNext count (size_at t) (value (size_at t)) at b → b < NONE → (b ≤ MAX_SIZE → Has at doc × (size doc ≤ b))
       → new ≡ record { past = t.past; sizes = set t.sizes at b; docs = set t.docs at doc } → Settled Has new
   put t new at b doc long docs p s n l made e =
-      let small : b ≤ 4097 = omega (arith, l) in
+      let small : b ≤ PAST = omega (arith, l) in
       let here = n.here small in
       let in_sizes : at < length t.sizes = let k = here.0 in omega (arith, k, long) in
       let in_docs : at < length t.docs = let k = here.0 in omega (arith, k, docs, long) in
       subst (Settled Has) (sym e) (record {
         least = λ m l. elim (replaced t.sizes at m b t.past in_sizes) [
           | inl r ↦ subst (λ k. IsLeast (Has m) k) (sym r.1) (subst (λ j. IsLeast (Has j) b) (sym r.0) (next_least t at b long p s n small))
-          | inr r ↦ subst (λ k. IsLeast (Has m) k) (sym r.1) (s.least m (subst (λ k. k ≤ 4097) r.1 l))
+          | inr r ↦ subst (λ k. IsLeast (Has m) k) (sym r.1) (s.least m (subst (λ k. k ≤ PAST) r.1 l))
         ];
         doc = λ m l. elim (replaced t.sizes at m b t.past in_sizes) [
           | inl r ↦ both_at (Has m) (get_or (set t.docs at doc) m none) doc (get_or (set t.sizes at b) m t.past) b
               (ap (λ j. get_or (set t.docs at doc) j none) r.0 ∙ get_or-set_same t.docs at doc none in_docs) r.1
               (let k = made (let e = r.1 in omega (arith, e, l)) in (subst (λ j. Has j doc) (sym r.0) k.0, k.1))
           | inr r ↦ both_at (Has m) (get_or (set t.docs at doc) m none) (doc_at t m) (get_or (set t.sizes at b) m t.past) (size_at t m)
-              (get_or-set_other t.docs at m doc none r.0) r.1 (s.doc m (subst (λ k. k ≤ 4096) r.1 l))
+              (get_or-set_other t.docs at m doc none r.0) r.1 (s.doc m (subst (λ k. k ≤ MAX_SIZE) r.1 l))
         ];
       })
 
   pub all : (t : Table) (at b : ℕ) → length t.sizes ≡ count → t.past ≡ past → Settled Has t → IsNext count (size_at t) (value (size_at t)) at b
-      → 4098 ≤ b → Solved Has t
+      → NONE ≤ b → Solved Has t
   all t at b long p s n big = record {
     least = λ m. elim (small_or (size_at t m)) [
       | inl l ↦ s.least m l

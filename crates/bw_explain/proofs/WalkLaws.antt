@@ -3,6 +3,7 @@ use Rattle.std.proofs.Common.{◌≡◌, inl, inr, ℕ, zero, suc, ◌+◌, ◌�
 use Rattle.std.proofs.lemmas.Bool.{eqb-true}
 use Rattle.bw_lang.specs.Document.Forest.{Forest, none, text, gap, element}
 use Rattle.bw_lang.specs.Document.Documents.{append, elements}
+use Rattle.bw_explain.specs.declared.sizes.TheConstants.{PAST}
 use Rattle.bw_explain.specs.declared.reach.Reach.{Reach}
 use Rattle.bw_explain.specs.Sizes.{plus}
 use Rattle.bw_explain.specs.Walks.{Aim, Walk, from, at, after, deep_cost, top_cost, element_cost, walk}
@@ -42,7 +43,7 @@ from_at (suc zero) h = refl
 from_at (suc (suc zero)) h = refl
 from_at (suc (suc (suc x))) h = absurd (omega (arith, h))
 
-pub from_there : (x y : ℕ) → y ≤ 2 → at (from x) y ≤ 4097 → x ≡ y
+pub from_there : (x y : ℕ) → y ≤ 2 → at (from x) y ≤ PAST → x ≡ y
 from_there x zero h l = eqb-true x 0 (if_there (x == 0) 0 l).0
 from_there x (suc zero) h l = eqb-true x 1 (if_there (x == 1) 0 l).0
 from_there x (suc (suc zero)) h l = eqb-true x 2 (if_there (x == 2) 0 l).0

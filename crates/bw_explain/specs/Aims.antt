@@ -1,6 +1,7 @@
 -- What is looked for where an element breaks its rule, and what a walk of the code goes by.
-use Rattle.std.specs.Prelude.{ℕ, ◌≡◌, ◌+◌, ◌≤◌, ◌==◌, Bool, true, false, ◌&&◌, not, List, [], length, if◌then◌else◌}
+use Rattle.std.specs.Prelude.{ℕ, ◌≡◌, ◌+◌, ◌<◌, ◌≤◌, ◌^◌, ◌==◌, Bool, true, false, ◌&&◌, not, List, [], length, if◌then◌else◌}
 use Rattle.bw_lang.specs.declared.items.Attr.{Attr}
+use Rattle.bw_lang.specs.Document.Documents.{elements}
 use Rattle.bw_lang.specs.Document.Forest.{Forest, none}
 use Rattle.bw_lang.specs.Table.Names.{same}
 use Rattle.bw_schema.specs.declared.rules.Rule.{Rule}
@@ -9,9 +10,11 @@ use Rattle.bw_schema.specs.Words.{is_among}
 use Rattle.bw_shape.specs.Nodes.Templates.{template_at}
 use Rattle.bw_sum.specs.Unfolding.{FillsAttrs, Fills}
 use Rattle.bw_lang.specs.declared.items.Element.{Element}
+use Rattle.bw_explain.specs.declared.sizes.TheConstants.{MAX_SIZE, NONE}
 use Rattle.bw_explain.specs.declared.aim.Made.{Made}
 use Rattle.bw_explain.specs.declared.element.Whole.{Whole}
 use Rattle.bw_explain.specs.declared.solve.Tables.{Tables}
+use Rattle.bw_explain.specs.declared.solve.Search.{Search}
 use Rattle.bw_explain.specs.declared.aim.Aim.{Aim}
 use Rattle.bw_explain.specs.declared.aim.Aim.TheVariants.{Plain, Tops, One}
 use Rattle.bw_explain.specs.declared.atom.Atom.{Atom}
@@ -89,8 +92,8 @@ aim_of (One b) = one_aim b.template b.place b.element.now.attrs b.element.now.it
 
 -- the least size of the element that it looks for
 abbrev pub cost_of : Aim → ℕ
-cost_of Plain = 4098
-cost_of (Tops r a) = 4098
+cost_of Plain = NONE
+cost_of (Tops r a) = NONE
 cost_of (One b) = b.size
 
 -- the sizes that are known to the code
@@ -122,7 +125,7 @@ pub record IsElement (Fit : List Attr → Forest → Type 0) (v : ℕ) (m : Made
 abbrev pub IsMade : Page → Aim → Type 0
 IsMade p Plain = Unit {0}
 IsMade p (Tops r a) = Unit {0}
-IsMade p (One b) = b.size ≤ 4096 → IsElement (λ c j. FillsAttrs (graph p.nodes.now) b.template b.element.now.attrs c
+IsMade p (One b) = b.size ≤ MAX_SIZE → IsElement (λ c j. FillsAttrs (graph p.nodes.now) b.template b.element.now.attrs c
     × Fills (template_at p.templates.now) (graph p.nodes.now) b.template b.element.now.items j × (is_broken b.rule.now b.atom.now c j ≡ true)) b.size b.made.now
 
 -- these are the attributes and items of the element that is looked for
@@ -164,6 +167,15 @@ pub record IsSought (p : Page) (a : Aim) (flat stay first second : Table) (low h
   pub known : (x y : ℕ) → low ≤ x → x ≤ y → y ≤ high → ((x ≡ low) → (y ≡ high) → ⊥) → Solved (Has p a x y) (part_of stay first second x y)
   pub fair : IsFairAim p a
 
+-- what a search goes by: what it looks for at any depth it finds in one step
+pub record IsSearch (s : Search) : Type 0 where
+  pub few : (m : ℕ) → elements (template_at s.page.templates.now m) < 2 ^ 32
+  pub cost : cost_of s.aim ≤ NONE
+  pub goal : s.goal ≤ 2
+  pub deep : (aim_of s.aim).deep ≡ true → s.goal ≤ 1
+  pub plain : (aim_of s.aim).deep ≡ false → Solved (IsPlain s.page) s.plain.now
+  pub fair : IsFairAim s.page s.aim
+
 -- all documents up to a state are settled
 pub record AreSolved (p : Page) (a : Aim) (t : Tables) (goal : ℕ) : Type 0 where
   pub stay : Solved (Has p a 0 0) t.stay
@@ -179,6 +191,7 @@ pub record AreTops (p : Page) (r : Rule) (a : Atom) (t : Tables) : Type 0 where
 -- the least size of what fills an element so that it is broken, and that
 pub record IsBroken (p : Page) (r : Rule) (a : Atom) (n : ℕ) (e : Element) (w : Whole) : Type 0 where
   pub size : CostIs (template_at p.templates.now) (graph p.nodes.now) (is_broken r a) n e.attrs e.items w.size
-  pub most : w.size ≤ 4098
-  pub made : w.size ≤ 4096 → IsElement (λ b j. FillsAttrs (graph p.nodes.now) n e.attrs b × Fills (template_at p.templates.now) (graph p.nodes.now) n e.items j
+  pub most : w.size ≤ NONE
+  pub made : w.size ≤ MAX_SIZE → IsElement (λ b j. FillsAttrs (graph p.nodes.now) n e.attrs b × Fills (template_at p.templates.now)
+      (graph p.nodes.now) n e.items j
       × (is_broken r a b j ≡ true)) w.size w.made

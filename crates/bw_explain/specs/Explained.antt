@@ -14,6 +14,7 @@ use Rattle.bw_judge.specs.Faults.{At, Sure}
 use Rattle.bw_schema.specs.Needs.{Needs, nothing, all_of, some_of, attr, one_value, content, order}
 use Rattle.bw_shape.specs.Nodes.Templates.{template_at}
 use Rattle.bw_sum.specs.Graph.{Graph}
+use Rattle.bw_explain.specs.declared.sizes.TheConstants.{MAX_SIZE, PAST}
 use Rattle.bw_explain.specs.declared.atom.Atom.{Atom}
 use Rattle.bw_explain.specs.declared.explained.Explained.{Explained}
 use Rattle.bw_explain.specs.declared.explained.Explained.TheVariants as answers
@@ -28,15 +29,15 @@ use Rattle.bw_explain.specs.Walks.{Runs}
 
 -- what is told of some documents: a least one, closed, or that each is too big, or that there is none
 pub data IsAnswer (Shown : Forest → Type 0) : Explained → Type 0 where
-  page_of : {d : Forest} → Shown d → size d ≤ 4096 → ((e : Forest) → Shown e → size d ≤ size e) → IsAnswer Shown (answers.Page (record { items = close d }))
-  all_big : (d : Forest) → Shown d → ((e : Forest) → Shown e → 4096 < size e) → IsAnswer Shown answers.TooBig
+  page_of : {d : Forest} → Shown d → size d ≤ MAX_SIZE → ((e : Forest) → Shown e → size d ≤ size e) → IsAnswer Shown (answers.Page (record { items = close d }))
+  all_big : (d : Forest) → Shown d → ((e : Forest) → Shown e → MAX_SIZE < size e) → IsAnswer Shown answers.TooBig
   none_there : ((d : Forest) → Shown d → ⊥) → IsAnswer Shown answers.NoUnfolding
 
 -- what explains a fault: a least page that shows it, or that each is too big, or that there is none, told apart by Split: that a need with an Or isn't sure
 pub data IsExplained (Shown : Forest → Type 0) (Split : Type 0) : Explained → Type 0 where
-  page : {d : Forest} → Shown d → size d ≤ 4096 → ((e : Forest) → Shown e → size d ≤ size e)
+  page : {d : Forest} → Shown d → size d ≤ MAX_SIZE → ((e : Forest) → Shown e → size d ≤ size e)
       → IsExplained Shown Split (answers.Page (record { items = close d }))
-  too_big : (d : Forest) → Shown d → ((e : Forest) → Shown e → 4096 < size e) → IsExplained Shown Split answers.TooBig
+  too_big : (d : Forest) → Shown d → ((e : Forest) → Shown e → MAX_SIZE < size e) → IsExplained Shown Split answers.TooBig
   disjunction : ((d : Forest) → Shown d → ⊥) → Split → IsExplained Shown Split answers.Disjunction
   no_unfolding : ((d : Forest) → Shown d → ⊥) → (Split → ⊥) → IsExplained Shown Split answers.NoUnfolding
 
@@ -120,7 +121,7 @@ pub record Ties (G H : Graph) : Type 0 where
 -- s is the least size of such documents, and d is one of that size, if it isn't too big
 pub record IsBest (Has : Forest → Type 0) (s : ℕ) (d : Forest) : Type 0 where
   pub least : IsLeast Has s
-  pub doc : s ≤ 4096 → Has d × (size d ≤ s)
+  pub doc : s ≤ MAX_SIZE → Has d × (size d ≤ s)
 
 -- the size and the document that a table has of template n
 abbrev pub IsFoundAt : Table → ℕ → ℕ → Forest → Type 0
@@ -130,9 +131,9 @@ IsFoundAt t n s d = (s ≡ size_at t n) × (d ≡ doc_at t n)
 abbrev pub better : Found → Found → Found
 better a b = if nat_lt b.size a.size then b else a
 
--- what is told of a least size and document: no unfolding past 4,097, too big past 4,096, else the page, closed
+-- what is told of a least size and document: no unfolding past PAST, too big past MAX_SIZE, else the page, closed
 abbrev pub answer_of : ℕ → Forest → Explained
-answer_of s d = if nat_lt 4097 s then answers.NoUnfolding else if nat_lt 4096 s then answers.TooBig else answers.Page (record { items = close d })
+answer_of s d = if nat_lt PAST s then answers.NoUnfolding else if nat_lt MAX_SIZE s then answers.TooBig else answers.Page (record { items = close d })
 
 -- a page that explains a fault isn't valid by the schema
 abbrev pub NotValid : Schema → Explained → Type 0

@@ -7,6 +7,7 @@ use Rattle.bw_lang.specs.declared.items.AttrValue.{AttrValue}
 use Rattle.bw_lang.specs.declared.items.AttrValue.TheVariants.{Fixed, Hole}
 use Rattle.bw_sum.specs.Graph.{Graph}
 use Rattle.bw_sum.specs.Unfolding.{FillsAttrs}
+use Rattle.bw_explain.specs.declared.sizes.TheConstants.{PAST}
 use Rattle.bw_explain.specs.Ways.{Way, way_of, ways_at, says}
 use Rattle.bw_schema.specs.declared.rules.Rule.{Rule}
 use Rattle.bw_schema.specs.Rules.{allows, permits}
@@ -19,7 +20,7 @@ use Rattle.bw_explain.specs.Sizes.{capped, if_so, may_fill, attrs_least}
 -- own is the least number of attributes that fill those of a template and are good
 pub record OwnIs (G : Graph) (good : List Attr → Bool) (own : ℕ → List Attr → ℕ) : Type 0 where
   pub low : (n : ℕ) (a b : List Attr) → FillsAttrs G n a b → good b ≡ true → own n a ≤ capped (length b)
-  pub high : (n : ℕ) (a : List Attr) → own n a ≤ 4097 → (b : List Attr) × FillsAttrs G n a b × (good b ≡ true) × (capped (length b) ≤ own n a)
+  pub high : (n : ℕ) (a : List Attr) → own n a ≤ PAST → (b : List Attr) × FillsAttrs G n a b × (good b ≡ true) × (capped (length b) ≤ own n a)
 
 -- some string of the label fails the test at an attribute of that name
 pub record FailsIs (test : List ℕ → List ℕ → Bool) (fails : List ℕ → Way → Bool) : Type 0 where

@@ -5,6 +5,7 @@ use Rattle.bw_lang.specs.declared.items.Attr.{Attr}
 use Rattle.bw_lang.specs.declared.items.AttrValue.{AttrValue}
 use Rattle.bw_lang.specs.declared.items.AttrValue.TheVariants.{Fixed, Hole}
 use Rattle.bw_lang.specs.Document.Forest.{Forest, none, text, gap, element}
+use Rattle.bw_explain.specs.declared.sizes.TheConstants.{PAST, NONE}
 use Rattle.bw_explain.specs.Ways.{Way, way_of}
 
 -- the number of items and attributes at all levels
@@ -14,30 +15,30 @@ size (text s r) = 1 + size r
 size (gap g r) = 1 + size r
 size (element tag a i r) = 1 + length a + size i + size r
 
--- 4097 stands for each size over 4096
+-- PAST stands for each size over MAX_SIZE
 abbrev pub capped : ℕ → ℕ
-capped s = min s 4097
+capped s = min s PAST
 
 -- a document of at most that size, capped
 abbrev pub Found : (Forest → Type 0) → ℕ → Type 0
 Found Has v = (d : Forest) × Has d × (capped (size d) ≤ v)
 
--- v is the least size, capped, of what there is: 4098 where there is nothing
+-- v is the least size, capped, of what there is: NONE where there is nothing
 pub record IsLeast (Has : Forest → Type 0) (v : ℕ) : Type 0 where
   pub low : (d : Forest) → Has d → v ≤ capped (size d)
-  pub high : v ≤ 4097 → Found Has v
+  pub high : v ≤ PAST → Found Has v
 
 -- the sum of such sizes
 abbrev pub plus : ℕ → ℕ → ℕ
-plus a b = max (min (a + b) 4097) (max a b)
+plus a b = max (min (a + b) PAST) (max a b)
 
 -- the size where it may be
 abbrev pub if_so : Bool → ℕ → ℕ
-if_so b v = if b then v else 4098
+if_so b v = if b then v else NONE
 
 -- the least of the sizes that are known of these templates
 abbrev pub least_of : (ℕ → ℕ) → List ℕ → ℕ
-least_of known [] = 4098
+least_of known [] = NONE
 least_of known (m ∷ ms) = min (known m) (least_of known ms)
 
 -- there is a word

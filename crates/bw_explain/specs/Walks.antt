@@ -8,6 +8,7 @@ use Rattle.bw_lang.specs.Text.Bytes.{is_blank_text}
 use Rattle.bw_shape.specs.Nodes.Templates.{template_at}
 use Rattle.bw_sum.specs.Graph.{Graph}
 use Rattle.bw_sum.specs.Unfolding.{FillsAttrs, Fills}
+use Rattle.bw_explain.specs.declared.sizes.TheConstants.{MAX_SIZE, PAST, NONE}
 use Rattle.bw_explain.specs.declared.reach.Reach.{Reach}
 use Rattle.bw_explain.specs.declared.reach.Moves.{Moves}
 use Rattle.bw_explain.specs.Tables.{Table, size_at, doc_at}
@@ -105,18 +106,18 @@ plain_walk nodes plain = record {
   nodes = nodes;
   plain = plain;
   known = record { stay = plain; first = plain; second = plain; whole = plain };
-  cost = 4098;
+  cost = NONE;
 }
 
 -- ---- sizes
 
--- no size over 4098
+-- no size over NONE
 abbrev pub AreSizes : Reach → Type 0
-AreSizes r = (r.start ≤ 4098) × (r.middle ≤ 4098) × (r.last ≤ 4098)
+AreSizes r = (r.start ≤ NONE) × (r.middle ≤ NONE) × (r.last ≤ NONE)
 
 -- each is a size, or that of none
 abbrev pub AreCosts : Moves → Type 0
-AreCosts m = (m.start ≤ 4098) × (m.start_middle ≤ 4098) × (m.start_last ≤ 4098) × (m.middle ≤ 4098) × (m.middle_last ≤ 4098) × (m.last ≤ 4098)
+AreCosts m = (m.start ≤ NONE) × (m.start_middle ≤ NONE) × (m.start_last ≤ NONE) × (m.middle ≤ NONE) × (m.middle_last ≤ NONE) × (m.last ≤ NONE)
 
 -- the size in each state, from one state on
 abbrev pub from : ℕ → Reach
@@ -195,7 +196,7 @@ spot_size u n k x y = if_so (((x + 1) == y) && is_spot u.aim n (k + 1)) u.cost
 
 -- what the first item costs
 abbrev pub item_cost : Walk → ℕ → ℕ → Forest → ℕ → ℕ → ℕ
-item_cost u n k none = λ x y. 4098
+item_cost u n k none = λ x y. NONE
 item_cost u n k (text s t) = text_cost u.aim s
 item_cost u n k (gap g t) = gap_cost u (way_of (ways_at u.nodes n) g)
 item_cost u n k (element tag a i t) = element_cost u.aim n (k + 1) tag (plus 1 (attrs_least (ways_at u.nodes n) a)) (walk u n (k + 1) (from 0) i) u.cost
@@ -214,7 +215,7 @@ seek_value templates u x y v n = at (walk (seek u x y v) n 0 (from x) (template_
 -- cost is the least size of an element that fills one of template n and is good
 pub record CostIs (templates : ℕ → Forest) (G : Graph) (good : List Attr → Forest → Bool) (n : ℕ) (a : List Attr) (i : Forest) (cost : ℕ) : Type 0 where
   pub low : (b : List Attr) (j : Forest) → FillsAttrs G n a b → Fills templates G n i j → good b j ≡ true → cost ≤ capped (1 + length b + size j)
-  pub high : cost ≤ 4097 → (b : List Attr)
+  pub high : cost ≤ PAST → (b : List Attr)
       × ((j : Forest) × FillsAttrs G n a b × Fills templates G n i j × (good b j ≡ true) × (capped (1 + length b + size j) ≤ cost))
 
 -- ---- documents
@@ -240,6 +241,6 @@ pub data Picks (A : Aim) (w : Way) (t : Table) (x y v : ℕ) (old new : Forest) 
 abbrev pub doc_of : Forest → Forest → Forest → ℕ → Forest
 doc_of a b c x = if x == 0 then a else if x == 1 then b else c
 
--- in each state up to high, where the size is at most 4096, the document of that state takes x there, and has that size at most
+-- in each state up to high, where the size is at most MAX_SIZE, the document of that state takes x there, and has that size at most
 abbrev pub IsDraft : (ℕ → Forest) → Graph → Aim → ℕ → ℕ → ℕ → ℕ → Forest → Reach → (ℕ → Forest) → Type 0
-IsDraft templates G A n k x high t r doc = (y : ℕ) → y ≤ high → at r y ≤ 4096 → Runs templates G A n k x t y (doc y) × (size (doc y) ≤ at r y)
+IsDraft templates G A n k x high t r doc = (y : ℕ) → y ≤ high → at r y ≤ MAX_SIZE → Runs templates G A n k x t y (doc y) × (size (doc y) ≤ at r y)

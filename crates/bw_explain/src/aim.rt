@@ -1,5 +1,6 @@
 //! What is looked for in documents.
 ghost use Rattle.std.specs.Prelude.{◌≡◌, ◌≤◌, IfOk, true};
+ghost use Rattle.bw_explain.specs.declared.sizes.TheConstants.{MAX_SIZE, NONE};
 ghost use Rattle.bw_explain.specs.Aims as spec;
 ghost use Rattle.bw_explain.specs.Sizes as sizes;
 ghost use Rattle.bw_explain.specs.Walks.{is_spot};
@@ -84,9 +85,9 @@ impl<'a> Aim<'a> {
 
     /// The least size of the element at a place of a template, if it is what is looked for.
     pub fn spot(&self, n: usize, place: u32) -> u32
-        requires { spec.cost_of self.now ≤ 4098 }
+        requires { spec.cost_of self.now ≤ NONE }
         ensures is { result ≡ sizes.if_so (is_spot (spec.aim_of self.now) n place) (spec.cost_of self.now) }
-        ensures most { result ≤ 4098 }
+        ensures most { result ≤ NONE }
     {
         match self {
             Aim::One(one) => {
@@ -103,7 +104,7 @@ impl<'a> Aim<'a> {
 
 /// The element that is looked for.
 pub fn copy_made(aim: &Aim) -> Result<Made, Memory>
-    requires { spec.cost_of aim.now ≤ 4096 }
+    requires { spec.cost_of aim.now ≤ MAX_SIZE }
     ensures { IfOk result (spec.IsCopy aim.now) }
 {
     match aim {

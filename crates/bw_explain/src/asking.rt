@@ -1,5 +1,5 @@
 //! `explain`: the wrappers and the literals are made for one fault.
-ghost use Rattle.std.specs.Prelude.{IfOk};
+ghost use Rattle.std.specs.Prelude.{◌≡◌, IfOk};
 ghost use Rattle.bw_judge.specs.Faults.{IsFault};
 ghost use Rattle.bw_shape.specs.Outlines.{IsPageGraph, root_of};
 ghost use Rattle.bw_strings.specs.Literals.{literals_of};
@@ -39,13 +39,39 @@ pub fn explain(
     ensures refused { IfOk result (NotValid schema.now) }
 {
     let literals = Literals::of(alloc, typed.service())?;
+    let explained = explain_by_literals(alloc, &literals, page, typed, schema, fault);
+    drop(literals);
+    explained
+}
+
+/// The same, where the literals of the service are lent.
+fn explain_by_literals(
+    alloc: Global,
+    literals: &Literals,
+    page: &Summary,
+    typed: &Typed,
+    schema: &Schema,
+    fault: &Fault,
+) -> Result<Explained, Memory>
+    requires literals { literals.now ≡ literals_of typed.now.service }
+    requires page { IsPageGraph typed.now.service page.now }
+    requires fault { IsFault (template_items typed.now.service) (summary_graph (literals_of typed.now.service) page.now) (root_of page.now)
+        schema.now fault.now.point fault.now }
+    ensures explained { IfOk result (λ e. IsExplained
+        (Shows (template_items typed.now.service) (summary_graph (literals_of typed.now.service) page.now) schema.now.elements fault.now (root_of page.now))
+        (IsSplit (template_items typed.now.service) (summary_graph (literals_of typed.now.service) page.now) schema.now.elements fault.now) e) }
+    ensures refused { IfOk result (NotValid schema.now) }
+{
     let wrappers = Wrappers::of(alloc, typed)?;
     let templates = wrappers.behind(typed);
     let basis = Basis {
         typed,
-        literals: &literals,
+        literals,
         templates: &templates,
         schema,
     };
-    explain_by(alloc, &basis, page, fault)
+    let explained = explain_by(alloc, &basis, page, fault);
+    drop(templates);
+    drop(wrappers);
+    explained
 }

@@ -1,10 +1,11 @@
 //! Documents of least size in which something is looked for.
-ghost use Rattle.std.specs.Prelude.{◌≡◌, ℕ, ◌+◌, ◌-◌, ◌≤◌, ◌<◌, ◌^◌, ◌==◌, true, if◌then◌else◌, IfOk, OnOk, length};
+ghost use Rattle.std.specs.Prelude.{◌≡◌, ◌+◌, ◌-◌, ◌≤◌, ◌<◌, ◌^◌, ◌==◌, true, if◌then◌else◌, IfOk, OnOk, length};
 ghost use Rattle.bw_lang.specs.Document.Documents.{elements};
 ghost use Rattle.bw_lang.specs.Document.Forest.{none, element as node};
 ghost use Rattle.bw_lang.specs.Document.View.{before};
 ghost use Rattle.bw_shape.specs.Nodes.Templates.{template_at};
 ghost use Rattle.bw_sum.specs.Unfolding.{FillsAttrs, Fills};
+ghost use Rattle.bw_explain.specs.declared.sizes.TheConstants.{MAX_SIZE, NONE};
 ghost use Rattle.bw_explain.specs.Aims.{aim_of, cost_of, walk_of, IsPlain, IsElement, IsReady};
 ghost use Rattle.bw_explain.specs.Tables.{Documents};
 ghost use Rattle.bw_explain.specs.Walks as spec;
@@ -14,6 +15,8 @@ ghost use Rattle.bw_explain.specs.Ways.{graph};
 use crate::aim::{Made, copy_made};
 use crate::fill::fill_attrs;
 use crate::gaps::put_gap;
+use crate::ground::Stand;
+use crate::putting::{either, put_element, put_text, rebase};
 use crate::reach::Reach;
 use crate::sizes::MAX_SIZE;
 use crate::spotting::is_spotted;
@@ -56,13 +59,16 @@ fn make_top(alloc: Global, walk: &Walk, n: usize, element: &Element) -> Result<M
     requires n { n < length walk.now.page.templates.now }
     requires plain { Documents (IsPlain walk.now.page) walk.now.plain.now }
     requires few { elements element.now.items < 2 ^ 32 }
-    requires small { spec.flat_size (walk_of walk.now) n element.now.attrs element.now.items ≤ 4096 }
+    requires small { spec.flat_size (walk_of walk.now) n element.now.attrs element.now.items ≤ MAX_SIZE }
     ensures { IfOk result (IsElement (λ b j. FillsAttrs (graph walk.now.page.nodes.now) n element.now.attrs b
         × Fills (template_at walk.now.page.templates.now) (graph walk.now.page.nodes.now) n element.now.items j)
         (spec.flat_size (walk_of walk.now) n element.now.attrs element.now.items)) }
 {
     let attrs = fill_attrs(alloc, &walk.page, n, &element.attrs)?;
-    let items = draft_items(alloc, &walk.flat(), n, 0, 0, &element.items)?;
+    let Ok(items) = draft_items(alloc, &walk.flat(), n, 0, 0, &element.items) else {
+        drop(attrs);
+        return Err(Memory);
+    };
     Ok(Made {
         attrs,
         items: items.into_doc(0),
@@ -81,18 +87,21 @@ fn make_inside(
     element: &Element,
 ) -> Result<Made, Memory>
     requires n { n < length walk.now.page.templates.now }
-    requires cost { cost_of walk.now.aim ≤ 4098 }
+    requires cost { cost_of walk.now.aim ≤ NONE }
     requires ready { IsReady walk.now }
     requires deep { (aim_of walk.now.aim).deep ≡ true }
     requires place { place + 1 + elements element.now.items < 2 ^ 32 }
     requires state { state ≤ walk.now.high }
-    requires small { spec.inside_size (walk_of walk.now) n place element.now.attrs element.now.items state ≤ 4096 }
+    requires small { spec.inside_size (walk_of walk.now) n place element.now.attrs element.now.items state ≤ MAX_SIZE }
     ensures { IfOk result (IsElement (λ b j. FillsAttrs (graph walk.now.page.nodes.now) n element.now.attrs b
         × Runs (template_at walk.now.page.templates.now) (graph walk.now.page.nodes.now) (aim_of walk.now.aim) n (place + 1) 0 element.now.items state j)
         (spec.inside_size (walk_of walk.now) n place element.now.attrs element.now.items state)) }
 {
     let attrs = fill_attrs(alloc, &walk.page, n, &element.attrs)?;
-    let items = draft_items(alloc, walk, n, place + 1, 0, &element.items)?;
+    let Ok(items) = draft_items(alloc, walk, n, place + 1, 0, &element.items) else {
+        drop(attrs);
+        return Err(Memory);
+    };
     Ok(Made {
         attrs,
         items: items.into_doc(state),
@@ -104,23 +113,24 @@ fn make_inside(
 #[cycle(draft)]
 fn make(
     alloc: Global,
-    walk: &Walk,
-    n: usize,
-    place: u32,
+    stand: &Stand<'_>,
     from: u32,
     to: u32,
     element: &Element,
 ) -> Result<Made, Memory>
-    requires n { n < length walk.now.page.templates.now }
-    requires cost { cost_of walk.now.aim ≤ 4098 }
-    requires ready { IsReady walk.now }
-    requires place { place + 1 + elements element.now.items < 2 ^ 32 }
-    requires states { (walk.now.low ≤ from) × (from ≤ to) × (to ≤ walk.now.high) }
-    requires small { spec.item_cost (walk_of walk.now) n place (node element.now.tag element.now.attrs element.now.items none) from to ≤ 4096 }
-    ensures { IfOk result (IsElement (λ b j. Runs (template_at walk.now.page.templates.now) (graph walk.now.page.nodes.now) (aim_of walk.now.aim) n place from
+    requires n { stand.now.n < length stand.now.walk.now.page.templates.now }
+    requires cost { cost_of stand.now.walk.now.aim ≤ NONE }
+    requires ready { IsReady stand.now.walk.now }
+    requires place { stand.now.place + 1 + elements element.now.items < 2 ^ 32 }
+    requires states { (stand.now.walk.now.low ≤ from) × (from ≤ to) × (to ≤ stand.now.walk.now.high) }
+    requires small { spec.item_cost (walk_of stand.now.walk.now) stand.now.n stand.now.place
+        (node element.now.tag element.now.attrs element.now.items none) from to ≤ MAX_SIZE }
+    ensures { IfOk result (IsElement (λ b j. Runs (template_at stand.now.walk.now.page.templates.now) (graph stand.now.walk.now.page.nodes.now)
+        (aim_of stand.now.walk.now.aim) stand.now.n stand.now.place from
         (node element.now.tag element.now.attrs element.now.items none) to (node element.now.tag b j none))
-        (spec.item_cost (walk_of walk.now) n place (node element.now.tag element.now.attrs element.now.items none) from to)) }
+        (spec.item_cost (walk_of stand.now.walk.now) stand.now.n stand.now.place (node element.now.tag element.now.attrs element.now.items none) from to)) }
 {
+    let Stand { walk, n, place } = *stand;
     if !walk.aim.is_deep() {
         return make_top(alloc, walk, n, element);
     }
@@ -135,44 +145,29 @@ fn make(
 #[cycle(draft)]
 fn put(
     alloc: Global,
-    walk: &Walk,
-    n: usize,
-    place: u32,
+    stand: &Stand<'_>,
     from: u32,
     to: u32,
     item: &Item,
     out: &mut Items,
 ) -> Result<(), Memory>
-    requires n { n < length walk.now.page.templates.now }
-    requires cost { cost_of walk.now.aim ≤ 4098 }
-    requires ready { IsReady walk.now }
-    requires place { place + elements (before item.now none) < 2 ^ 32 }
-    requires states { (walk.now.low ≤ from) × (from ≤ to) × (to ≤ walk.now.high) }
-    requires small { spec.item_cost (walk_of walk.now) n place (before item.now none) from to ≤ 4096 }
-    ensures { OnOk result (Adds (Runs (template_at walk.now.page.templates.now) (graph walk.now.page.nodes.now) (aim_of walk.now.aim) n place from
-        (before item.now none) to) (spec.item_cost (walk_of walk.now) n place (before item.now none) from to) out.old out.new) }
+    requires n { stand.now.n < length stand.now.walk.now.page.templates.now }
+    requires cost { cost_of stand.now.walk.now.aim ≤ NONE }
+    requires ready { IsReady stand.now.walk.now }
+    requires place { stand.now.place + elements (before item.now none) < 2 ^ 32 }
+    requires states { (stand.now.walk.now.low ≤ from) × (from ≤ to) × (to ≤ stand.now.walk.now.high) }
+    requires small { spec.item_cost (walk_of stand.now.walk.now) stand.now.n stand.now.place (before item.now none) from to ≤ MAX_SIZE }
+    ensures { OnOk result (Adds (Runs (template_at stand.now.walk.now.page.templates.now) (graph stand.now.walk.now.page.nodes.now)
+        (aim_of stand.now.walk.now.aim) stand.now.n stand.now.place from
+        (before item.now none) to) (spec.item_cost (walk_of stand.now.walk.now) stand.now.n stand.now.place (before item.now none) from to) out.old out.new) }
 {
     match item {
-        Item::Text(text) => out.push(Item::Text(text.copy()?))?,
-        Item::Gap(gap) => put_gap(alloc, walk, n, from, to, *gap, out)?,
+        Item::Text(text) => put_text(text, out)?,
+        Item::Gap(gap) => put_gap(alloc, stand, from, to, *gap, out)?,
         Item::Element(element) => {
-            let made = make(alloc, walk, n, place, from, to, element)?;
-            out.push(Item::Element(Element {
-                tag: element.tag.copy()?,
-                attrs: made.attrs,
-                items: made.items,
-            }))?;
+            let made = make(alloc, stand, from, to, element)?;
+            put_element(element, made, out)?;
         }
-    }
-    Ok(())
-}
-
-/// The other document, or this one where it is the same.
-fn rebase(is_same: bool, base: &Items, own: &mut Items) -> Result<(), Memory>
-    ensures { OnOk result (own.new ≡ (if is_same then own.old else base.now)) }
-{
-    if !is_same {
-        *own = base.copy()?;
     }
     Ok(())
 }
@@ -182,9 +177,7 @@ fn rebase(is_same: bool, base: &Items, own: &mut Items) -> Result<(), Memory>
 #[cycle(draft)]
 fn grow(
     alloc: Global,
-    walk: &Walk,
-    n: usize,
-    place: u32,
+    stand: &Stand<'_>,
     from: u32,
     to: u32,
     size: u32,
@@ -192,29 +185,25 @@ fn grow(
     base: &Items,
     own: &mut Items,
 ) -> Result<(), Memory>
-    requires n { n < length walk.now.page.templates.now }
-    requires cost { cost_of walk.now.aim ≤ 4098 }
-    requires ready { IsReady walk.now }
-    requires place { place + elements (before item.now none) < 2 ^ 32 }
+    requires n { stand.now.n < length stand.now.walk.now.page.templates.now }
+    requires cost { cost_of stand.now.walk.now.aim ≤ NONE }
+    requires ready { IsReady stand.now.walk.now }
+    requires place { stand.now.place + elements (before item.now none) < 2 ^ 32 }
     requires states { from ≤ to }
-    requires low { to ≤ walk.now.high → size ≤ 4096 → walk.now.low ≤ from }
-    requires small { size ≤ 4096 → spec.item_cost (walk_of walk.now) n place (before item.now none) from to ≤ 4096 }
-    ensures { OnOk result (to ≤ walk.now.high → size ≤ 4096 → Adds (Runs (template_at walk.now.page.templates.now) (graph walk.now.page.nodes.now)
-        (aim_of walk.now.aim) n place from (before item.now none) to) (spec.item_cost (walk_of walk.now) n place (before item.now none) from to)
+    requires low { to ≤ stand.now.walk.now.high → size ≤ MAX_SIZE → stand.now.walk.now.low ≤ from }
+    requires small { size ≤ MAX_SIZE → spec.item_cost (walk_of stand.now.walk.now) stand.now.n stand.now.place (before item.now none) from to ≤ MAX_SIZE }
+    ensures { OnOk result (to ≤ stand.now.walk.now.high → size ≤ MAX_SIZE → Adds (Runs (template_at stand.now.walk.now.page.templates.now)
+        (graph stand.now.walk.now.page.nodes.now)
+        (aim_of stand.now.walk.now.aim) stand.now.n stand.now.place from (before item.now none) to) (spec.item_cost
+        (walk_of stand.now.walk.now) stand.now.n stand.now.place
+        (before item.now none) from to)
         (if from == to then own.old else base.now) own.new) }
 {
-    if to > walk.high || size > MAX_SIZE {
+    if to > stand.walk.high || size > MAX_SIZE {
         return Ok(());
     }
     rebase(from == to, base, own)?;
-    put(alloc, walk, n, place, from, to, item, own)
-}
-
-/// The first of two lists of items, or the second.
-fn either<'x>(is_first: bool, first: &'x Items, second: &'x Items) -> &'x Items
-    ensures { result.now ≡ (if is_first then first.now else second.now) }
-{
-    if is_first { first } else { second }
+    put(alloc, stand, from, to, item, own)
 }
 
 /// The documents for some items of a template, from one state on, where so many elements stand before them.
@@ -229,7 +218,7 @@ pub fn draft_items(
     items: &Items,
 ) -> Result<Draft, Memory>
     requires n { n < length walk.now.page.templates.now }
-    requires cost { cost_of walk.now.aim ≤ 4098 }
+    requires cost { cost_of walk.now.aim ≤ NONE }
     requires ready { IsReady walk.now }
     requires place { place + elements items.now < 2 ^ 32 }
     requires state { (walk.now.low ≤ state) × (state ≤ 2) }
@@ -242,19 +231,20 @@ pub fn draft_items(
     let mut middle = Items::new(alloc);
     let mut last = Items::new(alloc);
     for item in items.as_slice() {
+        let stand = Stand {
+            walk: &*walk,
+            n,
+            place: at,
+        };
         let step = item_step(walk, n, at, item);
         let next = reach.then(step.moves);
         let from = reach.origin(step.moves, 2);
         let base = either(from == 0, &start, &middle);
-        grow(
-            alloc, walk, n, at, from, 2, next.last, item, base, &mut last,
-        )?;
+        grow(alloc, &stand, from, 2, next.last, item, base, &mut last)?;
         let from = reach.origin(step.moves, 1);
         grow(
             alloc,
-            walk,
-            n,
-            at,
+            &stand,
             from,
             1,
             next.middle,
@@ -262,9 +252,7 @@ pub fn draft_items(
             &start,
             &mut middle,
         )?;
-        grow(
-            alloc, walk, n, at, 0, 0, next.start, item, &last, &mut start,
-        )?;
+        grow(alloc, &stand, 0, 0, next.start, item, &last, &mut start)?;
         reach = next;
         at = step.place;
     }

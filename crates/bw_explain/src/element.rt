@@ -6,16 +6,13 @@ ghost use Rattle.bw_explain.specs.Aims.{IsPlain, AreTops, IsBroken};
 ghost use Rattle.bw_explain.specs.Tables.{Solved};
 
 use crate::aim::{Aim, Made};
-use crate::atom::Atom;
 use crate::draft::draft_items;
+use crate::ground::{Breach, Ground};
 use crate::own::{fill_own, own_least};
-use crate::page::Page;
 use crate::sizes::{MAX_SIZE, plus};
 use crate::solve::{Tables, solve};
-use crate::table::Table;
 use crate::walk::{Walk, reach_items};
 use bw_lang::{Attrs, Element, Items, Memory};
-use bw_schema::Rule;
 use std::alloc::Global;
 
 /// The least size of what fills an element so that it is broken, and one of that size, if it isn't too big.
@@ -26,31 +23,30 @@ pub struct Whole {
     pub made: Made,
 }
 
+/// An element of a template, filled so that it is broken in one way, by the least documents for its items.
 fn element_with<'x>(
     alloc: Global,
-    page: &'x Page<'x>,
-    plain: &'x Table,
+    ground: &'x Ground<'x>,
     tables: &'x Tables,
-    rule: &'x Rule,
-    atom: &'x Atom,
+    breach: &'x Breach<'x>,
     n: usize,
     element: &Element,
 ) -> Result<Whole, Memory>
-    requires n { n < length page.now.templates.now }
+    requires n { n < length ground.now.page.now.templates.now }
     requires few { elements element.now.items < 2 ^ 32 }
-    requires plain { Solved (IsPlain page.now) plain.now }
-    requires tables { AreTops page.now rule.now atom.now tables.now }
-    ensures { IfOk result (IsBroken page.now rule.now atom.now n element.now) }
+    requires plain { Solved (IsPlain ground.now.page.now) ground.now.plain.now }
+    requires tables { AreTops ground.now.page.now breach.now.rule.now breach.now.atom.now tables.now }
+    ensures { IfOk result (IsBroken ground.now.page.now breach.now.rule.now breach.now.atom.now n element.now) }
 {
     let walk = Walk {
-        page: *page,
-        aim: Aim::Tops(rule, atom),
-        plain,
+        page: *ground.page,
+        aim: Aim::Tops(breach.rule, breach.atom),
+        plain: ground.plain,
         known: tables.known(),
         low: 0,
-        high: atom.goals(),
+        high: breach.atom.goals(),
     };
-    let own = own_least(page, rule, atom, n, &element.attrs);
+    let own = own_least(ground.page, breach, n, &element.attrs);
     let inner = reach_items(&walk, n, 0, 0, &element.items);
     let size = plus(plus(1, own), inner.reach.at(walk.high));
     if size > MAX_SIZE {
@@ -60,8 +56,11 @@ fn element_with<'x>(
         };
         return Ok(Whole { size, made });
     }
-    let attrs = fill_own(alloc, page, rule, atom, n, &element.attrs)?;
-    let draft = draft_items(alloc, &walk, n, 0, 0, &element.items)?;
+    let attrs = fill_own(alloc, ground.page, breach, n, &element.attrs)?;
+    let Ok(draft) = draft_items(alloc, &walk, n, 0, 0, &element.items) else {
+        drop(attrs);
+        return Err(Memory);
+    };
     let made = Made {
         attrs,
         items: draft.into_doc(walk.high),
@@ -72,20 +71,20 @@ fn element_with<'x>(
 /// An element of a template, filled so that it is broken in one way.
 pub fn broken_element<'x>(
     alloc: Global,
-    page: &Page,
-    plain: &Table,
-    rule: &'x Rule,
-    atom: &'x Atom,
+    ground: &Ground<'_>,
+    breach: &'x Breach<'x>,
     n: usize,
     element: &Element,
 ) -> Result<Whole, Memory>
-    requires n { n < length page.now.templates.now }
-    requires few { (m : ℕ) → elements (template_at page.now.templates.now m) < 2 ^ 32 }
+    requires n { n < length ground.now.page.now.templates.now }
+    requires few { (m : ℕ) → elements (template_at ground.now.page.now.templates.now m) < 2 ^ 32 }
     requires within { elements element.now.items < 2 ^ 32 }
-    requires plain { Solved (IsPlain page.now) plain.now }
-    ensures { IfOk result (IsBroken page.now rule.now atom.now n element.now) }
+    requires plain { Solved (IsPlain ground.now.page.now) ground.now.plain.now }
+    ensures { IfOk result (IsBroken ground.now.page.now breach.now.rule.now breach.now.atom.now n element.now) }
 {
-    let aim = Aim::Tops(rule, atom);
-    let tables = solve(alloc, page, &aim, plain, atom.goals())?;
-    element_with(alloc, page, plain, &tables, rule, atom, n, element)
+    let aim = Aim::Tops(breach.rule, breach.atom);
+    let tables = solve(alloc, ground.page, &aim, ground.plain, breach.atom.goals())?;
+    let whole = element_with(alloc, ground, &tables, breach, n, element);
+    drop(tables);
+    whole
 }

@@ -8,11 +8,11 @@ ghost use Rattle.bw_schema.specs.Rules.{rule_of};
 ghost use Rattle.bw_shape.specs.Outlines.{IsPageGraph, root_of};
 ghost use Rattle.bw_strings.specs.Literals.{literals_of};
 ghost use Rattle.bw_sum.specs.Graph.{graph as summary_graph};
-ghost use Rattle.bw_sum.specs.Templates.{all_items, template_items};
+ghost use Rattle.bw_sum.specs.Templates.{template_items};
 ghost use Rattle.bw_sum.specs.Unfolding.{Unfolds};
 ghost use Rattle.bw_explain.specs.Atoms.{atoms_of};
 ghost use Rattle.bw_explain.specs.Explained as spec;
-ghost use Rattle.bw_explain.specs.Explained.{IsAnswer, IsExplained, IsPlaced, IsSplit, IsSpot, NotValid, IsAt, FindsOne, Place};
+ghost use Rattle.bw_explain.specs.Explained.{IsAnswer, IsExplained, IsPlaced, IsSplit, IsSpot, NotValid, IsAt, FindsOne, Place, Ties};
 ghost use Rattle.bw_explain.specs.Shows.{Shows};
 ghost use Rattle.bw_explain.specs.Ways.{graph};
 
@@ -102,7 +102,19 @@ fn first_of(page: &Summary) -> u32
     page.roots.as_slice()[0].number()
 }
 
-/// The same, but for needs with an Or: what a fault is explained by where they count as sure.
+/// The ways of all templates of a page graph.
+fn ways_by(alloc: Global, basis: &Basis<'_>, page: &Summary) -> Result<Vec<Node>, Memory>
+    requires { IsPageGraph basis.now.typed.now.service page.now }
+    ensures len { IfOk result (λ v. length v.items ≡ length basis.now.templates.now) }
+    ensures ties { IfOk result (λ v. Ties (graph v.items) (summary_graph basis.now.literals.now page.now)) }
+{
+    let graphed = nodes_of(alloc, basis.templates.len(), basis.literals, page)?;
+    let ways = ways_of(alloc, basis.literals, &graphed, page);
+    drop(graphed);
+    ways
+}
+
+/// What a fault is explained by, needs with an Or aside.
 fn explain_within(
     alloc: Global,
     basis: &Basis<'_>,
@@ -115,17 +127,18 @@ fn explain_within(
     ensures { IfOk result (λ e. IsAnswer (Shows (template_items basis.now.typed.now.service)
         (summary_graph (literals_of basis.now.typed.now.service) page.now) basis.now.schema.now.elements fault.now (root_of page.now)) e) }
 {
-    let graphed = nodes_of(alloc, basis.templates.len(), basis.literals, page)?;
-    let ways = ways_of(alloc, basis.literals, &graphed, page)?;
+    let ways = ways_by(alloc, basis, page)?;
     let root = first_of(page) as usize;
-    explain_nodes(
+    let explained = explain_nodes(
         alloc,
         basis.templates,
         ways.as_slice(),
         basis.schema,
         fault,
         root,
-    )
+    );
+    drop(ways);
+    explained
 }
 
 /// Whether no page shows the fault.
@@ -162,6 +175,7 @@ pub fn explain_by(
     if !is_none(&found) {
         return Ok(found);
     }
+    drop(found);
     let is_split = is_split(alloc, basis, page, fault)?;
     if is_split {
         Ok(Explained::Disjunction)

@@ -1,5 +1,5 @@
 //! Attributes of least number, and what may stand at a gap.
-ghost use Rattle.std.specs.Prelude.{◌≡◌, ℕ, ◌≤◌, ◌<◌, true, MatchOption, IfOk, length};
+ghost use Rattle.std.specs.Prelude.{◌≡◌, ℕ, ◌≤◌, ◌<◌, [], true, MatchOption, IfOk, OnOk, length};
 ghost use Rattle.std.specs.List.{list_all};
 ghost use Rattle.bw_sum.specs.Unfolding.{FillsValue, FillsAttrs};
 ghost use Rattle.bw_explain.specs.Ways.{ways_at, is_in, graph};
@@ -8,7 +8,7 @@ ghost use Rattle.bw_explain.specs.Tables.{size_at};
 
 use crate::page::Page;
 use crate::table::Table;
-use bw_lang::{Attr, AttrValue, Attrs, Memory};
+use bw_lang::{Attr, AttrValue, Attrs, Memory, Name};
 use std::alloc::Global;
 
 /// A value of an attribute, open or filled.
@@ -37,6 +37,37 @@ pub fn fill_value(
     }
 }
 
+/// An attribute with this value.
+pub fn attr_of(name: &Name, value: AttrValue) -> Result<Attr, Memory>
+    ensures { IfOk result (λ a. a ≡ record { name = name.now; value = value }) }
+{
+    let Ok(name) = name.copy() else {
+        drop(value);
+        return Err(Memory);
+    };
+    Ok(Attr { name, value })
+}
+
+/// Attributes, open or filled, into an empty list.
+fn add_filled(
+    alloc: Global,
+    page: &Page,
+    n: usize,
+    attrs: &Attrs,
+    out: &mut Attrs,
+) -> Result<(), Memory>
+    requires n { n < length page.now.templates.now }
+    requires fills { list_all (λ x. spec.may_fill (ways_at page.now.nodes.now n) x.value) attrs.now ≡ true }
+    requires empty { out.old ≡ [] }
+    ensures { OnOk result (FillsAttrs (graph page.now.nodes.now) n attrs.now out.new × (length out.new ≡ length attrs.now)) }
+{
+    for attr in attrs.as_slice() {
+        let value = fill_value(alloc, page, n, &attr.value)?;
+        out.push(attr_of(&attr.name, value)?)?;
+    }
+    Ok(())
+}
+
 /// Attributes, open or filled.
 pub fn fill_attrs(alloc: Global, page: &Page, n: usize, attrs: &Attrs) -> Result<Attrs, Memory>
     requires n { n < length page.now.templates.now }
@@ -44,13 +75,13 @@ pub fn fill_attrs(alloc: Global, page: &Page, n: usize, attrs: &Attrs) -> Result
     ensures { IfOk result (λ b. FillsAttrs (graph page.now.nodes.now) n attrs.now b × (length b ≡ length attrs.now)) }
 {
     let mut out = Attrs::new(alloc);
-    for attr in attrs.as_slice() {
-        out.push(Attr {
-            name: attr.name.copy()?,
-            value: fill_value(alloc, page, n, &attr.value)?,
-        })?;
+    match add_filled(alloc, page, n, attrs, &mut out) {
+        Ok(()) => Ok(out),
+        Err(Memory) => {
+            drop(out);
+            Err(Memory)
+        }
     }
-    Ok(out)
 }
 
 /// Which of the templates has a document of at most that size.

@@ -14,8 +14,8 @@ use crate::aim::{Aim, Broken};
 use crate::atom::Atom;
 use crate::element::{Whole, broken_element};
 use crate::explained::Explained;
+use crate::ground::{Breach, Ground};
 use crate::needs::add_needs;
-use crate::page::Page;
 use crate::sizes::{MAX_SIZE, NONE, PAST};
 use crate::solve::solve;
 use crate::table::Table;
@@ -55,69 +55,51 @@ pub fn found_at(alloc: Global, table: &Table, root: usize) -> Result<Found, Memo
 /// The least document in which the element is broken in one way, by the least of it.
 fn find_with<'x>(
     alloc: Global,
-    page: &'x Page<'x>,
-    plain: &'x Table,
-    rule: &'x Rule,
-    atom: &'x Atom,
+    ground: &'x Ground<'x>,
+    breach: &'x Breach<'x>,
     spot: &'x Spot<'x>,
     whole: &'x Whole,
     root: usize,
 ) -> Result<Found, Memory>
-    requires few { (m : ℕ) → elements (template_at page.now.templates.now m) < 2 ^ 32 }
-    requires broken { IsBroken page.now rule.now atom.now spot.now.template spot.now.element.now whole.now }
-    ensures { IfOk result (λ f. spec.IsBest (spec.Finds (template_at page.now.templates.now) (graph page.now.nodes.now) (spot_of spot.now) rule.now
-        atom.now root) f.size f.doc) }
+    requires few { (m : ℕ) → elements (template_at ground.now.page.now.templates.now m) < 2 ^ 32 }
+    requires broken { IsBroken ground.now.page.now breach.now.rule.now breach.now.atom.now spot.now.template spot.now.element.now whole.now }
+    ensures { IfOk result (λ f. spec.IsBest (spec.Finds (template_at ground.now.page.now.templates.now) (graph ground.now.page.now.nodes.now)
+        (spot_of spot.now) breach.now.rule.now breach.now.atom.now root) f.size f.doc) }
 {
     let aim = Aim::One(Broken {
         template: spot.template,
         place: spot.place,
         element: spot.element,
-        rule,
-        atom,
+        rule: breach.rule,
+        atom: breach.atom,
         size: whole.size,
         made: &whole.made,
     });
-    let tables = solve(alloc, page, &aim, plain, 1)?;
-    found_at(alloc, &tables.first, root)
+    let tables = solve(alloc, ground.page, &aim, ground.plain, 1)?;
+    let found = found_at(alloc, &tables.first, root);
+    drop(tables);
+    found
 }
 
 /// The least document in which the element is broken in one way.
 fn find_one(
     alloc: Global,
-    page: &Page,
-    plain: &Table,
-    rule: &Rule,
-    atom: &Atom,
+    ground: &Ground<'_>,
+    breach: &Breach<'_>,
     spot: &Spot,
     root: usize,
 ) -> Result<Found, Memory>
-    requires few { (m : ℕ) → elements (template_at page.now.templates.now m) < 2 ^ 32 }
-    requires plain { Solved (IsPlain page.now) plain.now }
-    requires spot { spot.now.template < length page.now.templates.now }
+    requires few { (m : ℕ) → elements (template_at ground.now.page.now.templates.now m) < 2 ^ 32 }
+    requires plain { Solved (IsPlain ground.now.page.now) ground.now.plain.now }
+    requires spot { spot.now.template < length ground.now.page.now.templates.now }
     requires within { elements spot.now.element.now.items < 2 ^ 32 }
-    ensures { IfOk result (λ f. spec.IsBest (spec.Finds (template_at page.now.templates.now) (graph page.now.nodes.now) (spot_of spot.now) rule.now
-        atom.now root) f.size f.doc) }
+    ensures { IfOk result (λ f. spec.IsBest (spec.Finds (template_at ground.now.page.now.templates.now) (graph ground.now.page.now.nodes.now)
+        (spot_of spot.now) breach.now.rule.now breach.now.atom.now root) f.size f.doc) }
 {
-    let whole = made_of(alloc, page, plain, rule, atom, spot)?;
-    find_with(alloc, page, plain, rule, atom, spot, &whole, root)
-}
-
-/// An element of a template, filled so that it is broken in one way.
-fn made_of<'x>(
-    alloc: Global,
-    page: &'x Page<'x>,
-    plain: &'x Table,
-    rule: &'x Rule,
-    atom: &'x Atom,
-    spot: &'x Spot<'x>,
-) -> Result<Whole, Memory>
-    requires few { (m : ℕ) → elements (template_at page.now.templates.now m) < 2 ^ 32 }
-    requires plain { Solved (IsPlain page.now) plain.now }
-    requires spot { spot.now.template < length page.now.templates.now }
-    requires within { elements spot.now.element.now.items < 2 ^ 32 }
-    ensures { IfOk result (IsBroken page.now rule.now atom.now spot.now.template spot.now.element.now) }
-{
-    broken_element(alloc, page, plain, rule, atom, spot.template, spot.element)
+    let whole = broken_element(alloc, ground, breach, spot.template, spot.element)?;
+    let found = find_with(alloc, ground, breach, spot, &whole, root);
+    drop(whole);
+    found
 }
 
 /// The lesser of two.
@@ -130,26 +112,29 @@ fn better(best: Found, next: Found) -> Found
 /// The least document in which the element is broken in one of some ways.
 pub fn find_all(
     alloc: Global,
-    page: &Page,
-    plain: &Table,
+    ground: &Ground<'_>,
     rule: &Rule,
     atoms: &[Atom],
     spot: &Spot,
     root: usize,
 ) -> Result<Found, Memory>
-    requires few { (m : ℕ) → elements (template_at page.now.templates.now m) < 2 ^ 32 }
-    requires plain { Solved (IsPlain page.now) plain.now }
-    requires spot { spot.now.template < length page.now.templates.now }
+    requires few { (m : ℕ) → elements (template_at ground.now.page.now.templates.now m) < 2 ^ 32 }
+    requires plain { Solved (IsPlain ground.now.page.now) ground.now.plain.now }
+    requires spot { spot.now.template < length ground.now.page.now.templates.now }
     requires within { elements spot.now.element.now.items < 2 ^ 32 }
-    ensures { IfOk result (λ f. spec.IsBest (spec.FindsOne (template_at page.now.templates.now) (graph page.now.nodes.now) (spot_of spot.now) rule.now
-        atoms.now root) f.size f.doc) }
+    ensures { IfOk result (λ f. spec.IsBest (spec.FindsOne (template_at ground.now.page.now.templates.now) (graph ground.now.page.now.nodes.now)
+        (spot_of spot.now) rule.now atoms.now root) f.size f.doc) }
 {
     let mut best = Found {
         size: NONE,
         doc: Items::new(alloc),
     };
     for atom in atoms {
-        let next = find_one(alloc, page, plain, rule, atom, spot, root)?;
+        let breach = Breach { rule, atom };
+        let Ok(next) = find_one(alloc, ground, &breach, spot, root) else {
+            drop(best);
+            return Err(Memory);
+        };
         best = better(best, next);
     }
     Ok(best)
@@ -225,9 +210,11 @@ pub fn answer(found: Found) -> Result<Explained, Memory>
     ensures { IfOk result (λ e. e ≡ spec.answer_of found.size found.doc) }
 {
     if found.size > PAST {
+        drop(found);
         return Ok(Explained::NoUnfolding);
     }
     if found.size > MAX_SIZE {
+        drop(found);
         return Ok(Explained::TooBig);
     }
     Ok(Explained::Page(Tree {

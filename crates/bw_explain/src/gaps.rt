@@ -3,6 +3,7 @@ ghost use Rattle.std.specs.Prelude.{◌≡◌, ℕ, ◌≤◌, ◌<◌, true, If
 ghost use Rattle.bw_lang.specs.Document.Forest.{none, gap as hole};
 ghost use Rattle.bw_lang.specs.Document.View.{before};
 ghost use Rattle.bw_shape.specs.Nodes.Templates.{template_at};
+ghost use Rattle.bw_explain.specs.declared.sizes.TheConstants.{MAX_SIZE, NONE};
 ghost use Rattle.bw_explain.specs.Aims.{aim_of, walk_of, table_of, Has};
 ghost use Rattle.bw_explain.specs.Sizes.{is_loose, if_so};
 ghost use Rattle.bw_explain.specs.Tables.{Documents};
@@ -12,6 +13,7 @@ ghost use Rattle.bw_explain.specs.Ways.{way_of, ways_at, graph};
 
 use crate::aim::Aim;
 use crate::fill::first_within;
+use crate::ground::Stand;
 use crate::sizes::if_so;
 use crate::walk::Walk;
 use crate::way::{Way, least_of};
@@ -34,7 +36,7 @@ fn takes(from: u32, to: u32, stays: bool, next: bool) -> bool
 fn loose_size(aim: &Aim, way: &Way, from: u32, to: u32) -> u32
     requires { from ≤ 2 }
     ensures is { result ≡ if_so (spec.takes from to (is_loose way.now) (spec.says_wordy (aim_of aim.now) way.now)) 1 }
-    ensures most { result ≤ 4098 }
+    ensures most { result ≤ NONE }
 {
     let next = way.is_wordy() && aim.is_wordy();
     if_so(takes(from, to, way.is_loose(), next), 1)
@@ -44,7 +46,7 @@ fn loose_size(aim: &Aim, way: &Way, from: u32, to: u32) -> u32
 pub fn gap_size(walk: &Walk, way: &Way, from: u32, to: u32) -> u32
     requires { from ≤ 2 }
     ensures is { result ≡ spec.gap_cost (walk_of walk.now) way.now from to }
-    ensures most { result ≤ 4098 }
+    ensures most { result ≤ NONE }
 {
     let loose = loose_size(&walk.aim, way, from, to);
     loose.min(least_of(walk.known.table(from, to), way.led()))
@@ -74,7 +76,7 @@ fn put_way(
     out: &mut Items,
 ) -> Result<(), Memory>
     requires from { from ≤ 2 }
-    requires small { spec.gap_cost (walk_of walk.now) way.now from to ≤ 4096 }
+    requires small { spec.gap_cost (walk_of walk.now) way.now from to ≤ MAX_SIZE }
     ensures { OnOk result (spec.Picks (aim_of walk.now.aim) way.now (table_of walk.now.known from to) from to
         (spec.gap_cost (walk_of walk.now) way.now from to) out.old out.new) }
 {
@@ -93,22 +95,23 @@ fn put_way(
 /// The same at a gap of a template; a gap without a way leaves `out` as it was.
 pub fn put_gap(
     alloc: Global,
-    walk: &Walk,
-    n: usize,
+    stand: &Stand<'_>,
     from: u32,
     to: u32,
     gap: GapId,
     out: &mut Items,
 ) -> Result<(), Memory>
-    requires n { n < length walk.now.page.templates.now }
+    requires n { stand.now.n < length stand.now.walk.now.page.templates.now }
     requires from { from ≤ 2 }
-    requires docs { Documents (Has walk.now.page walk.now.aim from to) (table_of walk.now.known from to) }
-    requires small { spec.gap_cost (walk_of walk.now) (way_of (ways_at walk.now.page.nodes.now n) gap) from to ≤ 4096 }
-    ensures { OnOk result ((k : ℕ) → Adds (Runs (template_at walk.now.page.templates.now) (graph walk.now.page.nodes.now) (aim_of walk.now.aim) n k from
-        (hole gap none) to) (spec.gap_cost (walk_of walk.now) (way_of (ways_at walk.now.page.nodes.now n) gap) from to) out.old out.new) }
+    requires docs { Documents (Has stand.now.walk.now.page stand.now.walk.now.aim from to) (table_of stand.now.walk.now.known from to) }
+    requires small { spec.gap_cost (walk_of stand.now.walk.now) (way_of (ways_at stand.now.walk.now.page.nodes.now stand.now.n) gap) from to ≤ MAX_SIZE }
+    ensures { OnOk result ((k : ℕ) → Adds (Runs (template_at stand.now.walk.now.page.templates.now) (graph stand.now.walk.now.page.nodes.now)
+        (aim_of stand.now.walk.now.aim) stand.now.n k from
+        (hole gap none) to) (spec.gap_cost (walk_of stand.now.walk.now) (way_of
+        (ways_at stand.now.walk.now.page.nodes.now stand.now.n) gap) from to) out.old out.new) }
 {
-    match walk.page.node(n).way(gap) {
-        Some(way) => put_way(alloc, walk, way, from, to, out)?,
+    match stand.walk.page.node(stand.n).way(gap) {
+        Some(way) => put_way(alloc, stand.walk, way, from, to, out)?,
         None => {}
     }
     Ok(())

@@ -1,6 +1,7 @@
 //! The least size of attributes.
 ghost use Rattle.std.specs.Prelude.{◌≡◌, ◌≤◌};
 ghost use Rattle.std.specs.List.{list_all};
+ghost use Rattle.bw_explain.specs.declared.sizes.TheConstants.{NONE};
 ghost use Rattle.bw_explain.specs.Sizes as spec;
 
 use crate::sizes::{NONE, PAST};
@@ -33,7 +34,7 @@ pub fn may_fill_all(node: &Node, attrs: &Attrs) -> bool
 /// The least size of some attributes.
 pub fn attrs_least(node: &Node, attrs: &Attrs) -> u32
     ensures least { result ≡ spec.attrs_least node.now attrs.now }
-    ensures most { result ≤ 4098 }
+    ensures most { result ≤ NONE }
 {
     if may_fill_all(node, attrs) {
         attrs.as_slice().len().min(PAST as usize) as u32

@@ -1,5 +1,5 @@
 //! The element at a place of a template.
-ghost use Rattle.std.specs.Prelude.{◌≡◌, ◌+◌, ◌≤◌, List, MatchResult, Some};
+ghost use Rattle.std.specs.Prelude.{◌≡◌, ◌+◌, ◌≤◌, MatchResult, Some};
 ghost use Rattle.bw_lang.specs.Document.Documents.{elements};
 ghost use Rattle.bw_lang.specs.Document.Forest.{none};
 ghost use Rattle.bw_lang.specs.Document.View.{before};

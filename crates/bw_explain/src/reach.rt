@@ -1,12 +1,13 @@
 //! The least sizes in each state of a walk.
 ghost use Rattle.std.specs.Prelude.{◌≡◌, ◌≤◌};
+ghost use Rattle.bw_explain.specs.declared.sizes.TheConstants.{NONE};
 ghost use Rattle.bw_explain.specs.Sizes.{plus as sum};
 ghost use Rattle.bw_explain.specs.Walks as spec;
 
 use crate::sizes::{if_so, plus};
 
 /// The least sizes behind a part, in the states 0, 1 and 2.
-#[derive(Clone, Copy, Debug, Drop)]
+#[derive(Clone, Copy, Drop)]
 pub struct Reach {
     pub start: u32,
     pub middle: u32,
@@ -14,7 +15,7 @@ pub struct Reach {
 }
 
 /// What an item costs, from each state to each.
-#[derive(Clone, Copy, Debug, Drop)]
+#[derive(Clone, Copy, Drop)]
 pub struct Moves {
     pub start: u32,
     pub start_middle: u32,
@@ -57,7 +58,7 @@ impl Reach {
     pub fn at(self, state: u32) -> u32
         requires { spec.AreSizes self }
         ensures is { result ≡ spec.at self state }
-        ensures most { result ≤ 4098 }
+        ensures most { result ≤ NONE }
     {
         if state == 0 {
             self.start

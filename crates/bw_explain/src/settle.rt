@@ -1,8 +1,9 @@
 //! The least size of each template's documents in which something is looked for, settled from the least on.
-ghost use Rattle.std.specs.Prelude.{◌≡◌, ℕ, ◌+◌, ◌≤◌, ◌<◌, ◌^◌, ◌==◌, IfOk, if◌then◌else◌, nat_lt, length};
+ghost use Rattle.std.specs.Prelude.{◌≡◌, ℕ, ◌≤◌, ◌<◌, ◌^◌, ◌==◌, IfOk, if◌then◌else◌, nat_lt, length};
 ghost use Rattle.bw_lang.specs.Document.Documents.{elements};
 ghost use Rattle.bw_shape.specs.Nodes.Templates.{template_at};
-ghost use Rattle.bw_explain.specs.Aims.{aim_of, cost_of, walk_of, Has, IsGiven};
+ghost use Rattle.bw_explain.specs.declared.sizes.TheConstants.{MAX_SIZE, PAST, NONE};
+ghost use Rattle.bw_explain.specs.Aims.{cost_of, walk_of, Has, IsGiven};
 ghost use Rattle.bw_explain.specs.Sizes.{size};
 ghost use Rattle.bw_explain.specs.Tables.{size_at, Documents, IsNext, Solved};
 ghost use Rattle.bw_explain.specs.Walks as spec;
@@ -43,11 +44,11 @@ fn beside<'x>(walk: &Walk<'x>, known: &'x Table) -> Walk<'x>
 /// The least size of a template's documents by what is known, or `NONE` where it is settled.
 fn open_size<'x>(walk: &'x Walk<'x>, known: &'x Table, n: usize) -> u32
     requires n { n < length walk.now.page.templates.now }
-    requires cost { cost_of walk.now.aim ≤ 4098 }
+    requires cost { cost_of walk.now.aim ≤ NONE }
     requires few { (m : ℕ) → elements (template_at walk.now.page.templates.now m) < 2 ^ 32 }
-    ensures is { result ≡ (if nat_lt 4097 (size_at known.now n) then spec.seek_value walk.now.page.templates.now (walk_of walk.now) walk.now.low walk.now.high
-        (size_at known.now) n else 4098) }
-    ensures most { result ≤ 4098 }
+    ensures is { result ≡ (if nat_lt PAST (size_at known.now n) then spec.seek_value walk.now.page.templates.now (walk_of walk.now) walk.now.low walk.now.high
+        (size_at known.now) n else NONE) }
+    ensures most { result ≤ NONE }
 {
     if known.size(n) <= PAST {
         return NONE;
@@ -60,7 +61,7 @@ fn open_size<'x>(walk: &'x Walk<'x>, known: &'x Table, n: usize) -> u32
 
 /// The template with the least size among those that aren't settled.
 fn next_of<'x>(walk: &'x Walk<'x>, known: &'x Table) -> Next
-    requires cost { cost_of walk.now.aim ≤ 4098 }
+    requires cost { cost_of walk.now.aim ≤ NONE }
     requires few { (m : ℕ) → elements (template_at walk.now.page.templates.now m) < 2 ^ 32 }
     ensures { IsNext (length walk.now.page.templates.now) (size_at known.now) (spec.seek_value walk.now.page.templates.now (walk_of walk.now) walk.now.low
         walk.now.high (size_at known.now)) result.at result.size }
@@ -80,12 +81,12 @@ fn next_document<'x>(
     next: Next,
 ) -> Result<Items, Memory>
     requires n { next.at < length walk.now.page.templates.now }
-    requires cost { cost_of walk.now.aim ≤ 4098 }
+    requires cost { cost_of walk.now.aim ≤ NONE }
     requires few { (m : ℕ) → elements (template_at walk.now.page.templates.now m) < 2 ^ 32 }
     requires given { IsGiven walk.now }
     requires docs { Documents (Has walk.now.page walk.now.aim walk.now.low walk.now.high) known.now }
     requires size { next.size ≡ spec.seek_value walk.now.page.templates.now (walk_of walk.now) walk.now.low walk.now.high (size_at known.now) next.at }
-    ensures { IfOk result (λ d. next.size ≤ 4096 → Has walk.now.page walk.now.aim walk.now.low walk.now.high next.at d × (size d ≤ next.size)) }
+    ensures { IfOk result (λ d. next.size ≤ MAX_SIZE → Has walk.now.page walk.now.aim walk.now.low walk.now.high next.at d × (size d ≤ next.size)) }
 {
     if next.size > MAX_SIZE {
         return Ok(Items::new(alloc));
@@ -98,7 +99,7 @@ fn next_document<'x>(
 /// The least size of each template's documents that go from the first state of a walk to its last, and a document of that
 /// size.
 pub fn settle(alloc: Global, walk: &Walk) -> Result<Table, Memory>
-    requires cost { cost_of walk.now.aim ≤ 4098 }
+    requires cost { cost_of walk.now.aim ≤ NONE }
     requires few { (m : ℕ) → elements (template_at walk.now.page.templates.now m) < 2 ^ 32 }
     requires given { IsGiven walk.now }
     ensures { IfOk result (Solved (Has walk.now.page walk.now.aim walk.now.low walk.now.high)) }
@@ -107,7 +108,10 @@ pub fn settle(alloc: Global, walk: &Walk) -> Result<Table, Memory>
     let mut known = Table::new(alloc, walk.page.len(), past)?;
     let mut next = next_of(&*walk, &known);
     while next.size < NONE {
-        let doc = next_document(alloc, &*walk, &known, next)?;
+        let Ok(doc) = next_document(alloc, &*walk, &known, next) else {
+            drop(known);
+            return Err(Memory);
+        };
         known.put(next.at, next.size, doc);
         next = next_of(&*walk, &known);
     }

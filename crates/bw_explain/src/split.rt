@@ -78,7 +78,9 @@ fn is_split_at(
         (summary_graph (literals_of basis.now.typed.now.service) page.now) basis.now.schema.now.elements fault.now)) }
 {
     let outline = shape_by(alloc, page, basis)?;
-    Ok(is_split_by(&outline, basis.literals, spot, rule))
+    let is_split = is_split_by(&outline, basis.literals, spot, rule);
+    drop(outline);
+    Ok(is_split)
 }
 
 /// Whether the fault is 7 and a need of its element that has an Or isn't sure.

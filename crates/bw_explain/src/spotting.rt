@@ -1,6 +1,7 @@
 //! Whether an element is taken for the one that is looked for.
 ghost use Rattle.std.specs.Prelude.{◌≡◌, ◌+◌, ◌-◌, ◌≤◌, ◌<◌, ◌^◌, MatchBool, length};
 ghost use Rattle.bw_lang.specs.Document.Documents.{elements};
+ghost use Rattle.bw_explain.specs.declared.sizes.TheConstants.{NONE};
 ghost use Rattle.bw_explain.specs.Aims.{cost_of, walk_of};
 ghost use Rattle.bw_explain.specs.Walks as spec;
 
@@ -11,11 +12,11 @@ use bw_lang::Element;
 
 /// The least size of an element as the one that is looked for, if it is that.
 fn spot_size(walk: &Walk, n: usize, place: u32, from: u32, to: u32) -> u32
-    requires cost { cost_of walk.now.aim ≤ 4098 }
+    requires cost { cost_of walk.now.aim ≤ NONE }
     requires place { place + 1 < 2 ^ 32 }
     requires states { (from ≤ to) × (to ≤ 2) }
     ensures is { result ≡ spec.spot_size (walk_of walk.now) n place from to }
-    ensures most { result ≤ 4098 }
+    ensures most { result ≤ NONE }
 {
     if from + 1 == to {
         walk.aim.spot(n, place + 1)
@@ -27,10 +28,10 @@ fn spot_size(walk: &Walk, n: usize, place: u32, from: u32, to: u32) -> u32
 /// The least size of an element with what is looked for inside it.
 fn inside_size(walk: &Walk, n: usize, place: u32, state: u32, element: &Element) -> u32
     requires n { n < length walk.now.page.templates.now }
-    requires cost { cost_of walk.now.aim ≤ 4098 }
+    requires cost { cost_of walk.now.aim ≤ NONE }
     requires place { place + 1 + elements element.now.items < 2 ^ 32 }
     ensures is { result ≡ spec.inside_size (walk_of walk.now) n place element.now.attrs element.now.items state }
-    ensures most { result ≤ 4098 }
+    ensures most { result ≤ NONE }
 {
     let own = plus(1, attrs_least(walk.page.node(n), &element.attrs));
     let inner = reach_items(walk, n, place + 1, 0, &element.items);
@@ -40,7 +41,7 @@ fn inside_size(walk: &Walk, n: usize, place: u32, state: u32, element: &Element)
 /// Whether an element costs no more as the one that is looked for than with it inside.
 pub fn is_spotted(walk: &Walk, n: usize, place: u32, from: u32, to: u32, element: &Element) -> bool
     requires n { n < length walk.now.page.templates.now }
-    requires cost { cost_of walk.now.aim ≤ 4098 }
+    requires cost { cost_of walk.now.aim ≤ NONE }
     requires place { place + 1 + elements element.now.items < 2 ^ 32 }
     requires states { (from ≤ to) × (to ≤ 2) }
     ensures { MatchBool result

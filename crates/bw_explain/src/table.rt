@@ -1,7 +1,8 @@
 //! What was found by now.
-ghost use Rattle.std.specs.Prelude.{◌≡◌, ℕ, ◌≤◌, ◌<◌, IfOk, OnOk, replicate, length, set};
+ghost use Rattle.std.specs.Prelude.{◌≡◌, ◌≤◌, ◌<◌, IfOk, OnOk, replicate, length, set};
 ghost use Rattle.bw_lang.specs.Document.Documents.{append};
 ghost use Rattle.bw_lang.specs.Document.Forest.{none};
+ghost use Rattle.bw_explain.specs.declared.sizes.TheConstants.{NONE};
 ghost use Rattle.bw_explain.specs.Tables.{size_at, doc_at};
 
 use crate::sizes::NONE;
@@ -46,8 +47,8 @@ impl Model for Table {
 impl Table {
     /// So many templates of which no document was found.
     pub fn new(alloc: Global, count: usize, past: u32) -> Result<Table, Memory>
-        requires { past ≤ 4098 }
-        ensures { IfOk result (λ t. t ≡ record { past = past; sizes = replicate count 4098; docs = replicate count none }) }
+        requires { past ≤ NONE }
+        ensures { IfOk result (λ t. t ≡ record { past = past; sizes = replicate count NONE; docs = replicate count none }) }
     {
         let mut docs = Vec::with_capacity(alloc, count)?;
         for _ in 0..count {
@@ -63,7 +64,7 @@ impl Table {
     /// The size that was found.
     pub fn size(&self, n: usize) -> u32
         ensures size { result ≡ size_at self.now n }
-        ensures most { result ≤ 4098 }
+        ensures most { result ≤ NONE }
     {
         if n < self.sizes.len() {
             self.sizes[n]
@@ -85,7 +86,7 @@ impl Table {
     /// A document and its size in place of what was found.
     pub fn put(&mut self, n: usize, size: u32, doc: Items)
         requires n { n < length self.old.sizes }
-        requires size { size ≤ 4098 }
+        requires size { size ≤ NONE }
         ensures { self.new ≡ record { past = self.old.past; sizes = set self.old.sizes n size; docs = set self.old.docs n doc } }
     {
         self.sizes[n] = size;

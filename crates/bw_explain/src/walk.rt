@@ -3,6 +3,7 @@ ghost use Rattle.std.specs.Prelude.{◌≡◌, ◌+◌, ◌≤◌, ◌<◌, ◌^
 ghost use Rattle.bw_lang.specs.Document.Documents.{elements};
 ghost use Rattle.bw_lang.specs.Document.Forest.{none, element as node};
 ghost use Rattle.bw_lang.specs.Document.View.{before};
+ghost use Rattle.bw_explain.specs.declared.sizes.TheConstants.{NONE};
 ghost use Rattle.bw_explain.specs.declared.aim.Aim.TheVariants.{Plain};
 ghost use Rattle.bw_explain.specs.Aims.{aim_of, cost_of, walk_of, table_of};
 ghost use Rattle.bw_explain.specs.Walks as spec;
@@ -40,14 +41,14 @@ pub struct Walk<'a> {
 }
 
 /// The sizes behind a part, and the number of elements up to its end.
-#[derive(Clone, Copy, Debug, Drop)]
+#[derive(Clone, Copy, Drop)]
 pub struct Behind {
     pub reach: Reach,
     pub place: u32,
 }
 
 /// What an item costs, and the number of elements up to its end.
-#[derive(Clone, Copy, Debug, Drop)]
+#[derive(Clone, Copy, Drop)]
 pub struct Step {
     pub moves: Moves,
     pub place: u32,
@@ -194,9 +195,9 @@ fn text_moves(aim: &Aim, text: &str) -> Moves
 
 /// What an element costs, where it is looked for at any depth, by its attributes and items.
 fn deep_moves(aim: &Aim, n: usize, place: u32, own: u32, inner: Reach) -> Moves
-    requires own { own ≤ 4098 }
+    requires own { own ≤ NONE }
     requires inner { spec.AreSizes inner }
-    requires cost { cost_of aim.now ≤ 4098 }
+    requires cost { cost_of aim.now ≤ NONE }
     ensures is { result ≡ spec.moves_of (spec.deep_cost (aim_of aim.now) n place own inner (cost_of aim.now)) }
     ensures most { spec.AreCosts result }
 {
@@ -208,7 +209,7 @@ fn deep_moves(aim: &Aim, n: usize, place: u32, own: u32, inner: Reach) -> Moves
 
 /// What an element costs, where it is looked for at the top, by its size.
 fn top_moves(aim: &Aim, tag: &str, size: u32) -> Moves
-    requires { size ≤ 4098 }
+    requires { size ≤ NONE }
     ensures is { result ≡ spec.moves_of (spec.top_cost (aim_of aim.now) tag.now size) }
     ensures most { spec.AreCosts result }
 {
@@ -228,7 +229,7 @@ fn top_moves(aim: &Aim, tag: &str, size: u32) -> Moves
 #[cycle(walk)]
 fn element_step(walk: &Walk, n: usize, place: u32, element: &Element) -> Step
     requires n { n < length walk.now.page.templates.now }
-    requires cost { cost_of walk.now.aim ≤ 4098 }
+    requires cost { cost_of walk.now.aim ≤ NONE }
     requires place { place + 1 + elements element.now.items < 2 ^ 32 }
     ensures moves { result.moves ≡ spec.moves_of (spec.item_cost (walk_of walk.now) n place
         (node element.now.tag element.now.attrs element.now.items none)) }
@@ -256,7 +257,7 @@ fn element_step(walk: &Walk, n: usize, place: u32, element: &Element) -> Step
 #[cycle(walk)]
 pub fn item_step(walk: &Walk, n: usize, place: u32, item: &Item) -> Step
     requires n { n < length walk.now.page.templates.now }
-    requires cost { cost_of walk.now.aim ≤ 4098 }
+    requires cost { cost_of walk.now.aim ≤ NONE }
     requires place { place + elements (before item.now none) < 2 ^ 32 }
     ensures moves { result.moves ≡ spec.moves_of (spec.item_cost (walk_of walk.now) n place (before item.now none)) }
     ensures place { result.place ≡ place + elements (before item.now none) }
@@ -280,7 +281,7 @@ pub fn item_step(walk: &Walk, n: usize, place: u32, item: &Item) -> Step
 #[cycle(walk)]
 pub fn reach_items(walk: &Walk, n: usize, place: u32, state: u32, items: &Items) -> Behind
     requires n { n < length walk.now.page.templates.now }
-    requires cost { cost_of walk.now.aim ≤ 4098 }
+    requires cost { cost_of walk.now.aim ≤ NONE }
     requires place { place + elements items.now < 2 ^ 32 }
     ensures is { result.reach ≡ spec.walk (walk_of walk.now) n place (spec.from state) items.now }
     ensures place { result.place ≡ place + elements items.now }

@@ -1,7 +1,8 @@
 //! What may stand at the gaps of a template.
-ghost use Rattle.std.specs.Prelude.{◌≡◌, ℕ, ◌≤◌, ◌||◌, ◌++◌, ◌∷◌, [], not, true, MatchOption, IfOk, OnOk};
+ghost use Rattle.std.specs.Prelude.{◌≡◌, ◌≤◌, ◌||◌, ◌++◌, ◌∷◌, [], not, true, MatchOption, IfOk, OnOk};
 ghost use Rattle.std.specs.List.{list_any};
 ghost use Rattle.bw_lang.specs.Text.Bytes.{is_blank_text as blank};
+ghost use Rattle.bw_explain.specs.declared.sizes.TheConstants.{NONE};
 ghost use Rattle.bw_explain.specs.Ways as spec;
 ghost use Rattle.bw_explain.specs.Building.{has_way};
 ghost use Rattle.bw_explain.specs.Sizes as sizes;
@@ -203,7 +204,7 @@ fn has_words(words: &[Text]) -> bool
 #[tactic(auto, using(crate::proofs::Ways::way_steps))]
 pub fn least_of(known: &Table, led: &[u32]) -> u32
     ensures least { result ≡ sizes.least_of (λ m. size_at known.now m) led.now }
-    ensures most { result ≤ 4098 }
+    ensures most { result ≤ NONE }
 {
     let mut least = NONE;
     for m in led {

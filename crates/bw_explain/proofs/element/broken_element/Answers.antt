@@ -15,9 +15,10 @@ solve-requires-clause-fair c = record {
   made = tt;
 }
 
-pub element_with-requires-clause-tables : goal.element_with-requires-clause-tables
-element_with-requires-clause-tables c =
+pub element_with-whole-requires-clause-tables : goal.element_with-whole-requires-clause-tables
+element_with-whole-requires-clause-tables c =
     let g = c.goals.ensures.is in
     let t = c.in_ok-tables.ensures in
-    tops_are c.args.page.now c.args.rule.now c.args.atom.now c.in_ok-tables.tables t.stay (λ h. t.first (subst (λ v. 1 ≤ v) (sym g) h))
+    tops_are c.args.ground.now.page.now c.args.breach.now.rule.now c.args.breach.now.atom.now c.in_ok-tables.tables t.stay (λ h. t.first (subst (λ v. 1 ≤ v)
+    (sym g) h))
     (λ h. t.second (subst (λ v. 2 ≤ v) (sym g) h)) (λ h. t.whole (subst (λ v. 2 ≤ v) (sym g) h))

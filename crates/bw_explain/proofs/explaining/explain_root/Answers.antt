@@ -3,15 +3,14 @@ use Rattle.std.proofs.lemmas.Result.{IfOk-weaker}
 use Rattle.bw_shape.specs.Nodes.Templates.{template_at}
 use Rattle.bw_sum.specs.Unfolding.{Unfolds}
 use Rattle.bw_explain.specs.declared.explained.Explained.{Explained}
-use Rattle.bw_explain.specs.Aims.{IsPlain}
 use Rattle.bw_explain.specs.Explained.{IsAnswer}
 use Rattle.bw_explain.specs.Ways.{graph}
-use Rattle.bw_explain.proofs.Best.{best_at, best_explained}
+use Rattle.bw_explain.proofs.Best.{best_explained}
 use Rattle.bw_explain.proofs.explaining.explain_root.Goals as goal
 
 pub returns : goal.returns
 returns c =
     let f = c.in_ok-found.found in
     let W = Unfolds (template_at c.args.page.now.templates.now) (graph c.args.page.now.nodes.now) c.args.root in
-    let b = best_at (IsPlain c.args.page.now) c.in_ok-plain.plain c.args.root f.size f.doc c.in_ok-plain.ensures c.in_ok-found.ensures in
-    IfOk-weaker c.answer.result _ _ (λ (e : Explained) h. subst (λ (x : Explained). IsAnswer W x) (sym h) (best_explained W f.size f.doc b)) c.answer.ensures
+    IfOk-weaker c.answer.result _ _ (λ (e : Explained) h. subst (λ (x : Explained). IsAnswer W x) (sym h)
+    (best_explained W f.size f.doc c.in_ok-found.ensures)) c.answer.ensures

@@ -24,8 +24,8 @@ returns-then-is_split-clause-explained c =
     let W = Shows (template_items b.typed.now.service) G b.schema.now.elements c.args.fault.now (root_of c.args.page.now) in
     disjunction (none_shown W c.in_ok-found.found c.in_ok-found.ensures (sym c.if-not-is_none.ensures)) (c.in_ok-is_split.ensures.0 c.if-is_split.true)
 
-pub returns-clause-explained : goal.returns-clause-explained
-returns-clause-explained c =
+pub returns-else-is_split-clause-explained : goal.returns-else-is_split-clause-explained
+returns-else-is_split-clause-explained c =
     let b = c.args.basis.now in
     let G = summary_graph (literals_of b.typed.now.service) c.args.page.now in
     let W = Shows (template_items b.typed.now.service) G b.schema.now.elements c.args.fault.now (root_of c.args.page.now) in
@@ -45,9 +45,9 @@ returns-then-is_split-clause-refused c =
     not_valid (template_items b.typed.now.service) G b.schema.now c.args.fault.now.point c.args.fault.now (root_of c.args.page.now) answers.Disjunction
     c.requires.fault (returns-then-is_split-clause-explained c)
 
-pub returns-clause-refused : goal.returns-clause-refused
-returns-clause-refused c =
+pub returns-else-is_split-clause-refused : goal.returns-else-is_split-clause-refused
+returns-else-is_split-clause-refused c =
     let b = c.args.basis.now in
     let G = summary_graph (literals_of b.typed.now.service) c.args.page.now in
     not_valid (template_items b.typed.now.service) G b.schema.now c.args.fault.now.point c.args.fault.now (root_of c.args.page.now) answers.NoUnfolding
-    c.requires.fault (returns-clause-explained c)
+    c.requires.fault (returns-else-is_split-clause-explained c)

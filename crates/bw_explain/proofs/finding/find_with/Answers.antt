@@ -18,7 +18,8 @@ pub solve-requires-clause-fair : goal.solve-requires-clause-fair
 solve-requires-clause-fair c = record { cost = c.requires.broken.size; made = c.requires.broken.made }
 
 pub returns : goal.returns
-returns c = IfOk-weaker c.found_at.result _ _ (λ f h. best_at (Finds (template_at c.args.page.now.templates.now) (graph c.args.page.now.nodes.now)
-    (spot_of c.args.spot.now) c.args.rule.now c.args.atom.now) c.in_ok-tables.tables.first c.args.root f.size f.doc
+returns c = IfOk-weaker c.found_at-found.result _ _ (λ f h. best_at (Finds (template_at c.args.ground.now.page.now.templates.now)
+    (graph c.args.ground.now.page.now.nodes.now)
+    (spot_of c.args.spot.now) c.args.breach.now.rule.now c.args.breach.now.atom.now) c.in_ok-tables.tables.first c.args.root f.size f.doc
     (c.in_ok-tables.ensures.first (same_le 1)) h)
-    c.found_at.ensures
+    c.found_at-found.ensures

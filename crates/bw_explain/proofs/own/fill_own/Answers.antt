@@ -1,6 +1,7 @@
 use Rattle.std.proofs.Common.{◌≤◌, length, refl, subst}
 use Rattle.std.specs.List.{list_all}
 use Rattle.std.proofs.lemmas.Result.{IfOk-weaker}
+use Rattle.bw_explain.specs.declared.sizes.TheConstants.{PAST}
 use Rattle.bw_explain.specs.declared.atom.Atom.TheVariants.{NotAllowed, OtherValue, Absent, Outside}
 use Rattle.bw_explain.specs.Sizes.{capped, may_fill}
 use Rattle.bw_explain.specs.Ways.{ways_at}
@@ -11,56 +12,57 @@ use Rattle.bw_explain.proofs.own.fill_own.Goals as goal
 
 pub fill_failing-requires-clause-fills : goal.fill_failing-requires-clause-fills
 fill_failing-requires-clause-fills c =
-    (failing_parts c.args.page.now.nodes.now c.args.rule.now c.args.n c.args.attrs.now c.args.atom.now
+    (failing_parts c.args.page.now.nodes.now c.args.breach.now.rule.now c.args.n c.args.attrs.now c.args.breach.now.atom.now
     NotAllowed c.in-NotAllowed.is refl c.requires.there).0
 
 pub fill_failing-requires-clause-fails : goal.fill_failing-requires-clause-fails
 fill_failing-requires-clause-fails c =
-    (failing_parts c.args.page.now.nodes.now c.args.rule.now c.args.n c.args.attrs.now c.args.atom.now
+    (failing_parts c.args.page.now.nodes.now c.args.breach.now.rule.now c.args.n c.args.attrs.now c.args.breach.now.atom.now
     NotAllowed c.in-NotAllowed.is refl c.requires.there).1
 
 pub fill_failing-requires-in-OtherValue-clause-fills : goal.fill_failing-requires-in-OtherValue-clause-fills
 fill_failing-requires-in-OtherValue-clause-fills c =
-    (failing_parts c.args.page.now.nodes.now c.args.rule.now c.args.n c.args.attrs.now c.args.atom.now
+    (failing_parts c.args.page.now.nodes.now c.args.breach.now.rule.now c.args.n c.args.attrs.now c.args.breach.now.atom.now
     OtherValue c.in-OtherValue.is refl c.requires.there).0
 
 pub fill_failing-requires-in-OtherValue-clause-fails : goal.fill_failing-requires-in-OtherValue-clause-fails
 fill_failing-requires-in-OtherValue-clause-fails c =
-    (failing_parts c.args.page.now.nodes.now c.args.rule.now c.args.n c.args.attrs.now c.args.atom.now
+    (failing_parts c.args.page.now.nodes.now c.args.breach.now.rule.now c.args.n c.args.attrs.now c.args.breach.now.atom.now
     OtherValue c.in-OtherValue.is refl c.requires.there).1
 
 pub fill_leaving-requires-clause-fills : goal.fill_leaving-requires-clause-fills
 fill_leaving-requires-clause-fills c =
-    (leaving_parts c.args.page.now.nodes.now c.args.rule.now c.args.n c.args.attrs.now c.args.atom.now
+    (leaving_parts c.args.page.now.nodes.now c.args.breach.now.rule.now c.args.n c.args.attrs.now c.args.breach.now.atom.now
     (Absent c.in-Absent.name) c.in-Absent.name c.in-Absent.is refl c.requires.there).0
 
 pub fill_leaving-requires-clause-leaves : goal.fill_leaving-requires-clause-leaves
 fill_leaving-requires-clause-leaves c =
-    (leaving_parts c.args.page.now.nodes.now c.args.rule.now c.args.n c.args.attrs.now c.args.atom.now
+    (leaving_parts c.args.page.now.nodes.now c.args.breach.now.rule.now c.args.n c.args.attrs.now c.args.breach.now.atom.now
     (Absent c.in-Absent.name) c.in-Absent.name c.in-Absent.is refl c.requires.there).1
 
 pub fill_leaving-requires-in-Outside-clause-fills : goal.fill_leaving-requires-in-Outside-clause-fills
 fill_leaving-requires-in-Outside-clause-fills c =
-    (leaving_parts c.args.page.now.nodes.now c.args.rule.now c.args.n c.args.attrs.now c.args.atom.now
+    (leaving_parts c.args.page.now.nodes.now c.args.breach.now.rule.now c.args.n c.args.attrs.now c.args.breach.now.atom.now
     (Outside c.in-Outside.name c.in-Outside.field-1) c.in-Outside.name c.in-Outside.is refl c.requires.there).0
 
 pub fill_leaving-requires-in-Outside-clause-leaves : goal.fill_leaving-requires-in-Outside-clause-leaves
 fill_leaving-requires-in-Outside-clause-leaves c =
-    (leaving_parts c.args.page.now.nodes.now c.args.rule.now c.args.n c.args.attrs.now c.args.atom.now
+    (leaving_parts c.args.page.now.nodes.now c.args.breach.now.rule.now c.args.n c.args.attrs.now c.args.breach.now.atom.now
     (Outside c.in-Outside.name c.in-Outside.field-1) c.in-Outside.name c.in-Outside.is refl c.requires.there).1
 
 pub fill_attrs-requires-clause-fills : goal.fill_attrs-requires-clause-fills
 fill_attrs-requires-clause-fills c =
     let d = c.in_default in
     let ns = c.args.page.now.nodes.now in
-    let e = other_least ns c.args.rule.now c.args.n c.args.attrs.now c.args.atom.now d.not-NotAllowed d.not-OtherValue d.not-Absent d.not-Outside in
+    let e = other_least ns c.args.breach.now.rule.now c.args.n c.args.attrs.now c.args.breach.now.atom.now d.not-NotAllowed d.not-OtherValue d.not-Absent
+    d.not-Outside in
     (if_there (list_all (λ x. may_fill (ways_at ns c.args.n) x.value) c.args.attrs.now) (capped (length c.args.attrs.now))
-    (subst (λ v. v ≤ 4097) e c.requires.there)).0
+    (subst (λ v. v ≤ PAST) e c.requires.there)).0
 
 pub returns-in-NotAllowed : goal.returns-in-NotAllowed
 returns-in-NotAllowed c =
-    let r = c.args.rule.now in
-    let a = c.args.atom.now in
+    let r = c.args.breach.now.rule.now in
+    let a = c.args.breach.now.atom.now in
     let ns = c.args.page.now.nodes.now in
     IfOk-weaker c.fill_failing.result _ _ (λ b h. (
       h.0,
@@ -70,8 +72,8 @@ returns-in-NotAllowed c =
 
 pub returns-in-OtherValue : goal.returns-in-OtherValue
 returns-in-OtherValue c =
-    let r = c.args.rule.now in
-    let a = c.args.atom.now in
+    let r = c.args.breach.now.rule.now in
+    let a = c.args.breach.now.atom.now in
     let ns = c.args.page.now.nodes.now in
     IfOk-weaker c.fill_failing-in-OtherValue.result _ _ (λ b h. (
       h.0,
@@ -81,8 +83,8 @@ returns-in-OtherValue c =
 
 pub returns-in-Absent : goal.returns-in-Absent
 returns-in-Absent c =
-    let r = c.args.rule.now in
-    let a = c.args.atom.now in
+    let r = c.args.breach.now.rule.now in
+    let a = c.args.breach.now.atom.now in
     let ns = c.args.page.now.nodes.now in
     IfOk-weaker c.fill_leaving.result _ _ (λ b h. (
       h.0,
@@ -92,8 +94,8 @@ returns-in-Absent c =
 
 pub returns-in-Outside : goal.returns-in-Outside
 returns-in-Outside c =
-    let r = c.args.rule.now in
-    let a = c.args.atom.now in
+    let r = c.args.breach.now.rule.now in
+    let a = c.args.breach.now.atom.now in
     let ns = c.args.page.now.nodes.now in
     IfOk-weaker c.fill_leaving-in-Outside.result _ _ (λ b h. (
       h.0,
@@ -104,8 +106,8 @@ returns-in-Outside c =
 pub returns-in_default : goal.returns-in_default
 returns-in_default c =
     let d = c.in_default in
-    let r = c.args.rule.now in
-    let a = c.args.atom.now in
+    let r = c.args.breach.now.rule.now in
+    let a = c.args.breach.now.atom.now in
     let ns = c.args.page.now.nodes.now in
     IfOk-weaker c.fill_attrs.result _ _ (λ b h. (
       h.0,

@@ -8,7 +8,7 @@ use Rattle.bw_explain.proofs.own.own_least.Goals as goal
 
 pub returns-in-NotAllowed-clause-is : goal.returns-in-NotAllowed-clause-is
 returns-in-NotAllowed-clause-is c =
-    let r = c.args.rule.now in
+    let r = c.args.breach.now.rule.now in
     let ns = c.args.page.now.nodes.now in
     c.failing_own.ensures.is ∙ subst (λ (a : Atom). failing_own ns (passes r a)
     (fails r a) c.args.n c.args.attrs.now ≡ own_least ns r a c.args.n c.args.attrs.now)
@@ -16,7 +16,7 @@ returns-in-NotAllowed-clause-is c =
 
 pub returns-in-OtherValue-clause-is : goal.returns-in-OtherValue-clause-is
 returns-in-OtherValue-clause-is c =
-    let r = c.args.rule.now in
+    let r = c.args.breach.now.rule.now in
     let ns = c.args.page.now.nodes.now in
     c.failing_own-in-OtherValue.ensures.is ∙ subst (λ (a : Atom).
     failing_own ns (passes r a) (fails r a) c.args.n c.args.attrs.now ≡ own_least ns r a c.args.n c.args.attrs.now)
@@ -24,7 +24,7 @@ returns-in-OtherValue-clause-is c =
 
 pub returns-in-Absent-clause-is : goal.returns-in-Absent-clause-is
 returns-in-Absent-clause-is c =
-    let r = c.args.rule.now in
+    let r = c.args.breach.now.rule.now in
     let ns = c.args.page.now.nodes.now in
     c.leaving_own.ensures.is ∙ subst (λ (a : Atom). leaving_own ns (passes r a)
     (fails r a) c.in-Absent.name c.args.n c.args.attrs.now ≡ own_least ns r a c.args.n c.args.attrs.now)
@@ -32,7 +32,7 @@ returns-in-Absent-clause-is c =
 
 pub returns-in-Outside-clause-is : goal.returns-in-Outside-clause-is
 returns-in-Outside-clause-is c =
-    let r = c.args.rule.now in
+    let r = c.args.breach.now.rule.now in
     let ns = c.args.page.now.nodes.now in
     c.leaving_own-in-Outside.ensures.is ∙ subst (λ (a : Atom).
     leaving_own ns (passes r a) (fails r a) c.in-Outside.name c.args.n c.args.attrs.now ≡ own_least ns r a c.args.n c.args.attrs.now)
@@ -42,5 +42,6 @@ pub returns-in_default-clause-is : goal.returns-in_default-clause-is
 returns-in_default-clause-is c =
     let d = c.in_default in
     c.attrs_least.ensures.least ∙ ap (λ w. attrs_least w c.args.attrs.now) c.node.ensures
-    ∙ sym (other_least c.args.page.now.nodes.now c.args.rule.now c.args.n c.args.attrs.now c.args.atom.now d.not-NotAllowed d.not-OtherValue d.not-Absent
+    ∙ sym (other_least c.args.page.now.nodes.now c.args.breach.now.rule.now c.args.n c.args.attrs.now c.args.breach.now.atom.now d.not-NotAllowed
+    d.not-OtherValue d.not-Absent
     d.not-Outside)

@@ -5,15 +5,16 @@ use Rattle.bw_explain.specs.Ways.{ways_at, way_of, says, graph}
 use Rattle.bw_explain.specs.Atoms.{passes, fails}
 use Rattle.bw_explain.specs.Owns.{may_leave}
 use Rattle.std.proofs.lemmas.Bool.{not-true}
-use Rattle.bw_explain.proofs.own.leaving_value.Goals as goal
+use Rattle.bw_explain.proofs.leaving.leaving_value.Goals as goal
 
 pub returns-in_ok-copy-in-Fixed : goal.returns-in_ok-copy-in-Fixed
 returns-in_ok-copy-in-Fixed c = (
   subst (λ v. FillsValue (graph c.args.page.now.nodes.now) c.args.n v (Fixed c.in_ok-copy-in-Fixed.field-0))
       (ap Fixed c.in_ok-copy-in-Fixed.ensures ∙ sym c.in-Fixed.is) kept,
-  ap (passes c.args.rule.now c.args.atom.now c.args.attr.now.name) c.in_ok-copy-in-Fixed.ensures
-      ∙ not-true (passes c.args.rule.now c.args.atom.now c.args.attr.now.name c.in-Fixed.text)
-      (ap (may_leave (ways_at c.args.page.now.nodes.now c.args.n) (passes c.args.rule.now c.args.atom.now) (fails c.args.rule.now c.args.atom.now)
+  ap (passes c.args.breach.now.rule.now c.args.breach.now.atom.now c.args.attr.now.name) c.in_ok-copy-in-Fixed.ensures
+      ∙ not-true (passes c.args.breach.now.rule.now c.args.breach.now.atom.now c.args.attr.now.name c.in-Fixed.text)
+      (ap (may_leave (ways_at c.args.page.now.nodes.now c.args.n) (passes c.args.breach.now.rule.now c.args.breach.now.atom.now)
+      (fails c.args.breach.now.rule.now c.args.breach.now.atom.now)
       c.args.attr.now.name) (sym c.in-Fixed.is) ∙ c.requires.leaves),
 )
 
@@ -29,5 +30,6 @@ returns-in_ok-word-in-Some c = (
   subst (λ v. FillsValue (graph c.args.page.now.nodes.now) c.args.n v (Fixed c.in_ok-word-in-Some.word)) (sym c.in-Hole.is)
       (said_in (ap (λ x. says (way_of x c.in-Hole.gap) c.in_ok-word-in-Some.word) (sym c.node.ensures)
       ∙ ap (λ x. says x c.in_ok-word-in-Some.word) c.in-Some.ensures ∙ c.in_ok-word-in-Some.ensures.0)),
-  ap (λ x. passes c.args.rule.now c.args.atom.now x c.in_ok-word-in-Some.word) (sym c.as_str.ensures.text) ∙ c.in_ok-word-in-Some.ensures.1,
+  ap (λ x. passes c.args.breach.now.rule.now c.args.breach.now.atom.now x c.in_ok-word-in-Some.word) (sym c.as_str.ensures.text)
+      ∙ c.in_ok-word-in-Some.ensures.1,
 )
