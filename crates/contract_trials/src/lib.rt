@@ -1,0 +1,13 @@
+//! Public calls once more. Each has clauses of its contract, word for word, so that a wrong body in its place is refused as that
+//! contract refuses it.
+#![tactic(auto)]
+
+mod analysis;
+mod blocks;
+mod checks;
+mod documents;
+mod fields;
+mod formats;
+mod forms;
+mod refusals;
+mod requests;

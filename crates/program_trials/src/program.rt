@@ -1,0 +1,46 @@
+//! What the program does.
+ghost use Rattle.std.specs.Prelude.{IfSome};
+ghost use Rattle.bigwig.specs.Asked.{asked};
+ghost use Rattle.bigwig.specs.Outcomes.{Comes};
+ghost use Rattle.bigwig.specs.Works.{outside};
+
+use bigwig::{Status, run};
+use bw_keeping::WideDoor;
+use bw_lang::Words;
+use bw_out::{Files, Keys, Pulse, Sink, Steps};
+use bw_stable::Journals;
+use std::alloc::Global;
+use std::sync::ledger::Ledger;
+use std::thread::Threads;
+
+/// `run`: which of two lists of words is obeyed.
+pub fn obeyed<
+    R: Threads + Sync,
+    F: Files,
+    J: Journals,
+    D: WideDoor,
+    K: Keys,
+    W: Sink,
+    P: Pulse,
+    L: Ledger,
+>(
+    rt: &R,
+    alloc: Global,
+    words: &Words,
+    others: &Words,
+    files: &mut F,
+    journals: &mut J,
+    door: &mut D,
+    keys: &mut K,
+    out: &mut W,
+    pulse: &P,
+    steps: &mut Steps<L>,
+) -> Status
+    ensures comes { IfSome (F.told files.old) (λ disk. Comes (asked words.now disk)
+        (outside (W.held out.old) (K.coming keys.old) (D.asked door.old) (D.coming door.old) (D.returned door.old) (F.unread files.old) steps.old (J.deeds journals.old))
+        (outside (W.held out.new) (K.coming keys.new) (D.asked door.new) (D.coming door.new) (D.returned door.new) (F.unread files.new) steps.new (J.deeds journals.new)) result) }
+{
+    run(
+        rt, alloc, words, files, journals, door, keys, out, pulse, steps,
+    )
+}
