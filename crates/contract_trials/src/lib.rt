@@ -1,4 +1,4 @@
-//! Public calls once more. Each has clauses of its contract, word for word, so that a wrong body in its place is refused as that
+//! Public calls once more. Each has some clauses of its contract, so that a wrong body in its place is refused as that
 //! contract refuses it.
 #![tactic(auto)]
 

@@ -1,4 +1,4 @@
-//! Public calls of the program once more, and of what explains faults. Each has clauses of its contract, word for word, so that a
+//! Public calls of the program once more, and of what explains faults. Each has some clauses of its contract, so that a
 //! wrong body in its place is refused as that contract refuses it.
 #![tactic(auto)]
 

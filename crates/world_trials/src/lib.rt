@@ -1,5 +1,5 @@
-//! Public calls of the crates of worlds once more: worlds, journals beside them, saved sessions and visits. Each has clauses of its
-//! contract, word for word, so that a wrong body in its place is refused as that contract refuses it.
+//! Public calls of the crates of worlds once more: worlds, journals beside them, saved sessions and visits. Each has some clauses of its
+//! contract, so that a wrong body in its place is refused as that contract refuses it.
 #![tactic(auto)]
 
 mod frozen_worlds;
