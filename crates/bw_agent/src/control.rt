@@ -6,14 +6,14 @@ use std::alloc::Global;
 use std::marker::Model;
 
 /// A value that a control may send, and whether the page chose it: it is checked, selected, or the text of a text area.
-#[derive(Debug, Drop)]
+#[derive(Drop)]
 pub struct Offer {
     pub value: Text,
     pub chosen: bool,
 }
 
 /// The values that a control may send, in order. Contracts see the list.
-#[derive(Debug, Drop)]
+#[derive(Drop)]
 pub struct Offers {
     list: Vec<Offer>,
 }
@@ -54,7 +54,7 @@ impl Offers {
 }
 
 /// A control with a field: the field's name and kind, and the values that the control may send.
-#[derive(Debug, Drop)]
+#[derive(Drop)]
 pub struct Control {
     pub name: Text,
     pub kind: FieldKind,
@@ -62,7 +62,7 @@ pub struct Control {
 }
 
 /// The controls of a form that have a field, in the order of the form. Contracts see the list.
-#[derive(Debug, Drop)]
+#[derive(Drop)]
 pub struct Controls {
     list: Vec<Control>,
 }

@@ -13,14 +13,14 @@ use bw_read::{PageFault, read_page};
 use std::alloc::Global;
 
 /// What a user sends: a body, to a target.
-#[derive(Debug, Drop)]
+#[derive(Drop)]
 pub struct Filled {
     pub target: Text,
     pub body: Text,
 }
 
 /// Why no form was filled in.
-#[derive(Debug, Drop)]
+#[derive(Drop)]
 pub enum AgentFault {
     /// The bytes are no page.
     NotAPage,

@@ -5,7 +5,7 @@ use bw_solve::SolveFault;
 use std::alloc::AllocError;
 
 /// Why there are no facts.
-#[derive(Clone, Copy, Debug, PartialEq, Eq)]
+#[derive(Clone, Copy, PartialEq, Eq)]
 pub enum AnalyseFault {
     /// The least solution has more than 2,000,000 members. The number is greater than that: how many there were when the
     /// solver stopped.

@@ -21,7 +21,7 @@ pub const MAX_ROTATE: u32 = 4_000_000_000;
 pub const MAX_WORKERS: u32 = 16;
 
 /// What a service is judged by.
-#[derive(Debug, Drop)]
+#[derive(Drop)]
 pub struct Judging {
     /// The name of the schema file. Where there is none, the built-in schema is meant.
     pub schema: Option<Text>,
@@ -42,7 +42,7 @@ pub struct Named<'s, 'j, 'f> {
 }
 
 /// What is asked for.
-#[derive(Debug, Drop)]
+#[derive(Drop)]
 pub enum Command {
     /// To say whether a service is accepted.
     Check {

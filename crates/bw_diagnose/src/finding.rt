@@ -7,7 +7,7 @@ use bw_lang::Lexeme;
 use bw_places::Span;
 
 /// What is sought among tokens.
-#[derive(Clone, Copy, Debug)]
+#[derive(Clone, Copy)]
 pub enum Wanted {
     /// The template of a name.
     Template,

@@ -8,7 +8,7 @@ use bw_lang::{Bytes, Memory};
 use std::alloc::Global;
 
 /// Where a byte of the inside of a template stands.
-#[derive(Clone, Copy, Debug)]
+#[derive(Clone, Copy)]
 pub enum Part {
     Outside,
     /// In a tag, or behind the `<` of a gap.

@@ -10,7 +10,7 @@ use bw_hints::Expected;
 use bw_lang::is_blank;
 
 /// What stands in front of a byte of the inside of a template.
-#[derive(Clone, Copy, Debug)]
+#[derive(Clone, Copy)]
 pub enum Stage {
     /// Nothing yet, text, a gap or a tag.
     Text,
@@ -227,7 +227,7 @@ fn may_end(stage: Stage) -> bool
 }
 
 /// A place of the inside of a template where no piece goes on, and what stands in front of it.
-#[derive(Clone, Copy, Debug, Drop)]
+#[derive(Clone, Copy, Drop)]
 pub struct Stuck {
     pub at: usize,
     pub stage: Stage,

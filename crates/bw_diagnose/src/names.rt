@@ -14,7 +14,7 @@ use bw_places::{Spelled, locals_at};
 use std::alloc::Global;
 
 /// Which names of declarations may stand at a place.
-#[derive(Clone, Copy, Debug)]
+#[derive(Clone, Copy)]
 pub enum Sort {
     Template,
     Shared,

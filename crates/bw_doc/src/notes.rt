@@ -11,7 +11,7 @@ use bw_lang::{AttrValue, Attrs, GapId, Item, Items, Memory};
 use std::alloc::Global;
 
 /// An open gap, and where it stands.
-#[derive(Clone, Copy, Debug)]
+#[derive(Clone, Copy)]
 pub struct Note {
     pub gap: GapId,
     pub says: Open,

@@ -9,21 +9,21 @@ use std::alloc::Global;
 use std::marker::Model;
 
 /// Where gaps are open: how many there are, and the greatest number of elements around one of them.
-#[derive(Clone, Copy, Debug)]
+#[derive(Clone, Copy)]
 pub struct Spot {
     pub count: u32,
     pub depth: Option<u32>,
 }
 
 /// Where the gaps of a name are open: in content, and as the values of attributes.
-#[derive(Clone, Copy, Debug)]
+#[derive(Clone, Copy)]
 pub struct Open {
     pub content: Spot,
     pub hole: Spot,
 }
 
 /// Where each gap is open, by its number.
-#[derive(Debug, Drop)]
+#[derive(Drop)]
 pub struct Openings {
     list: Vec<Open>,
 }

@@ -22,7 +22,7 @@ const ROOM: usize = 81_920;
 const READS: u32 = 81_921;
 
 /// What one read gave.
-#[derive(Clone, Copy, Debug, PartialEq, Eq)]
+#[derive(Clone, Copy, PartialEq, Eq)]
 enum Got {
     /// Bytes, or nothing yet, and there may be more.
     More,
@@ -35,7 +35,7 @@ enum Got {
 }
 
 /// What came of reading from a client.
-#[derive(Clone, Copy, Debug, PartialEq, Eq)]
+#[derive(Clone, Copy, PartialEq, Eq)]
 pub(crate) enum Heard {
     /// Its message isn't whole, and nothing is there now.
     Waits,

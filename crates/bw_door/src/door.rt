@@ -24,7 +24,7 @@ use std::time::Clock;
 const CHANGES: usize = 256;
 
 /// How a link ended.
-#[derive(Clone, Copy, Debug, PartialEq, Eq)]
+#[derive(Clone, Copy, PartialEq, Eq)]
 pub(crate) enum End {
     /// It was closed at once, since a read or a write had failed.
     Closed,

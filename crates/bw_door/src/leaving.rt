@@ -20,7 +20,7 @@ use std::mem;
 const DROPPED_BYTES: usize = 65_536;
 
 /// Why no byte was taken.
-#[derive(Clone, Copy, Debug, PartialEq, Eq)]
+#[derive(Clone, Copy, PartialEq, Eq)]
 enum Stop {
     /// None is taken now.
     Full,
@@ -29,7 +29,7 @@ enum Stop {
 }
 
 /// What came of sending to a client.
-#[derive(Clone, Copy, Debug, PartialEq, Eq)]
+#[derive(Clone, Copy, PartialEq, Eq)]
 pub(crate) enum Went {
     /// It is waited for.
     Waits,

@@ -36,7 +36,7 @@ const LOOK: u64 = 20;
 const WEED: u64 = 20;
 
 /// What letting clients in came to.
-#[derive(Clone, Copy, Debug, PartialEq, Eq)]
+#[derive(Clone, Copy, PartialEq, Eq)]
 enum LetIn {
     /// No further one waits.
     All,

@@ -14,7 +14,7 @@ use std::cmp::Ordering;
 ///
 /// Faults are ordered by their point, then those of fields and gaps (8 to 11) before those of elements (1 to 7), then by
 /// template, place, number, and the bytes of the detail.
-#[derive(Debug, Drop)]
+#[derive(Drop)]
 pub struct Fault {
     /// 1: an attribute isn't allowed. 2: a required attribute may be absent. 3: an attribute's value may be outside the
     /// allowed ones. 4: a child element may stand there and isn't allowed. 5: text may be other than blank where none is

@@ -17,7 +17,7 @@ use std::alloc::Global;
 pub const MAX_POINTS: usize = 4096;
 
 /// Why a service has no flow.
-#[derive(Clone, Copy, Debug, PartialEq, Eq)]
+#[derive(Clone, Copy, PartialEq, Eq)]
 pub enum FlowFault {
     /// It has so many points, more than 4,096.
     TooMany(u64),

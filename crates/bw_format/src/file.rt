@@ -14,7 +14,7 @@ use bw_lang::Memory;
 use std::alloc::Global;
 
 /// Why a file of formats isn't read.
-#[derive(Clone, Copy, Debug, PartialEq, Eq)]
+#[derive(Clone, Copy, PartialEq, Eq)]
 pub enum FormatFault {
     /// It has more than 65,536 bytes.
     TooLong,

@@ -13,7 +13,7 @@ use crate::walking::Walk;
 use arrayvec::ArrayVec;
 
 /// How a text stands to a pattern.
-#[derive(Clone, Copy, Debug, PartialEq, Eq)]
+#[derive(Clone, Copy, PartialEq, Eq)]
 pub enum Light {
     /// It is in the pattern.
     Green,

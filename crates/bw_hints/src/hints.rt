@@ -9,7 +9,7 @@ use bw_tmpl::TmplFault;
 use bw_types::TypeFault;
 
 /// What is expected where a template's markup stops.
-#[derive(Clone, Copy, Debug)]
+#[derive(Clone, Copy)]
 pub enum Expected {
     /// A text, a tag or a gap.
     Text,
@@ -184,7 +184,7 @@ fn kind_name(kind: Kind) -> &'static [u8]
 }
 
 /// What a test of names and kinds is about.
-#[derive(Clone, Copy, Debug)]
+#[derive(Clone, Copy)]
 pub enum Role {
     /// A value, or a name that is declared.
     Value,

@@ -24,7 +24,7 @@ use bw_lang::{are_digits, decimal_value};
 use httparse::spans::{HeaderSpan, Span};
 
 /// What the tests on a whole head come to.
-#[derive(Clone, Copy, Debug)]
+#[derive(Clone, Copy)]
 pub enum Decision {
     /// A test refuses it.
     Refused(ReadOutcome),
@@ -33,7 +33,7 @@ pub enum Decision {
 }
 
 /// The header lines of one name.
-#[derive(Clone, Copy, Debug)]
+#[derive(Clone, Copy)]
 pub enum Found {
     Absent,
     One(Span),
@@ -41,7 +41,7 @@ pub enum Found {
 }
 
 /// What the lines `Content-Length` come to.
-#[derive(Clone, Copy, Debug)]
+#[derive(Clone, Copy)]
 pub enum Length {
     Missing,
     Wrong,

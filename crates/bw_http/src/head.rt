@@ -21,7 +21,7 @@ pub const MAX_HEADER_LINES: usize = 64;
 pub const MAX_HEAD_LINES: usize = 66;
 
 /// What the bytes begin with.
-#[derive(Clone, Copy, Debug)]
+#[derive(Clone, Copy)]
 pub enum HeadLook {
     /// A head within the limits.
     Whole(RequestSpans),

@@ -15,7 +15,7 @@ pub const ROOM: usize = 81_920;
 
 /// The bytes that a source gave and that no message has used yet, at most 81,920 of them. Contracts see the list of
 /// these bytes.
-#[derive(Debug, Drop)]
+#[derive(Drop)]
 pub struct Intake {
     buffer: Vec<u8>,
     // The bytes are those from `start` up to `end`. They move to the front of the buffer only when more are read, so

@@ -23,7 +23,7 @@ use httparse::spans::{EMPTY_HEADER_SPAN, HeaderSpan, RequestSpans, Span};
 use std::alloc::Global;
 
 /// Where the parts of a whole message are.
-#[derive(Clone, Copy, Debug)]
+#[derive(Clone, Copy)]
 pub struct Parts {
     pub method: Method,
     pub target: Span,
@@ -34,7 +34,7 @@ pub struct Parts {
 }
 
 /// What has to come before it is worth to look at the bytes again.
-#[derive(Clone, Copy, Debug, PartialEq, Eq)]
+#[derive(Clone, Copy, PartialEq, Eq)]
 pub enum Lack {
     /// The end of a line: there is no head yet, and heads end in a line feed.
     Line,
@@ -43,7 +43,7 @@ pub enum Lack {
 }
 
 /// What the bytes taken so far are.
-#[derive(Clone, Copy, Debug)]
+#[derive(Clone, Copy)]
 pub enum Verdict {
     /// No head, whatever follows.
     Bad,

@@ -12,7 +12,7 @@ use bw_page::Sheet;
 use itoa::Buffer;
 
 /// What a request, or the lack of one, is answered by.
-#[derive(Debug, Drop)]
+#[derive(Drop)]
 pub enum Reply {
     /// 200: the names of the sessions, each with the end of a line.
     Index(Sheet),
@@ -55,7 +55,7 @@ pub enum Reply {
 }
 
 /// The methods that a path serves.
-#[derive(Clone, Copy, Debug, PartialEq, Eq)]
+#[derive(Clone, Copy, PartialEq, Eq)]
 pub enum Allow {
     Get,
     GetPost,

@@ -2,7 +2,7 @@
 use bw_lang::{Name, Submission};
 
 /// A request's method (RFC 9110, section 9). Methods are told apart by letter case.
-#[derive(Clone, Copy, Debug, PartialEq, Eq)]
+#[derive(Clone, Copy, PartialEq, Eq)]
 pub enum Method {
     Get,
     Post,
@@ -11,7 +11,7 @@ pub enum Method {
 }
 
 /// What a request's target leads to.
-#[derive(Debug, Drop)]
+#[derive(Drop)]
 pub enum Path {
     /// `/`: the index of the sessions.
     Index,
@@ -24,7 +24,7 @@ pub enum Path {
 }
 
 /// A request whose head and body came whole.
-#[derive(Debug, Drop)]
+#[derive(Drop)]
 pub struct Request {
     pub method: Method,
     pub path: Path,
@@ -33,7 +33,7 @@ pub struct Request {
 }
 
 /// Why no request was read. Each but `Memory` leaves all bytes that were taken in the intake.
-#[derive(Clone, Copy, Debug, PartialEq, Eq)]
+#[derive(Clone, Copy, PartialEq, Eq)]
 pub enum ReadOutcome {
     /// The source ended before a first byte.
     End,

@@ -1,7 +1,7 @@
 //! How serving and answering end.
 
 /// How serving beside a journal ended.
-#[derive(Clone, Copy, Debug, PartialEq, Eq)]
+#[derive(Clone, Copy, PartialEq, Eq)]
 pub enum Ended {
     /// No link is to come, or there were as many as may be.
     Done,
@@ -12,7 +12,7 @@ pub enum Ended {
 }
 
 /// How a stream that was answered beside a journal ended.
-#[derive(Clone, Copy, Debug, PartialEq, Eq)]
+#[derive(Clone, Copy, PartialEq, Eq)]
 pub enum StreamEnded {
     /// The stream has ended, or as many messages were answered as were to be, or one that can't be cut was refused. So
     /// many of the replies say that there was no memory.

@@ -6,7 +6,7 @@ use std::io::ErrorKind;
 
 /// How the tries of one call went: how many were interrupted, and how the last one ended, where it failed for another
 /// reason. Only a call of the system that ended so is noted here.
-#[derive(Clone, Copy, Debug, PartialEq, Eq)]
+#[derive(Clone, Copy, PartialEq, Eq)]
 pub struct Tries {
     interrupted: u32,
     end: Option<ErrorKind>,

@@ -10,7 +10,7 @@ use std::alloc::Global;
 use std::marker::Model;
 
 /// A control that has a field: the field's name, and how many values it may have.
-#[derive(Debug, Drop)]
+#[derive(Drop)]
 pub struct FieldUse {
     pub name: Text,
     pub kind: FieldKind,
@@ -18,7 +18,7 @@ pub struct FieldUse {
 
 /// The controls of a page that have a field, in the order of the page. Contracts see the list of their names and
 /// kinds.
-#[derive(Debug, Drop)]
+#[derive(Drop)]
 pub struct FieldList {
     list: Vec<FieldUse>,
 }

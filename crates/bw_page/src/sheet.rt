@@ -11,7 +11,7 @@ use std::marker::Model;
 
 /// The body of a reply, a page or plain text, ready to be sent. Contracts see its bytes. All the memory that sending
 /// it takes was taken as it was made.
-#[derive(Debug, Drop)]
+#[derive(Drop)]
 pub struct Sheet {
     bytes: Vec<u8>,
 }

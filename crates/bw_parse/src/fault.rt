@@ -6,7 +6,7 @@ use bw_lang::Memory;
 use std::alloc::{AllocError, AllocFailed};
 
 /// Why lexemes aren't parsed.
-#[derive(Clone, Copy, Debug, PartialEq, Eq)]
+#[derive(Clone, Copy, PartialEq, Eq)]
 pub enum ParseFault {
     /// There was no memory.
     Memory,

@@ -8,7 +8,7 @@ ghost use Rattle.bw_parse.specs.Gives.{Finds};
 use bw_lang::{Fun, Kind, Lexeme, Name, Op, is_keyword};
 
 /// What a word means where an expression may stand.
-#[derive(Clone, Copy, Debug, PartialEq, Eq)]
+#[derive(Clone, Copy, PartialEq, Eq)]
 pub enum Meaning {
     Truth(bool),
     Function(Fun),

@@ -3,7 +3,7 @@ ghost use Rattle.std.specs.Prelude.{◌≡◌};
 ghost use Rattle.bw_questions.specs.Codes.{code_of, status_for};
 
 /// How the program ends. The numbers are its exit codes.
-#[derive(Clone, Copy, Debug, PartialEq, Eq)]
+#[derive(Clone, Copy, PartialEq, Eq)]
 pub enum Status {
     /// 0: all was done.
     Done,
@@ -66,7 +66,7 @@ impl Status {
 }
 
 /// What is refused, or isn't there.
-#[derive(Clone, Copy, Debug, PartialEq, Eq)]
+#[derive(Clone, Copy, PartialEq, Eq)]
 pub enum Refusal {
     /// A file that isn't there.
     File,

@@ -10,7 +10,7 @@ use bw_lang::submission::MAX_VALUE_BYTES;
 use bw_lang::{FieldId, Kind, Submission};
 
 /// Why a form isn't taken: a field that the show receives hasn't the values that are due.
-#[derive(Clone, Copy, Debug, PartialEq, Eq)]
+#[derive(Clone, Copy, PartialEq, Eq)]
 pub enum FieldFault {
     /// The form has no value of the field, which goes into a string.
     Lacking(FieldId),

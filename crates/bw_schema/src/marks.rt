@@ -10,7 +10,7 @@ use std::alloc::Global;
 use std::marker::Model;
 
 /// What a name is declared or used as.
-#[derive(Clone, Copy, Debug, PartialEq, Eq, Hash)]
+#[derive(Clone, Copy, PartialEq, Eq, Hash)]
 pub enum Kind {
     /// An element of the schema.
     Element,
@@ -26,7 +26,7 @@ pub enum Kind {
 
 /// A name, with what it is declared or used as and in which rule. The rules are counted from 1 in the order of their
 /// lines; 0 stands for the whole schema.
-#[derive(Debug, PartialEq, Eq, Hash, Drop)]
+#[derive(PartialEq, Eq, Hash, Drop)]
 pub struct Mark {
     pub rule: usize,
     pub kind: Kind,

@@ -4,7 +4,7 @@ ghost use Rattle.std.specs.Prelude.{◌≡◌};
 use std::alloc::{AllocError, AllocFailed};
 
 /// Why there is no solution.
-#[derive(Clone, Copy, Debug, PartialEq, Eq)]
+#[derive(Clone, Copy, PartialEq, Eq)]
 pub enum SolveFault {
     /// The least solution has more members than the limit allows. The number is greater than the limit, and no
     /// greater than 18,446,744,073,709,551,615: how many members there were when the solver stopped.

@@ -8,7 +8,7 @@ use std::alloc::AllocFailed;
 
 /// Why the bytes of a file aren't read as a service. They are decided in this order, but for `TooMany`, which is
 /// decided twice: on the tokens alone (`Nesting`, then `Stretch`) behind `Lex`, and for all other limits last.
-#[derive(Debug, Drop)]
+#[derive(Drop)]
 pub enum SyntaxFault {
     /// There are more than 1,048,576 bytes.
     TooLong,

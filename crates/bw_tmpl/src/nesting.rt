@@ -11,7 +11,7 @@ use std::alloc::Global;
 use std::marker::Model;
 
 /// Names, the last that was pushed first.
-#[derive(Debug, Drop)]
+#[derive(Drop)]
 pub struct NameStack {
     list: Vec<Name>,
 }

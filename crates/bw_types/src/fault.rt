@@ -4,7 +4,7 @@ ghost use Rattle.std.specs.Prelude.{◌≡◌};
 use bw_lang::{Kind, Memory, Name, Text};
 
 /// How a gap is used in templates. A gap name has one kind in a service.
-#[derive(Clone, Copy, Debug, PartialEq, Eq)]
+#[derive(Clone, Copy, PartialEq, Eq)]
 pub enum GapKind {
     /// `<[gap]>`: documents and strings may fill it.
     Content,
@@ -13,7 +13,7 @@ pub enum GapKind {
 }
 
 /// Why a service isn't well typed: the first test that fails, in one walk over its declarations in source order.
-#[derive(Debug, Drop)]
+#[derive(Drop)]
 pub enum TypeFault {
     /// An earlier declaration has this name, or a local's name is taken.
     Repeated(Name),

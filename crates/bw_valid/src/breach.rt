@@ -14,7 +14,7 @@ use bw_lang::{Attrs, Element, Item, Items, Tree};
 use bw_schema::{Rule, Rules, Schema};
 
 /// An element that breaks a rule, and the rule that it breaks.
-#[derive(Clone, Copy, Debug, PartialEq, Eq)]
+#[derive(Clone, Copy, PartialEq, Eq)]
 pub struct Breach {
     /// The number of the element in pre-order, from 1.
     pub place: u32,

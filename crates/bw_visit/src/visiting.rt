@@ -18,7 +18,7 @@ use bw_out::{Keys, Sink, Steps, WriteFault, write_all};
 use std::sync::ledger::Ledger;
 
 /// How a visit ends.
-#[derive(Debug, Drop)]
+#[derive(Drop)]
 pub enum VisitEnd {
     /// No line is left, or the last reply has no form.
     Done,

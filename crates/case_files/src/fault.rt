@@ -6,7 +6,7 @@ use std::num::ParseIntError;
 use std::{fmt, io};
 
 /// Why cases can't be tried.
-#[derive(Debug, Drop)]
+#[derive(Drop)]
 pub enum Fault {
     /// A line isn't written as the format says.
     Malformed,

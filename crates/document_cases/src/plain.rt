@@ -105,7 +105,7 @@ impl Plain {
 }
 
 /// Open gaps of one name.
-#[derive(Clone, Copy, Debug, PartialEq, Eq)]
+#[derive(Clone, Copy, PartialEq, Eq)]
 pub struct Gaps {
     pub count: u64,
     pub around: u32,

@@ -45,7 +45,7 @@ pub const NO_MEMORY: u8 = 8;
 const PAGES: u32 = 20;
 
 /// What a refused request for memory led to.
-#[derive(Clone, Copy, Debug, PartialEq, Eq)]
+#[derive(Clone, Copy, PartialEq, Eq)]
 pub enum Came {
     /// All is as it is due: none was refused, or it was needed for nothing, or for another run than the one that is looked at.
     Nothing,
