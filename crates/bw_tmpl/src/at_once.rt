@@ -44,13 +44,16 @@ impl Draft {
     ) -> Result<bool, Memory>
         ensures { IfOk result (λ b. spec.Tells b (spec.suiting gaps.now most self.old piece) self.new) }
     {
-        if !suits(alloc, most, self.parents.len(), &piece)? {
-            return Ok(false);
-        }
-        match self.take_whole(piece, gaps) {
-            Ok(()) => Ok(true),
-            Err(TmplFault::Mismatched) => Ok(false),
-            Err(_) => Err(Memory),
+        match suits(alloc, most, self.parents.len(), &piece) {
+            Ok(true) => match self.take_whole(piece, gaps) {
+                Ok(()) => Ok(true),
+                Err(TmplFault::Mismatched) => Ok(false),
+                Err(_) => Err(Memory),
+            },
+            unsuited => {
+                drop(piece);
+                unsuited
+            }
         }
     }
 
@@ -90,9 +93,15 @@ pub fn at_once(
     ensures { IfOk result (λ o. MatchOption o (spec.at_once gaps.now most bytes.now ≡ None) (λ f. spec.at_once gaps.now most bytes.now ≡ Some f)) }
 {
     let mut draft = Draft::new(alloc);
-    if draft.fill(alloc, most, bytes, gaps)? && draft.parents.is_empty() {
-        Ok(Some(draft.items))
-    } else {
-        Ok(None)
+    match draft.fill(alloc, most, bytes, gaps) {
+        Ok(true) => Ok(draft.finish()),
+        Ok(false) => {
+            drop(draft);
+            Ok(None)
+        }
+        Err(Memory) => {
+            drop(draft);
+            Err(Memory)
+        }
     }
 }

@@ -1,11 +1,12 @@
 //! Items are built from pieces.
-ghost use Rattle.std.specs.Prelude.{◌≡◌, ◌≢◌, IfOk, OnOk, [], ◌∷◌, length, map, MatchOption};
+ghost use Rattle.std.specs.Prelude.{◌≡◌, ◌≢◌, ◌++◌, Some, None, IfOk, OnOk, [], ◌∷◌, length, map, MatchOption};
 ghost use Rattle.std.specs.Bool.{MatchBool};
 ghost use Rattle.bw_lang.specs.Document.Forest.{none, element};
+ghost use Rattle.bw_lang.specs.Document.Documents.{append};
 ghost use Rattle.bw_lang.specs.Document.View.{before};
 ghost use Rattle.bw_lang.specs.Template.NumberedGaps.{numbered, numbered_value};
 ghost use Rattle.bw_tmpl.specs.Building.{nothing_built, with_items, begun_by, tag_taken, element_begun};
-ghost use Rattle.bw_tmpl.specs.Building.{empty_element, element_ended, draft_after, built, Builds};
+ghost use Rattle.bw_tmpl.specs.Building.{empty_element, element_ended, draft_after, draft_after_all, if_none_open, built, Builds};
 
 use crate::fault::TmplFault;
 use bw_lang::pieces::{Piece, RawAttr, RawAttrs, RawValue, Tag};
@@ -98,10 +99,14 @@ fn value_of(value: &RawValue, gaps: &GapNames) -> Result<AttrValue, Memory>
 fn attr_of(attr: &RawAttr, gaps: &GapNames) -> Result<Attr, Memory>
     ensures { IfOk result (λ a. a ≡ numbered gaps.now attr.now) }
 {
-    Ok(Attr {
-        name: attr.name.copy()?,
-        value: value_of(&attr.value, gaps)?,
-    })
+    let name = attr.name.copy()?;
+    match value_of(&attr.value, gaps) {
+        Ok(value) => Ok(Attr { name, value }),
+        Err(Memory) => {
+            drop(name);
+            Err(Memory)
+        }
+    }
 }
 
 /// The attributes of a tag with their gaps by number.
@@ -109,19 +114,41 @@ fn attrs_of(alloc: Global, attrs: &RawAttrs, gaps: &GapNames) -> Result<Attrs, M
     ensures { IfOk result (λ a. a ≡ map (numbered gaps.now) attrs.now) }
 {
     let mut made = Attrs::new(alloc);
+    match add_numbered(&mut made, attrs, gaps) {
+        Ok(()) => Ok(made),
+        Err(Memory) => {
+            drop(made);
+            Err(Memory)
+        }
+    }
+}
+
+/// Adds the attributes of a tag with their gaps by number.
+fn add_numbered(made: &mut Attrs, attrs: &RawAttrs, gaps: &GapNames) -> Result<(), Memory>
+    ensures { OnOk result (made.new ≡ made.old ++ map (numbered gaps.now) attrs.now) }
+{
     for attr in attrs.as_slice() {
         made.push(attr_of(attr, gaps)?)?;
     }
-    Ok(made)
+    Ok(())
 }
 
 /// One item alone, with room for no other: most elements have one.
 fn one_item(alloc: Global, item: Item) -> Result<Items, Memory>
     ensures { IfOk result (λ items. items ≡ before item none) }
 {
-    let mut list = Vec::with_capacity(alloc, 1)?;
-    list.push(item)?;
-    Ok(Items::from_vec(list))
+    let Ok(list) = Vec::with_capacity(alloc, 1) else {
+        drop(item);
+        return Err(Memory);
+    };
+    let mut items = Items::from_vec(list);
+    match items.push(item) {
+        Ok(()) => Ok(items),
+        Err(Memory) => {
+            drop(items);
+            Err(Memory)
+        }
+    }
 }
 
 impl Draft {
@@ -140,7 +167,8 @@ impl Draft {
         ensures { OnOk result (self.new ≡ with_items self.old (before item none)) }
     {
         if self.items.as_slice().is_empty() {
-            self.items = one_item(self.items.alloc(), item)?;
+            let items = one_item(self.items.alloc(), item)?;
+            drop(mem::replace(&mut self.items, items));
             Ok(())
         } else {
             self.items.push(item)
@@ -168,16 +196,28 @@ impl Draft {
     fn begin(&mut self, tag: &Tag, gaps: &GapNames) -> Result<(), Memory>
         ensures { OnOk result (self.new ≡ element_begun gaps.now self.old tag.now) }
     {
-        let attrs = attrs_of(self.items.alloc(), &tag.attrs, gaps)?;
-        self.open(tag.name.copy()?, attrs)
+        let name = tag.name.copy()?;
+        match attrs_of(self.items.alloc(), &tag.attrs, gaps) {
+            Ok(attrs) => self.open(name, attrs),
+            Err(Memory) => {
+                drop(name);
+                Err(Memory)
+            }
+        }
     }
 
     /// An element without items.
     fn alone(&mut self, tag: &Tag, gaps: &GapNames) -> Result<(), Memory>
         ensures { OnOk result (self.new ≡ with_items self.old (empty_element gaps.now tag.now)) }
     {
-        let attrs = attrs_of(self.items.alloc(), &tag.attrs, gaps)?;
-        self.add_empty(tag.name.copy()?, attrs)
+        let name = tag.name.copy()?;
+        match attrs_of(self.items.alloc(), &tag.attrs, gaps) {
+            Ok(attrs) => self.add_empty(name, attrs),
+            Err(Memory) => {
+                drop(name);
+                Err(Memory)
+            }
+        }
     }
 
     /// An end tag.
@@ -187,14 +227,23 @@ impl Draft {
         let Some(innermost) = self.parents.pop() else {
             return Err(TmplFault::Mismatched);
         };
-        let OpenElement { tag, attrs, front } = innermost;
-        if tag != *name {
-            return Err(TmplFault::Mismatched);
+        if innermost.tag == *name {
+            self.close(innermost)?;
+            Ok(())
+        } else {
+            drop(innermost);
+            Err(TmplFault::Mismatched)
         }
+    }
+
+    /// The innermost open element, which is this one, ends with the items in it.
+    fn close(&mut self, innermost: OpenElement) -> Result<(), Memory>
+        ensures items { OnOk result (self.new.items ≡ append innermost.front (element innermost.tag innermost.attrs self.old.items none)) }
+        ensures parents { OnOk result (self.new.parents ≡ self.old.parents) }
+    {
+        let OpenElement { tag, attrs, front } = innermost;
         let items = mem::replace(&mut self.items, front);
-        let element = Element { tag, attrs, items };
-        self.add(Item::Element(element))?;
-        Ok(())
+        self.add(Item::Element(Element { tag, attrs, items }))
     }
 
     /// The next piece.
@@ -222,7 +271,12 @@ impl Draft {
         ensures { OnOk result (self.new ≡ tag_taken is_alone gaps.now self.old tag) }
     {
         let Tag { name, attrs } = tag;
-        let attrs = attrs_of(self.items.alloc(), &attrs, gaps)?;
+        let numbered = attrs_of(self.items.alloc(), &attrs, gaps);
+        drop(attrs);
+        let Ok(attrs) = numbered else {
+            drop(name);
+            return Err(Memory);
+        };
         if is_alone {
             self.add_empty(name, attrs)
         } else {
@@ -236,15 +290,48 @@ impl Draft {
     {
         match piece {
             Piece::Text(text) => self.add(Item::Text(text))?,
-            Piece::Gap(name) => self.add(Item::Gap(gaps.number(name.as_str())))?,
+            Piece::Gap(name) => {
+                let gap = gaps.number(name.as_str());
+                drop(name);
+                self.add(Item::Gap(gap))?
+            }
             Piece::Whole(tag) => self.take_tag(tag, true, gaps)?,
             Piece::Start(tag) => {
                 let is_alone = is_void(&tag.name);
                 self.take_tag(tag, is_alone, gaps)?
             }
-            Piece::End(name) => return self.end(&name),
+            Piece::End(name) => {
+                let ended = self.end(&name);
+                drop(name);
+                return ended;
+            }
         }
         Ok(())
+    }
+
+    /// The next pieces.
+    fn take_all(&mut self, pieces: &[Piece], gaps: &GapNames) -> Result<(), TmplFault>
+        ensures { Builds (λ _. self.new) result (draft_after_all gaps.now (Some self.old) pieces.now) }
+    {
+        for piece in pieces {
+            self.take(piece, gaps)?;
+        }
+        Ok(())
+    }
+
+    /// The items, if no element is open.
+    pub fn finish(self) -> Option<Items>
+        ensures { MatchOption result (if_none_open self.items self.parents ≡ None) (λ f. if_none_open self.items self.parents ≡ Some f) }
+    {
+        let Draft { items, parents } = self;
+        let is_whole = parents.is_empty();
+        drop(parents);
+        if is_whole {
+            Some(items)
+        } else {
+            drop(items);
+            None
+        }
     }
 }
 
@@ -253,12 +340,11 @@ pub fn items_of(alloc: Global, pieces: &[Piece], gaps: &GapNames) -> Result<Item
     ensures { Builds (λ f. f) result (built gaps.now pieces.now) }
 {
     let mut draft = Draft::new(alloc);
-    for piece in pieces {
-        draft.take(piece, gaps)?;
-    }
-    if draft.parents.is_empty() {
-        Ok(draft.items)
-    } else {
-        Err(TmplFault::Mismatched)
+    match draft.take_all(pieces, gaps) {
+        Ok(()) => draft.finish().ok_or(TmplFault::Mismatched),
+        Err(fault) => {
+            drop(draft);
+            Err(fault)
+        }
     }
 }

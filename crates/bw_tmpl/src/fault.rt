@@ -6,7 +6,7 @@ use thiserror::Error;
 
 /// Why the inside of a template, or a page, isn't read. Of the first four, the first that holds is answered, in
 /// this order.
-#[derive(Clone, Copy, Debug, PartialEq, Eq, Error)]
+#[derive(Clone, Copy, Debug, Error)]
 pub enum TmplFault {
     /// The bytes are no list of texts, content gaps, start tags, whole tags and end tags, a text or a value isn't
     /// UTF-8, or there is a gap where none is allowed.

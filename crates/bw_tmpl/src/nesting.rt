@@ -1,8 +1,8 @@
 //! How deep elements stand inside one another, found from the tags alone, before an item is built.
-ghost use Rattle.std.specs.Prelude.{◌≡◌, ◌≢◌, ◌<◌, ◌^◌, length, OnOk, [], ◌∷◌, MatchOption};
+ghost use Rattle.std.specs.Prelude.{◌≡◌, ◌≢◌, ◌<◌, ◌^◌, Some, length, OnOk, [], ◌∷◌, MatchOption};
 ghost use Rattle.std.specs.Bool.{MatchBool};
 ghost use Rattle.bw_tmpl.specs.Building.{Builds};
-ghost use Rattle.bw_tmpl.specs.Nesting.{no_tags, one_deeper, tag_opened, tag_closed, tags_after, depth};
+ghost use Rattle.bw_tmpl.specs.Nesting.{no_tags, one_deeper, tag_opened, tag_closed, tags_after, tags_after_all, deepest_if_closed, depth};
 
 use crate::fault::TmplFault;
 use bw_lang::pieces::Piece;
@@ -103,7 +103,9 @@ impl OpenTags {
         let Some(innermost) = self.names.pop() else {
             return Err(TmplFault::Mismatched);
         };
-        if innermost == *name {
+        let is_same = innermost == *name;
+        drop(innermost);
+        if is_same {
             Ok(())
         } else {
             Err(TmplFault::Mismatched)
@@ -128,6 +130,20 @@ impl OpenTags {
         }
         Ok(())
     }
+
+    /// How many elements stand inside one another at most, once these pieces are taken in.
+    fn depth_behind(&mut self, pieces: &[Piece]) -> Result<usize, TmplFault>
+        ensures { Builds (λ n. n) result (deepest_if_closed (tags_after_all (Some self.old) pieces.now)) }
+    {
+        for piece in pieces {
+            self.take(piece)?;
+        }
+        if self.names.is_empty() {
+            Ok(self.deepest)
+        } else {
+            Err(TmplFault::Mismatched)
+        }
+    }
 }
 
 /// How many elements stand inside one another at most. `Mismatched`: the tags don't pair.
@@ -135,12 +151,7 @@ pub fn depth_of(alloc: Global, pieces: &[Piece]) -> Result<usize, TmplFault>
     ensures { Builds (λ n. n) result (depth pieces.now) }
 {
     let mut tags = OpenTags::new(alloc);
-    for piece in pieces {
-        tags.take(piece)?;
-    }
-    if tags.names.is_empty() {
-        Ok(tags.deepest)
-    } else {
-        Err(TmplFault::Mismatched)
-    }
+    let depth = tags.depth_behind(pieces);
+    drop(tags);
+    depth
 }

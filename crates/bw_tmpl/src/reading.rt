@@ -63,7 +63,10 @@ pub fn read_template(alloc: Global, bytes: &[u8], gaps: &mut GapNames) -> Result
 fn closed_at_once(alloc: Global, bytes: &[u8], most: u32) -> Result<Option<Items>, Memory>
     ensures { IfOk result (λ o. MatchOption o (at_once_spec [] most bytes.now ≡ None) (λ f. at_once_spec [] most bytes.now ≡ Some f)) }
 {
-    at_once(alloc, most as usize, bytes, &GapNames::new(alloc))
+    let gaps = GapNames::new(alloc);
+    let items = at_once(alloc, most as usize, bytes, &gaps);
+    drop(gaps);
+    items
 }
 
 /// Reads a text without gaps by the list of its pieces, which tells the first reason to refuse it.

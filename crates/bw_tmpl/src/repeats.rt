@@ -1,5 +1,5 @@
 //! Attributes that a tag names twice.
-ghost use Rattle.std.specs.Prelude.{◌≡◌, IfOk};
+ghost use Rattle.std.specs.Prelude.{◌≡◌, [], IfOk};
 ghost use Rattle.std.specs.List.{list_any};
 ghost use Rattle.bw_lang.specs.Table.Names.{same};
 ghost use Rattle.bw_lang.specs.Template.RepeatedAttributes as spec;
@@ -46,6 +46,16 @@ fn many_repeat(alloc: Global, attrs: &[RawAttr]) -> Result<bool, Memory>
     ensures { IfOk result (λ b. b ≡ spec.repeated (spec.attr_names attrs.now)) }
 {
     let mut seen = NameTable::new(alloc);
+    let repeats = repeat_behind(&mut seen, attrs);
+    drop(seen);
+    repeats
+}
+
+/// Whether two of the attributes have the same name, where none was seen yet.
+fn repeat_behind(seen: &mut NameTable, attrs: &[RawAttr]) -> Result<bool, Memory>
+    requires { seen.old ≡ [] }
+    ensures { IfOk result (λ b. b ≡ spec.repeated (spec.attr_names attrs.now)) }
+{
     for attr in attrs {
         let count = seen.len();
         if seen.add(attr.name.as_str())? < count {

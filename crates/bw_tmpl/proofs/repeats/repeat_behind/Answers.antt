@@ -2,10 +2,10 @@ use Rattle.std.proofs.Common.{◌<◌, ◌≤◌, ◌+◌, length, List, ℕ, dr
 use Rattle.bw_lang.specs.Table.Names.{name_number, with_name}
 use Rattle.bw_lang.specs.Template.RepeatedAttributes.{attr_names}
 use Rattle.bw_tmpl.proofs.Repeating.{repeated_after, repeated_is, repeated_here, first_here}
-use Rattle.bw_tmpl.proofs.repeats.many_repeat.Goals as goal
+use Rattle.bw_tmpl.proofs.repeats.repeat_behind.Goals as goal
 
 pub loop-attr-init : goal.loop-attr-init
-loop-attr-init c = ap (λ (t : List (List ℕ)). repeated_after t (attr_names c.args.attrs.now)) c.new-seen.ensures ∙ repeated_is (attr_names c.args.attrs.now)
+loop-attr-init c = ap (λ (t : List (List ℕ)). repeated_after t (attr_names c.args.attrs.now)) c.requires ∙ repeated_is (attr_names c.args.attrs.now)
 
 pub returns-then-branch-count : goal.returns-then-branch-count
 returns-then-branch-count c =
