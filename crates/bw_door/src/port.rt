@@ -1,5 +1,5 @@
 //! A port that is listened on, and the looks at its clients.
-ghost use Rattle.std.specs.Prelude.{◌≡◌, ◌≤◌, ◌<◌, ◌+◌, ◌-◌, [], OnOk, OnErr, IfOk, IfNone};
+ghost use Rattle.std.specs.Prelude.{◌≡◌, ◌≤◌, ◌<◌, ◌+◌, ◌-◌, [], OnOk, OnErr, OnSome, IfOk, IfSome, IfNone};
 ghost use Rattle.slab.specs.Slab.{slab_len};
 ghost use Rattle.bw_door.specs.Ends.{IsHandedOut};
 ghost use Rattle.bw_door.specs.Lateness.{is_client_late, is_leaving_late};
@@ -7,6 +7,7 @@ ghost use Rattle.bw_door.specs.Places.{NoneIs};
 
 use crate::crowd::{Crowd, Due};
 use crate::desk::Desk;
+use crate::limits::Limits;
 use crate::link::PortLink;
 use crate::settles::Settles;
 use mio::net::{TcpListener, TcpStream};
@@ -36,7 +37,7 @@ const LOOK: u64 = 20;
 const WEED: u64 = 20;
 
 /// What letting clients in came to.
-#[derive(Clone, Copy, PartialEq, Eq)]
+#[derive(Clone, Copy)]
 enum LetIn {
     /// No further one waits.
     All,
@@ -173,25 +174,65 @@ impl Port {
     {
         let polled = self.poll.poll(changes, wait);
         desk.now = self.since(rt, desk.now);
-        let come = self.see_to_all(changes, desk, crowd);
-        let came = if come || self.more {
-            self.let_in(desk, crowd)
-        } else {
-            LetIn::All
-        };
-        self.more = came != LetIn::All;
+        let came = self.see(changes, desk, crowd);
         self.looked = self.since(rt, desk.now);
         desk.now = self.looked;
+        self.weed(desk.limits, crowd);
+        refusal(polled, came, crowd.count())
+    }
+
+    /// Sees to all clients of which a change was told, and then lets clients in, if any wait.
+    fn see<W: Settles>(
+        &mut self,
+        changes: &Events,
+        desk: &mut Desk<W>,
+        crowd: &mut Crowd<TcpStream, W>,
+    ) -> LetIn
+        ensures out { crowd.new.out ≡ crowd.old.out }
+        ensures weeded { self.new.weeded ≡ self.old.weeded }
+    {
+        let come = self.see_to_all(changes, desk, crowd);
+        if !come && !self.more {
+            return LetIn::All;
+        }
+        let came = self.let_in(desk, crowd);
+        self.more = !matches!(came, LetIn::All);
+        came
+    }
+
+    /// Lets those go whose time is over, where that was last done 20 milliseconds ago or earlier.
+    fn weed<W: Settles>(&mut self, limits: Limits, crowd: &mut Crowd<TcpStream, W>)
+        ensures out { crowd.new.out ≡ crowd.old.out }
+        ensures looked { self.new.looked ≡ self.old.looked }
+        ensures waiting { 20 ≤ self.old.looked - self.old.weeded →
+            NoneIs (is_client_late limits self.old.looked) crowd.new.waiting }
+        ensures leaving { 20 ≤ self.old.looked - self.old.weeded →
+            NoneIs (is_leaving_late limits self.old.looked) crowd.new.leaving }
+        ensures weeded { self.old.looked - self.old.weeded < 20 → self.new.weeded ≡ self.old.weeded }
+    {
         if self.looked.saturating_sub(self.weeded) >= WEED {
-            crowd.weed(desk.limits, self.looked);
+            crowd.weed(limits, self.looked);
             self.weeded = self.looked;
         }
-        if let Err(error) = polled {
-            return Err(error.kind());
+    }
+
+    /// The link of the client that has been due for longest, if there is one that may be handed out.
+    fn due_link<W: Settles>(
+        &self,
+        desk: &mut Desk<W>,
+        crowd: &mut Crowd<TcpStream, W>,
+        is_held: bool,
+    ) -> Option<PortLink<TcpStream>>
+        ensures link { IfSome result (IsHandedOut W.settled) }
+        ensures some { OnSome result (crowd.new.out ≡ crowd.old.out + 1) }
+        ensures none { IfNone result (crowd.new.out ≡ crowd.old.out) }
+    {
+        if is_held || desk.now.saturating_sub(self.looked) >= LOOK {
+            return None;
         }
-        match came {
-            LetIn::Refused(kind) if crowd.count() == 0 => Err(kind),
-            _ => Ok(()),
+        match crowd.take_due() {
+            Some(due) => Some(link_of(due, desk.take_spare())),
+            None => None,
         }
     }
 
@@ -213,12 +254,8 @@ impl Port {
         *refusals = 0;
         'looks: for _turn in rt.forever() {
             let is_held = crowd.kept() >= desk.limits.kept;
-            let is_fresh = desk.now.saturating_sub(self.looked) < LOOK;
-            if !is_held
-                && is_fresh
-                && let Some(due) = crowd.take_due()
-            {
-                return Ok(link_of(due, desk.take_spare()));
+            if let Some(link) = self.due_link(desk, crowd, is_held) {
+                return Ok(link);
             }
             let wait = wait_for(crowd, self.more, is_held);
             match self.look(rt, changes, desk, crowd, wait) {
@@ -275,6 +312,17 @@ fn wait_for<W: Settles>(
         return Some(Duration::from_millis(TICK));
     }
     None
+}
+
+/// Why the system refused at a look, where the changes came to this and letting clients in to that, and so many are in.
+fn refusal(polled: io::Result<()>, came: LetIn, count: usize) -> Result<(), ErrorKind> {
+    if let Err(error) = polled {
+        return Err(error.kind());
+    }
+    match came {
+        LetIn::Refused(kind) if count == 0 => Err(kind),
+        _ => Ok(()),
+    }
 }
 
 /// The link of a client that is due, with empty memory for what will be written.
