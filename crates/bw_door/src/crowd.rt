@@ -108,7 +108,9 @@ impl<S, W: Settles> Crowd<S, W> {
     }
 
     /// Whether a client is due.
-    pub(crate) fn is_due(&self) -> bool {
+    pub(crate) fn is_due(&self) -> bool
+        ensures { result ≡ true → 0 < deque_len self.now.due }
+    {
         !self.due.is_empty()
     }
 
@@ -182,7 +184,7 @@ impl<S, W: Settles> Crowd<S, W> {
     /// The client that has been due for longest, which is then out.
     pub(crate) fn take_due(&mut self) -> Option<Due<S, W>>
         ensures some { OnSome result (self.new.out ≡ self.old.out + 1) }
-        ensures none { IfNone result (self.new.out ≡ self.old.out) }
+        ensures none { IfNone result (deque_len self.old.due ≡ 0) }
     {
         match self.due.pop_front() {
             Some(due) => {
