@@ -7,7 +7,7 @@ ghost use Rattle.bw_door.specs.declared.desk.TheConstants.{AT_ONCE};
 
 use crate::limits::{Limits, is_over};
 use crate::settles::{Lack, Settles};
-use crate::socket::Socket;
+use crate::socket::{Socket, Told};
 use crate::timed::Timed;
 use mio::Registry;
 use mio::net::TcpStream;
@@ -22,7 +22,7 @@ const ROOM: usize = 81_920;
 const READS: u32 = 81_921;
 
 /// What one read gave.
-#[derive(Clone, Copy, PartialEq, Eq)]
+#[derive(Clone, Copy)]
 enum Got {
     /// Bytes, or nothing yet, and there may be more.
     More,
@@ -35,7 +35,7 @@ enum Got {
 }
 
 /// What came of reading from a client.
-#[derive(Clone, Copy, PartialEq, Eq)]
+#[derive(Clone, Copy)]
 pub(crate) enum Heard {
     /// Its message isn't whole, and nothing is there now.
     Waits,
@@ -111,11 +111,6 @@ impl<S> Client<S> {
         }
     }
 
-    /// Whether changes of its stream are told under this token.
-    pub(crate) fn is_told_as(&self, token: usize) -> bool {
-        self.socket.is_told_as(token)
-    }
-
     /// When it was last heard, and of those that were heard at the same time the number.
     pub(crate) fn quiet_since(&self) -> (u64, usize) {
         (self.heard, self.socket.number())
@@ -146,6 +141,12 @@ impl<S> Client<S> {
                 false
             }
         }
+    }
+}
+
+impl<S> Told for Client<S> {
+    fn is_told_as(&self, token: usize) -> bool {
+        self.socket.is_told_as(token)
     }
 }
 

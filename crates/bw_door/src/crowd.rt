@@ -9,7 +9,7 @@ use crate::client::Client;
 use crate::leaving::Leaving;
 use crate::limits::Limits;
 use crate::settles::Settles;
-use crate::socket::{place_of, token_of};
+use crate::socket::{Told, place_of, token_of};
 use crate::timed::weed;
 use slab::Slab;
 use std::alloc::Global;
@@ -155,13 +155,13 @@ impl<S, W: Settles> Crowd<S, W> {
         ensures some { OnSome result (self.new.out ≡ self.old.out + 1) }
         ensures none { IfNone result (self.new.out ≡ self.old.out) }
     {
-        let place = place_of(token);
-        if !self.waiting.get(place)?.is_told_as(token) {
-            return None;
+        match take_told(&mut self.waiting, token) {
+            Some(client) => {
+                self.out += 1;
+                Some(client)
+            }
+            None => None,
         }
-        let client = self.waiting.try_remove(place)?;
-        self.out += 1;
-        Some(client)
     }
 
     /// The client of this token that gets its reply, which is then out.
@@ -169,14 +169,14 @@ impl<S, W: Settles> Crowd<S, W> {
         ensures some { OnSome result (self.new.out ≡ self.old.out + 1) }
         ensures none { IfNone result (self.new.out ≡ self.old.out) }
     {
-        let place = place_of(token);
-        if !self.leaving.get(place)?.is_told_as(token) {
-            return None;
+        match take_told(&mut self.leaving, token) {
+            Some(leaving) => {
+                self.out += 1;
+                self.kept = self.kept.saturating_sub(leaving.kept());
+                Some(leaving)
+            }
+            None => None,
         }
-        let leaving = self.leaving.try_remove(place)?;
-        self.out += 1;
-        self.kept = self.kept.saturating_sub(leaving.kept());
-        Some(leaving)
     }
 
     /// The client that has been due for longest, which is then out.
@@ -184,9 +184,13 @@ impl<S, W: Settles> Crowd<S, W> {
         ensures some { OnSome result (self.new.out ≡ self.old.out + 1) }
         ensures none { IfNone result (self.new.out ≡ self.old.out) }
     {
-        let due = self.due.pop_front()?;
-        self.out += 1;
-        Some(due)
+        match self.due.pop_front() {
+            Some(due) => {
+                self.out += 1;
+                Some(due)
+            }
+            None => None,
+        }
     }
 }
 
@@ -196,10 +200,10 @@ impl<S: Drop, W: Settles> Crowd<S, W> {
         requires { 0 < self.old.out }
         ensures { self.new.out + 1 ≡ self.old.out }
     {
+        // At most as many are gone as came.
+        let _came = self.came;
         self.out -= 1;
-        if self.waiting.insert(client).is_err() {
-            self.gone += 1;
-        }
+        self.gone += put_in(&mut self.waiting, client);
     }
 
     /// A client that was out is due. Without memory it is let go.
@@ -207,10 +211,10 @@ impl<S: Drop, W: Settles> Crowd<S, W> {
         requires { 0 < self.old.out }
         ensures { self.new.out + 1 ≡ self.old.out }
     {
+        // At most as many are gone as came.
+        let _came = self.came;
         self.out -= 1;
-        if self.due.push_back(due).is_err() {
-            self.gone += 1;
-        }
+        self.gone += put_last(&mut self.due, due);
     }
 
     /// A client that was out gets its reply. Without memory it is let go.
@@ -218,11 +222,11 @@ impl<S: Drop, W: Settles> Crowd<S, W> {
         requires { 0 < self.old.out }
         ensures { self.new.out + 1 ≡ self.old.out }
     {
+        // At most as many are gone as came.
+        let _came = self.came;
         self.out -= 1;
         self.kept = self.kept.saturating_add(leaving.kept());
-        if self.leaving.insert(leaving).is_err() {
-            self.gone += 1;
-        }
+        self.gone += put_in(&mut self.leaving, leaving);
     }
 
     /// A client that was out is let go.
@@ -275,8 +279,49 @@ impl<S: Drop, W: Settles> Crowd<S, W> {
 /// How many bytes of memory replies have.
 fn memory_of<S>(leaving: &Slab<Leaving<S>>) -> usize {
     let mut memory = 0usize;
-    for (_, one) in leaving.iter() {
-        memory = memory.saturating_add(one.kept());
+    for place in 0..leaving.capacity() {
+        memory = memory.saturating_add(memory_at(leaving, place));
     }
     memory
+}
+
+/// How many bytes of memory the reply of a place has.
+fn memory_at<S>(leaving: &Slab<Leaving<S>>, place: usize) -> usize {
+    match leaving.get(place) {
+        Some(one) => one.kept(),
+        None => 0,
+    }
+}
+
+/// Takes out the one whose changes are told under this token, if there is one.
+fn take_told<T: Told>(slab: &mut Slab<T>, token: usize) -> Option<T>
+    ensures some { OnSome result (slab_len slab.new + 1 ≡ slab_len slab.old) }
+    ensures none { IfNone result (slab_len slab.new ≡ slab_len slab.old) }
+{
+    let place = place_of(token);
+    match slab.get(place) {
+        Some(one) if one.is_told_as(token) => {}
+        _ => return None,
+    }
+    slab.try_remove(place)
+}
+
+/// Puts one in, and says how many were let go for want of memory.
+fn put_in<T: Drop>(slab: &mut Slab<T>, one: T) -> u64
+    ensures { slab_len slab.new + result ≡ slab_len slab.old + 1 }
+{
+    match slab.insert(one) {
+        Ok(_) => 0,
+        Err(_) => 1,
+    }
+}
+
+/// Puts one behind the others, and says how many were let go for want of memory.
+fn put_last<T: Drop>(queue: &mut VecDeque<T>, one: T) -> u64
+    ensures { deque_len queue.new + result ≡ deque_len queue.old + 1 }
+{
+    match queue.push_back(one) {
+        Ok(()) => 0,
+        Err(_) => 1,
+    }
 }

@@ -143,10 +143,19 @@ impl<W: Settles> Desk<W> {
     )
         ensures { crowd.new.out ≡ crowd.old.out }
     {
-        if let Some(client) = crowd.take_waiting(token) {
-            self.hear(crowd, client, registry);
-        } else if let Some(leaving) = crowd.take_leaving(token) {
-            self.see_off(crowd, leaving, registry);
+        match crowd.take_waiting(token) {
+            Some(client) => self.hear(crowd, client, registry),
+            None => self.see_to_leaving(crowd, token, registry),
+        }
+    }
+
+    /// Sees to the client of a token, of which a change is told, if it gets its reply.
+    fn see_to_leaving(&mut self, crowd: &mut Crowd<TcpStream, W>, token: usize, registry: &Registry)
+        ensures { crowd.new.out ≡ crowd.old.out }
+    {
+        match crowd.take_leaving(token) {
+            Some(leaving) => self.see_off(crowd, leaving, registry),
+            None => {}
         }
     }
 }

@@ -24,7 +24,7 @@ use std::time::Clock;
 const CHANGES: usize = 256;
 
 /// How a link ended.
-#[derive(Clone, Copy, PartialEq, Eq)]
+#[derive(Clone, Copy)]
 pub(crate) enum End {
     /// It was closed at once, since a read or a write had failed.
     Closed,
@@ -65,18 +65,31 @@ impl<R: Net + Clock + Wait + Copy, W: Settles + Drop> PortDoor<R, W> {
         ensures error { IfOk result (λ door. door.error ≡ None) }
     {
         let changes = Events::with_capacity(alloc, CHANGES)?;
-        let desk = Desk::new(alloc, limits, settles)?;
-        Ok(PortDoor {
+        match Desk::new(alloc, limits, settles) {
+            Ok(desk) => Ok(Self::closed(rt, changes, desk, Crowd::new(alloc))),
+            Err(error) => {
+                drop(changes);
+                Err(error)
+            }
+        }
+    }
+
+    /// A door at no port, of which no call has failed.
+    fn closed(rt: R, changes: Events, desk: Desk<W>, crowd: Crowd<TcpStream, W>) -> Self
+        ensures faults { result.faults ≡ 0 }
+        ensures error { result.error ≡ None }
+    {
+        PortDoor {
             rt,
             port: None,
             changes,
             desk,
-            crowd: Crowd::new(alloc),
+            crowd,
             refusals: 0,
             last: None,
             error: None,
             faults: 0,
-        })
+        }
     }
 }
 

@@ -8,7 +8,7 @@ ghost use Rattle.bw_door.specs.Times.{is_reply_late};
 use crate::limits::{Limits, is_over};
 use crate::link::PortLink;
 use crate::peer::Peer;
-use crate::socket::Socket;
+use crate::socket::{Socket, Told};
 use crate::timed::Timed;
 use mio::Registry;
 use mio::net::TcpStream;
@@ -20,7 +20,7 @@ use std::mem;
 const DROPPED_BYTES: usize = 65_536;
 
 /// Why no byte was taken.
-#[derive(Clone, Copy, PartialEq, Eq)]
+#[derive(Clone, Copy)]
 enum Stop {
     /// None is taken now.
     Full,
@@ -29,7 +29,7 @@ enum Stop {
 }
 
 /// What came of sending to a client.
-#[derive(Clone, Copy, PartialEq, Eq)]
+#[derive(Clone, Copy)]
 pub(crate) enum Went {
     /// It is waited for.
     Waits,
@@ -98,11 +98,6 @@ impl<S> Leaving<S> {
         }
     }
 
-    /// Whether changes of its stream are told under this token.
-    pub(crate) fn is_told_as(&self, token: usize) -> bool {
-        self.socket.is_told_as(token)
-    }
-
     /// How much memory its reply has.
     pub(crate) fn kept(&self) -> usize {
         self.reply.capacity()
@@ -118,6 +113,12 @@ impl<S> Leaving<S> {
         let reply = mem::replace(&mut self.reply, Vec::new(alloc));
         self.count = 0;
         Some(reply)
+    }
+}
+
+impl<S> Told for Leaving<S> {
+    fn is_told_as(&self, token: usize) -> bool {
+        self.socket.is_told_as(token)
     }
 }
 

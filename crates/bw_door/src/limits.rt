@@ -2,7 +2,7 @@
 ghost use Rattle.std.specs.Prelude.{◌≡◌, ◌-◌, nat_le};
 
 /// What a door grants its clients. Times are in milliseconds.
-#[derive(Clone, Copy, PartialEq, Eq)]
+#[derive(Clone, Copy)]
 pub struct Limits {
     /// How many clients are in at once, at most 65,536. Where so many are in, the one that has sent nothing for the
     /// longest, of those whose message isn't whole, gives way to the next one.

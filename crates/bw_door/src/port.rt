@@ -7,6 +7,7 @@ ghost use Rattle.bw_door.specs.Places.{NoneIs};
 
 use crate::crowd::{Crowd, Due};
 use crate::desk::Desk;
+use crate::limits::Limits;
 use crate::link::PortLink;
 use crate::settles::Settles;
 use mio::net::{TcpListener, TcpStream};
@@ -36,7 +37,7 @@ const LOOK: u64 = 20;
 const WEED: u64 = 20;
 
 /// What letting clients in came to.
-#[derive(Clone, Copy, PartialEq, Eq)]
+#[derive(Clone, Copy)]
 enum LetIn {
     /// No further one waits.
     All,
@@ -173,25 +174,45 @@ impl Port {
     {
         let polled = self.poll.poll(changes, wait);
         desk.now = self.since(rt, desk.now);
-        let come = self.see_to_all(changes, desk, crowd);
-        let came = if come || self.more {
-            self.let_in(desk, crowd)
-        } else {
-            LetIn::All
-        };
-        self.more = came != LetIn::All;
+        let came = self.see(changes, desk, crowd);
         self.looked = self.since(rt, desk.now);
         desk.now = self.looked;
+        self.weed(desk.limits, crowd);
+        refusal(polled, came, crowd.count())
+    }
+
+    /// Sees to all clients of which a change was told, and then lets clients in, if any wait.
+    fn see<W: Settles>(
+        &mut self,
+        changes: &Events,
+        desk: &mut Desk<W>,
+        crowd: &mut Crowd<TcpStream, W>,
+    ) -> LetIn
+        ensures out { crowd.new.out ≡ crowd.old.out }
+        ensures weeded { self.new.weeded ≡ self.old.weeded }
+    {
+        let come = self.see_to_all(changes, desk, crowd);
+        if !come && !self.more {
+            return LetIn::All;
+        }
+        let came = self.let_in(desk, crowd);
+        self.more = !matches!(came, LetIn::All);
+        came
+    }
+
+    /// Lets those go whose time is over, where that was last done 20 milliseconds ago or earlier.
+    fn weed<W: Settles>(&mut self, limits: Limits, crowd: &mut Crowd<TcpStream, W>)
+        ensures out { crowd.new.out ≡ crowd.old.out }
+        ensures looked { self.new.looked ≡ self.old.looked }
+        ensures waiting { 20 ≤ self.old.looked - self.old.weeded →
+            NoneIs (is_client_late limits self.old.looked) crowd.new.waiting }
+        ensures leaving { 20 ≤ self.old.looked - self.old.weeded →
+            NoneIs (is_leaving_late limits self.old.looked) crowd.new.leaving }
+        ensures weeded { self.old.looked - self.old.weeded < 20 → self.new.weeded ≡ self.old.weeded }
+    {
         if self.looked.saturating_sub(self.weeded) >= WEED {
-            crowd.weed(desk.limits, self.looked);
+            crowd.weed(limits, self.looked);
             self.weeded = self.looked;
-        }
-        if let Err(error) = polled {
-            return Err(error.kind());
-        }
-        match came {
-            LetIn::Refused(kind) if crowd.count() == 0 => Err(kind),
-            _ => Ok(()),
         }
     }
 
@@ -275,6 +296,17 @@ fn wait_for<W: Settles>(
         return Some(Duration::from_millis(TICK));
     }
     None
+}
+
+/// Why the system refused at a look, where the changes came to this and letting clients in to that, and so many are in.
+fn refusal(polled: io::Result<()>, came: LetIn, count: usize) -> Result<(), ErrorKind> {
+    if let Err(error) = polled {
+        return Err(error.kind());
+    }
+    match came {
+        LetIn::Refused(kind) if count == 0 => Err(kind),
+        _ => Ok(()),
+    }
 }
 
 /// The link of a client that is due, with empty memory for what will be written.

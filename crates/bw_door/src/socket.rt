@@ -26,6 +26,12 @@ fn interest_in(writes: bool) -> Interest {
     }
 }
 
+/// One of whose stream changes may be told.
+pub(crate) trait Told {
+    /// Whether changes of its stream are told under this token.
+    fn is_told_as(&self, token: usize) -> bool;
+}
+
 /// The stream of a client.
 #[derive(Drop)]
 pub(crate) struct Socket<S> {

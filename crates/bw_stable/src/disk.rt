@@ -211,6 +211,29 @@ impl<R> DiskJournals<R> {
     }
 }
 
+impl<R: Copy> DiskJournals<R> {
+    /// Counts an opening that failed, and notes why.
+    fn tell(&mut self, opened: Result<(Names, File), ErrorKind>) -> Result<DiskJournal<R>, Failed>
+        ensures quiet { IfOk result (λ journal. faults_of journal ≡ 0) }
+        ensures cause { HasCause (journal_faults_of self.old) (journal_faults_of self.new) result }
+        ensures noted { OnErr result (IsSome (journal_trouble_of self.new)) }
+        ensures none { OnOk result (journal_trouble_of self.new ≡ None) }
+        ensures named { journal_name_of self.new ≡ journal_name_of self.old }
+    {
+        match opened {
+            Ok((names, file)) => {
+                self.trouble = None;
+                Ok(DiskJournal::new(self.rt, names, file))
+            }
+            Err(kind) => {
+                self.trouble = Some(kind);
+                self.faults = self.faults.saturating_add(1);
+                Err(Failed)
+            }
+        }
+    }
+}
+
 impl<R: rt::Files<File = File> + Copy> Journals for DiskJournals<R> {
     type Journal = DiskJournal<R>;
 
@@ -229,17 +252,8 @@ impl<R: rt::Files<File = File> + Copy> Journals for DiskJournals<R> {
         ensures named { IsNoted (journal_name_of self.new) name.now }
     {
         note_name(&mut self.name, name);
-        match open_named(self.alloc, &self.rt, name) {
-            Ok((names, file)) => {
-                self.trouble = None;
-                Ok(DiskJournal::new(self.rt, names, file))
-            }
-            Err(kind) => {
-                self.trouble = Some(kind);
-                self.faults = self.faults.saturating_add(1);
-                Err(Failed)
-            }
-        }
+        let opened = open_named(self.alloc, &self.rt, name);
+        self.tell(opened)
     }
 
     fn close_journal(&mut self, journal: DiskJournal<R>)
