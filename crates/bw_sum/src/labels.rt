@@ -1,5 +1,5 @@
 //! The strings that may be plugged at the gaps of templates.
-ghost use Rattle.std.specs.Prelude.{◌≡◌, ◌++◌, [], IfOk, false};
+ghost use Rattle.std.specs.Prelude.{◌≡◌, ◌++◌, ◌∷◌, [], IfOk, false};
 ghost use Rattle.bw_solve.specs.Tables.{is_table_below, table_join};
 ghost use Rattle.bw_strings.specs.Strings.{is_below, both, is_none};
 ghost use Rattle.bw_sum.specs.Labels.{pair_cmp, AreLabels, are_below, both_labels, labels_at};
@@ -73,7 +73,11 @@ impl Labels {
         let mut list = Vec::new(alloc);
         for track in tracks.as_slice() {
             if track.0 == gap {
-                list.push(((track.1, gap), strings.copy(alloc)?))?;
+                let Ok(copy) = strings.copy(alloc) else {
+                    drop(list);
+                    return Err(Memory);
+                };
+                list = pushed(list, ((track.1, gap), copy))?;
             }
         }
         // This call tells that the strings are well formed, as labels ask.
@@ -104,13 +108,49 @@ fn copied(alloc: Global, label: &Label) -> Result<Label, Memory>
     Ok((label.0, label.1.copy(alloc)?))
 }
 
+// Labels with one more behind them.
+fn pushed(labels: Vec<Label>, label: Label) -> Result<Vec<Label>, Memory>
+    ensures { IfOk result (λ v. v.items ≡ labels.items ++ label ∷ []) }
+{
+    let mut all = labels;
+    match all.push(label) {
+        Ok(()) => Ok(all),
+        Err(_) => {
+            drop(all);
+            Err(Memory)
+        }
+    }
+}
+
+// Labels with one behind them that is equal to another.
+fn with_copy(alloc: Global, labels: Vec<Label>, label: &Label) -> Result<Vec<Label>, Memory>
+    ensures { IfOk result (λ v. v.items ≡ labels.items ++ label.now ∷ []) }
+{
+    let Ok(copy) = copied(alloc, label) else {
+        drop(labels);
+        return Err(Memory);
+    };
+    pushed(labels, copy)
+}
+
+// Labels with one behind them that has the strings of two others of the same gap.
+fn with_both(alloc: Global, labels: Vec<Label>, a: &Label, b: &Label) -> Result<Vec<Label>, Memory>
+    ensures { IfOk result (λ v. v.items ≡ labels.items ++ (a.now.0, both a.now.1 b.now.1) ∷ []) }
+{
+    let Ok(strings) = a.1.join(alloc, &b.1) else {
+        drop(labels);
+        return Err(Memory);
+    };
+    pushed(labels, (a.0, strings))
+}
+
 // Labels with equal ones of others behind them.
 fn copied_onto(alloc: Global, labels: Vec<Label>, others: &[Label]) -> Result<Vec<Label>, Memory>
     ensures { IfOk result (λ v. v.items ≡ labels.items ++ others.now) }
 {
     let mut all = labels;
     for label in others {
-        all.push(copied(alloc, label)?)?;
+        all = with_copy(alloc, all, label)?;
     }
     Ok(all)
 }
@@ -127,23 +167,23 @@ fn joined(alloc: Global, a: &[Label], b: &[Label]) -> Result<Vec<Label>, Memory>
     while i < a.len() && j < b.len() {
         match a[i].0.cmp(&b[j].0) {
             Ordering::Less => {
-                all.push(copied(alloc, &a[i])?)?;
+                all = with_copy(alloc, all, &a[i])?;
                 i += 1;
             }
             Ordering::Equal => {
-                all.push((a[i].0, a[i].1.join(alloc, &b[j].1)?))?;
+                all = with_both(alloc, all, &a[i], &b[j])?;
                 i += 1;
                 j += 1;
             }
             Ordering::Greater => {
-                all.push(copied(alloc, &b[j])?)?;
+                all = with_copy(alloc, all, &b[j])?;
                 j += 1;
             }
         }
     }
-    let all = copied_onto(alloc, all, &a[i..])?;
-    let all = copied_onto(alloc, all, &b[j..])?;
-    Ok(all)
+    let front = copied_onto(alloc, all, &a[i..])?;
+    let whole = copied_onto(alloc, front, &b[j..])?;
+    Ok(whole)
 }
 
 // Whether each of some labels has strings that another has.

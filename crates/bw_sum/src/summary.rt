@@ -65,7 +65,9 @@ impl Summary {
         } else {
             exit_wrapper(alloc, &service.gaps)?
         };
-        Summary::constant_of(alloc, template, &wrapper, gaps)
+        let constant = Summary::constant_of(alloc, template, &wrapper, gaps);
+        drop(wrapper);
+        constant
     }
 
     /// The summary of the template with these items, in a service of so many gaps.
@@ -78,12 +80,15 @@ impl Summary {
         requires { gaps < 2 ^ 32 - 3 }
         ensures { IfOk result (λ s. s ≡ constant_of template items.now gaps) }
     {
+        let roots = Set::of(alloc, template)?;
+        let tracks = tracks_of(alloc, template, items, gaps + 3)?;
+        let lacks = lacks_of(alloc, items, gaps)?;
         Ok(Summary {
-            roots: Set::of(alloc, template)?,
+            roots,
             edges: Set::new(alloc),
             texts: Labels::new(alloc),
-            tracks: tracks_of(alloc, template, items, gaps + 3)?,
-            lacks: lacks_of(alloc, items, gaps)?,
+            tracks,
+            lacks,
         })
     }
 
@@ -91,12 +96,17 @@ impl Summary {
     pub fn copy(&self, alloc: Global) -> Result<Summary, Memory>
         ensures { IfOk result (λ s. s ≡ self.now) }
     {
+        let roots = self.roots.copy(alloc)?;
+        let edges = self.edges.copy(alloc)?;
+        let tracks = self.tracks.copy(alloc)?;
+        let lacks = self.lacks.copy(alloc)?;
+        let texts = self.texts.copy(alloc)?;
         Ok(Summary {
-            roots: self.roots.copy(alloc)?,
-            edges: self.edges.copy(alloc)?,
-            texts: self.texts.copy(alloc)?,
-            tracks: self.tracks.copy(alloc)?,
-            lacks: self.lacks.copy(alloc)?,
+            roots,
+            edges,
+            texts,
+            tracks,
+            lacks,
         })
     }
 
@@ -104,44 +114,91 @@ impl Summary {
     pub fn join(&self, alloc: Global, other: &Summary) -> Result<Summary, Memory>
         ensures { IfOk result (λ s. s ≡ both self.now other.now) }
     {
+        let roots = self.roots.union(alloc, &other.roots)?;
+        let edges = self.edges.union(alloc, &other.edges)?;
+        let tracks = self.tracks.union(alloc, &other.tracks)?;
+        let lacks = self.lacks.union(alloc, &other.lacks)?;
+        let texts = self.texts.with(alloc, &other.texts)?;
         Ok(Summary {
-            roots: self.roots.union(alloc, &other.roots)?,
-            edges: self.edges.union(alloc, &other.edges)?,
-            texts: self.texts.with(alloc, &other.texts)?,
-            tracks: self.tracks.union(alloc, &other.tracks)?,
-            lacks: self.lacks.union(alloc, &other.lacks)?,
+            roots,
+            edges,
+            texts,
+            tracks,
+            lacks,
         })
+    }
+
+    /// The edges of the documents with each open gap of that number filled by a document of the other.
+    fn plugged_edges(
+        &self,
+        alloc: Global,
+        gap: GapId,
+        a: &Summary,
+    ) -> Result<Set<(TemplateId, GapId, TemplateId)>, Memory>
+        ensures { IfOk result (λ s. s ≡ (plugged self.now gap a.now).edges) }
+    {
+        let new = new_edges(alloc, &self.tracks, gap, &a.roots)?;
+        // What stands already may be by far the most, and is gone through once.
+        let more = a.edges.union(alloc, &new)?;
+        Ok(self.edges.union(alloc, &more)?)
+    }
+
+    /// The tracks of the documents with each open gap of that number filled by a document of the other.
+    fn plugged_tracks(
+        &self,
+        alloc: Global,
+        gap: GapId,
+        a: &Summary,
+    ) -> Result<Set<(GapId, TemplateId)>, Memory>
+        ensures { IfOk result (λ s. s ≡ (plugged self.now gap a.now).tracks) }
+    {
+        let others = other_tracks(alloc, &self.tracks, gap)?;
+        Ok(others.union(alloc, &a.tracks)?)
     }
 
     /// The summary of the documents of this one with each open gap of that number filled by a document of the other.
     pub fn plug(&self, alloc: Global, gap: GapId, a: &Summary) -> Result<Summary, Memory>
         ensures { IfOk result (λ s. s ≡ plugged self.now gap a.now) }
     {
-        let new = new_edges(alloc, &self.tracks, gap, &a.roots)?;
-        // What stands already may be by far the most, and is gone through once.
-        let more = a.edges.union(alloc, &new)?;
-        let others = other_tracks(alloc, &self.tracks, gap)?;
+        let edges = self.plugged_edges(alloc, gap, a)?;
+        let tracks = self.plugged_tracks(alloc, gap, a)?;
+        let roots = self.roots.copy(alloc)?;
+        let lacks = lacking(alloc, &a.lacks, gap, &self.lacks)?;
+        let texts = self.texts.with(alloc, &a.texts)?;
         Ok(Summary {
-            roots: self.roots.copy(alloc)?,
-            edges: self.edges.union(alloc, &more)?,
-            texts: self.texts.with(alloc, &a.texts)?,
-            tracks: others.union(alloc, &a.tracks)?,
-            lacks: lacking(alloc, &a.lacks, gap, &self.lacks)?,
+            roots,
+            edges,
+            texts,
+            tracks,
+            lacks,
         })
+    }
+
+    /// The labels of the documents with each open gap of that number filled by one of these strings.
+    fn plugged_texts(&self, alloc: Global, gap: GapId, strings: &StrSet) -> Result<Labels, Memory>
+        ensures { IfOk result (λ l. l ≡ (plugged_text self.now gap strings.now).texts) }
+    {
+        let new = text_labels(alloc, &self.tracks, gap, strings)?;
+        let texts = self.texts.with(alloc, &new);
+        drop(new);
+        texts
     }
 
     /// The summary of the documents of this one with each open gap of that number filled by one of these strings.
     pub fn plug_text(&self, alloc: Global, gap: GapId, strings: &StrSet) -> Result<Summary, Memory>
         ensures { IfOk result (λ s. s ≡ plugged_text self.now gap strings.now) }
     {
-        let new = text_labels(alloc, &self.tracks, gap, strings)?;
+        let roots = self.roots.copy(alloc)?;
+        let edges = self.edges.copy(alloc)?;
+        let tracks = other_tracks(alloc, &self.tracks, gap)?;
         let mut lacks = self.lacks.copy(alloc)?;
         lacks.add(gap)?;
+        let texts = self.plugged_texts(alloc, gap, strings)?;
         Ok(Summary {
-            roots: self.roots.copy(alloc)?,
-            edges: self.edges.copy(alloc)?,
-            texts: self.texts.with(alloc, &new)?,
-            tracks: other_tracks(alloc, &self.tracks, gap)?,
+            roots,
+            edges,
+            texts,
+            tracks,
             lacks,
         })
     }
