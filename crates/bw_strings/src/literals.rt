@@ -1,5 +1,5 @@
 //! The string literals of a service, with their numbers.
-ghost use Rattle.std.specs.Prelude.{◌≡◌, ◌<◌, ◌^◌, [], length, IfOk, OnOk};
+ghost use Rattle.std.specs.Prelude.{◌≡◌, ◌<◌, ◌^◌, length, IfOk};
 ghost use Rattle.bw_lang.specs.Table.Names.{name_number};
 ghost use Rattle.bw_strings.specs.Asking.{text_of};
 ghost use Rattle.bw_strings.specs.Literals.{literals_of};
@@ -27,33 +27,18 @@ impl Model for Literals {
     ghost invariant = { λ l. length l.texts < 2 ^ 32 };
 }
 
-/// Takes in the literals of a service where there was no string yet.
-fn add_all(alloc: Global, texts: &mut NameTable, service: &Service) -> Result<(), Memory>
-    requires { texts.old ≡ [] }
-    ensures strings { OnOk result (texts.new ≡ literals_of service.now) }
-    ensures few { OnOk result (length texts.new < 2 ^ 32) }
-{
-    add_strings(alloc, texts, service)?;
-    texts.add(service.name.as_str())?;
-    if texts.len() > u32::MAX as usize {
-        return Err(Memory);
-    }
-    Ok(())
-}
-
 impl Literals {
     /// The literals of a service. `Memory` also says that there are more strings than numbers of 32 bits.
     pub fn of(alloc: Global, service: &Service) -> Result<Literals, Memory>
         ensures { IfOk result (λ l. l ≡ literals_of service.now) }
     {
         let mut texts = NameTable::new(alloc);
-        match add_all(alloc, &mut texts, service) {
-            Ok(()) => Ok(Literals { texts }),
-            Err(Memory) => {
-                drop(texts);
-                Err(Memory)
-            }
+        add_strings(alloc, &mut texts, service)?;
+        texts.add(service.name.as_str())?;
+        if texts.len() > u32::MAX as usize {
+            return Err(Memory);
         }
+        Ok(Literals { texts })
     }
 
     /// How many strings there are.
