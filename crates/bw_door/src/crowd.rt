@@ -279,18 +279,10 @@ impl<S: Drop, W: Settles> Crowd<S, W> {
 /// How many bytes of memory replies have.
 fn memory_of<S>(leaving: &Slab<Leaving<S>>) -> usize {
     let mut memory = 0usize;
-    for place in 0..leaving.capacity() {
-        memory = memory.saturating_add(memory_at(leaving, place));
+    for (_, one) in leaving.iter() {
+        memory = memory.saturating_add(one.kept());
     }
     memory
-}
-
-/// How many bytes of memory the reply of a place has.
-fn memory_at<S>(leaving: &Slab<Leaving<S>>, place: usize) -> usize {
-    match leaving.get(place) {
-        Some(one) => one.kept(),
-        None => 0,
-    }
 }
 
 /// Takes out the one whose changes are told under this token, if there is one.

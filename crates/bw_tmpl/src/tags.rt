@@ -21,10 +21,7 @@ fn quoted_at(alloc: Global, quote: u8, bytes: &[u8]) -> Result<(RawValue, &[u8])
     let front = [quote];
     match after.strip_prefix(&front) {
         Some(rest) => Ok((RawValue::Fixed(value), rest)),
-        None => {
-            drop(value);
-            Err(TmplFault::Malformed)
-        }
+        None => Err(TmplFault::Malformed),
     }
 }
 
@@ -36,10 +33,7 @@ fn hole_at(alloc: Global, bytes: &[u8]) -> Result<(RawValue, &[u8]), TmplFault>
     let (name, after) = name_at(alloc, NameClass::Word, bytes)?;
     match after.strip_prefix(b"]") {
         Some(rest) => Ok((RawValue::Hole(name), rest)),
-        None => {
-            drop(name);
-            Err(TmplFault::Malformed)
-        }
+        None => Err(TmplFault::Malformed),
     }
 }
 
@@ -80,16 +74,10 @@ fn attr_at(alloc: Global, bytes: &[u8]) -> Result<(RawAttr, &[u8]), TmplFault>
     }
     let (name, after) = name_at(alloc, NameClass::Attr, past_blanks(bytes))?;
     let Some(behind) = after.strip_prefix(b"=") else {
-        drop(name);
         return Err(TmplFault::Malformed);
     };
-    match value_at(alloc, behind) {
-        Ok((value, rest)) => Ok((RawAttr { name, value }, rest)),
-        Err(fault) => {
-            drop(name);
-            Err(fault)
-        }
-    }
+    let (value, rest) = value_at(alloc, behind)?;
+    Ok((RawAttr { name, value }, rest))
 }
 
 /// A content gap, behind `<[`, and the bytes behind it.
@@ -100,10 +88,7 @@ fn gap_at(alloc: Global, bytes: &[u8]) -> Result<(Piece, &[u8]), TmplFault>
     let (name, after) = name_at(alloc, NameClass::Word, bytes)?;
     match after.strip_prefix(b"]>") {
         Some(rest) => Ok((Piece::Gap(name), rest)),
-        None => {
-            drop(name);
-            Err(TmplFault::Malformed)
-        }
+        None => Err(TmplFault::Malformed),
     }
 }
 
@@ -115,10 +100,7 @@ fn end_at(alloc: Global, bytes: &[u8]) -> Result<(Piece, &[u8]), TmplFault>
     let (name, after) = name_at(alloc, NameClass::Tag, bytes)?;
     match past_blanks(after).strip_prefix(b">") {
         Some(rest) => Ok((Piece::End(name), rest)),
-        None => {
-            drop(name);
-            Err(TmplFault::Malformed)
-        }
+        None => Err(TmplFault::Malformed),
     }
 }
 
@@ -129,7 +111,6 @@ fn text_at(alloc: Global, bytes: &[u8]) -> Result<(Piece, &[u8]), TmplFault>
 {
     let (text, rest) = chars_at(alloc, b'<', bytes)?;
     if text.as_slice().is_empty() {
-        drop(text);
         return Err(TmplFault::Malformed);
     }
     let text = checked(text)?;
@@ -160,16 +141,9 @@ fn tag_at(alloc: Global, bytes: &[u8]) -> Result<(Tag, &[u8]), TmplFault>
     ensures { spec.Gives (λ x. (x.0, x.1.now)) result (spec.tag_at bytes.now) }
 {
     let (name, after) = name_at(alloc, NameClass::Tag, bytes)?;
-    match attrs_at(alloc, after) {
-        Ok((list, behind)) => {
-            let attrs = RawAttrs::from_vec(list);
-            Ok((Tag { name, attrs }, past_blanks(behind)))
-        }
-        Err(Memory) => {
-            drop(name);
-            Err(TmplFault::Memory)
-        }
-    }
+    let (list, behind) = attrs_at(alloc, after)?;
+    let attrs = RawAttrs::from_vec(list);
+    Ok((Tag { name, attrs }, past_blanks(behind)))
 }
 
 /// A start tag or a whole tag, behind `<`, and the bytes behind it.
@@ -184,7 +158,6 @@ fn whole_at(alloc: Global, bytes: &[u8]) -> Result<(Piece, &[u8]), TmplFault>
     if let Some(rest) = after.strip_prefix(b">") {
         return Ok((Piece::Start(tag), rest));
     }
-    drop(tag);
     Err(TmplFault::Malformed)
 }
 
@@ -232,7 +205,6 @@ pub fn pieces_of(alloc: Global, bytes: &[u8]) -> Result<Vec<Piece>, TmplFault>
     if rest.is_empty() {
         Ok(pieces)
     } else {
-        drop(pieces);
         Err(TmplFault::Malformed)
     }
 }
