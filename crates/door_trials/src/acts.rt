@@ -41,7 +41,7 @@ pub(crate) fn listening<R: Net + Clock + Wait + Abort + Copy>(
     limits: Limits,
 ) -> (PortDoor<R, Lines>, u16) {
     let mut door = new_door(rt, alloc, limits);
-    door.listen(0).expect(&rt, "a port");
+    door.listen(0).ok().expect(&rt, "a port");
     let port = door.port().expect(&rt, "its number");
     (door, port)
 }
@@ -88,13 +88,13 @@ pub(crate) fn hear_end<R: Abort>(rt: &R, mut client: TcpStream, note: &str) {
 pub(crate) fn next_link<R: Abort, D: Door>(rt: &R, door: &mut D) -> D::Link
     ensures { D.awaits door.new }
 {
-    door.next().expect(rt, "no fault").expect(rt, "a link")
+    door.next().ok().expect(rt, "no fault").expect(rt, "a link")
 }
 
 /// A link gives these bytes of its message at one read, and no more of them.
 pub(crate) fn ask<R: Abort, L: Source>(rt: &R, link: &mut L, bytes: &[u8]) {
     let mut room = [0u8; 8];
-    let count = link.read(&mut room).expect(rt, "read");
+    let count = link.read(&mut room).ok().expect(rt, "read");
     assert_eq!(rt; count, bytes.len());
     assert!(rt; room.starts_with(bytes));
 }
