@@ -1,8 +1,9 @@
 use Rattle.std.proofs.Common.{◌≡◌, ℕ, List, subst}
 use Rattle.std.specs.Io.KnownBytes.{IsAtEnd}
+use Rattle.std.proofs.lemmas.Bool.{false≢true}
 use Rattle.bw_http.specs.declared.request.ReadOutcome.TheVariants.{ReadFault}
 use Rattle.bw_http.specs.Messages.{IsDenied}
-use Rattle.bw_out.proofs.TakeLaws.{no_fault}
+use Rattle.bw_out.proofs.TakeLaws.{took, took_more, no_fault}
 use Rattle.bw_http.proofs.Tests.{denied_refusal, denied_no_fault}
 use Rattle.bw_http.proofs.Messages.{message_read, message_taken, ended_outcome, same_message, filled_more}
 use Rattle.bw_http.proofs.reading.take_request.Goals as goal
@@ -48,3 +49,9 @@ returns-in-Ok-false-clause-taken g c =
       filled = filled_more _ _ _ _ _ _ c.turns.invariant.filled c.in-Ok-false.ensures.filled;
       outcome = ended_outcome c.fill.new.intake _ c.at_end.result c.at_end.ensures.end c.at_end.ensures.truncated ended.0 ended.1;
     }
+
+pub turns-preserved : goal.turns-preserved
+turns-preserved g c = record {
+  filled = filled_more _ _ _ _ _ _ c.turns.invariant.filled c.in-Ok-true.ensures.filled;
+  took = took_more g.S.Channel g.met.S.Source.same_trans c.turns.invariant.took (took c.in-Ok-true.ensures.takes (λ e. absurd (false≢true e)));
+}
