@@ -124,7 +124,8 @@ fn send_one<L: Ledger>(
     ensures sent { IfOk result (IsSent world.old world.new request.now) }
     ensures service { world.new.service ≡ world.old.service }
 {
-    match world.handle(alloc, request, 0, steps) {
+    let reply = world.handle(alloc, request, 0, steps);
+    match &reply {
         Reply::Page(page) => Ok(page.length()),
         Reply::Final(page) => Ok(page.length()),
         Reply::Memory => Err(Memory),

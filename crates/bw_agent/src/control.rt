@@ -13,9 +13,14 @@ pub struct Offer {
 }
 
 /// The values that a control may send, in order. Contracts see the list.
-#[derive(Drop)]
 pub struct Offers {
     list: Vec<Offer>,
+}
+
+impl Drop for Offers {
+    fn drop(self) {
+        let Offers { list: _ } = self;
+    }
 }
 
 impl Model for Offers {
@@ -54,17 +59,31 @@ impl Offers {
 }
 
 /// A control with a field: the field's name and kind, and the values that the control may send.
-#[derive(Drop)]
 pub struct Control {
     pub name: Text,
     pub kind: FieldKind,
     pub offers: Offers,
 }
 
+impl Drop for Control {
+    fn drop(self) {
+        let Control {
+            name: _,
+            kind: _,
+            offers: _,
+        } = self;
+    }
+}
+
 /// The controls of a form that have a field, in the order of the form. Contracts see the list.
-#[derive(Drop)]
 pub struct Controls {
     list: Vec<Control>,
+}
+
+impl Drop for Controls {
+    fn drop(self) {
+        let Controls { list: _ } = self;
+    }
 }
 
 impl Model for Controls {

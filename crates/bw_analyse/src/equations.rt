@@ -15,7 +15,6 @@ use bw_solve::System;
 use std::alloc::{AllocError, Global};
 
 /// The system of a service: what it is read by, for each point the arrows to it, and for each cell those that look at it.
-#[derive(Drop)]
 pub struct Equations<'a, 'b> {
     ground: &'b Ground<'a>,
     arrows: Vec<Arrows>,
@@ -26,6 +25,16 @@ pub struct Equations<'a, 'b> {
     ghost readers_len: { vec_len readers ≡ length ground.now.points.now + 1 },
     ghost readers_are: { (cell : ℕ) → cell < length ground.now.points.now + 1 →
         slice_index_or readers.items cell [] ≡ readers_of ground.now.typed.now.service cell },
+}
+
+impl<'a, 'b> Drop for Equations<'a, 'b> {
+    fn drop(self) {
+        let Equations {
+            ground: _,
+            arrows: _,
+            readers: _,
+        } = self;
+    }
 }
 
 impl<'a, 'b> Equations<'a, 'b> {

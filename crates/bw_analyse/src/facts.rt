@@ -20,13 +20,24 @@ use std::alloc::Global;
 /// The facts of a service: the least solution of its system. For each point they tell what is known of each local in
 /// scope there, for each shared variable what is known of it at all points, and for each show and exit a summary of the
 /// documents of its page.
-#[derive(Drop)]
 pub struct Facts {
     scopes: Vec<Scope>,
     variables: Vec<Name>,
     rows: Solution<Row>,
     pages: Vec<Option<Summary>>,
     title: u32,
+}
+
+impl Drop for Facts {
+    fn drop(self) {
+        let Facts {
+            scopes: _,
+            variables: _,
+            rows: _,
+            pages: _,
+            title: _,
+        } = self;
+    }
 }
 
 impl Facts {

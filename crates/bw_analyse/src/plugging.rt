@@ -10,6 +10,7 @@ use bw_lang::{GapId, Memory, TemplateId};
 use bw_solve::Set;
 use std::alloc::Global;
 use std::marker::Model;
+use std::mem::replace;
 
 type Edges = Set<(TemplateId, GapId, TemplateId)>;
 
@@ -45,8 +46,7 @@ fn parted(alloc: Global, value: Abstract) -> (Abstract, Edges)
     match value {
         Abstract::Html(summary) => {
             let mut bare = summary;
-            let edges = bare.edges;
-            bare.edges = Set::new(alloc);
+            let edges = replace(&mut bare.edges, Set::new(alloc));
             // This call tells that the edges are a set.
             let _edges = edges.as_slice();
             (Abstract::Html(bare), edges)

@@ -8,9 +8,14 @@ use std::alloc::{AllocError, Global};
 use std::marker::Model;
 
 /// What is known of some variables, in their order. Contracts see the list.
-#[derive(Drop)]
 pub struct Row {
     list: Vec<Abstract>,
+}
+
+impl Drop for Row {
+    fn drop(self) {
+        let Row { list: _ } = self;
+    }
 }
 
 impl Model for Row {

@@ -9,7 +9,6 @@ use bw_schema::Schema;
 use bw_types::Typed;
 
 /// A service that was accepted by a schema, with its flow and its facts.
-#[derive(Drop)]
 pub struct Checked {
     pub(crate) typed: Typed,
     pub(crate) flow: Flow,
@@ -17,6 +16,17 @@ pub struct Checked {
     pub(crate) schema: Schema,
     pub ghost lowered: { flow ≡ plan_of typed.service },
     pub ghost accepted: { ∥ IsAccepted typed.service schema facts ∥₁ },
+}
+
+impl Drop for Checked {
+    fn drop(self) {
+        let Checked {
+            typed: _,
+            flow: _,
+            facts: _,
+            schema: _,
+        } = self;
+    }
 }
 
 impl Checked {

@@ -19,9 +19,14 @@ pub struct Variable {
 }
 
 /// Variables in order of declaration. Contracts see the list of the pairs of name and value.
-#[derive(Drop)]
 pub struct Values {
     list: Vec<Variable>,
+}
+
+impl Drop for Values {
+    fn drop(self) {
+        let Values { list: _ } = self;
+    }
 }
 
 impl Model for Values {

@@ -6,7 +6,6 @@ use bw_lang::{Name, Words};
 use bw_schema::{Rule, is_among};
 
 /// How an element breaks a rule.
-#[derive(Drop)]
 pub enum Atom {
     /// An attribute isn't allowed.
     NotAllowed,
@@ -24,6 +23,21 @@ pub enum Atom {
     Missing(Name),
     /// A child element with the second tag stands before one with the first.
     Crossing(Name, Name),
+}
+
+impl Drop for Atom {
+    fn drop(self) {
+        match self {
+            Atom::NotAllowed => {}
+            Atom::OtherValue => {}
+            Atom::Absent(_) => {}
+            Atom::Outside(_, _) => {}
+            Atom::BadChild => {}
+            Atom::BadText => {}
+            Atom::Missing(_) => {}
+            Atom::Crossing(_, _) => {}
+        }
+    }
 }
 
 impl Atom {

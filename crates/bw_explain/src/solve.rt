@@ -16,12 +16,22 @@ use bw_lang::Memory;
 use std::alloc::Global;
 
 /// The least documents of all templates that go from a state to itself, from 0 to 1, from 1 to 2, and from 0 to 2.
-#[derive(Drop)]
 pub struct Tables {
     pub stay: Table,
     pub first: Table,
     pub second: Table,
     pub whole: Table,
+}
+
+impl Drop for Tables {
+    fn drop(self) {
+        let Tables {
+            stay: _,
+            first: _,
+            second: _,
+            whole: _,
+        } = self;
+    }
 }
 
 impl Tables {

@@ -22,11 +22,20 @@ pub fn copy_items(items: &Items, out: &mut Items) -> Result<(), Memory>
 }
 
 /// The least size of each template's documents, and a document of that size.
-#[derive(Drop)]
 pub struct Table {
     past: u32,
     sizes: Vec<u32>,
     docs: Vec<Items>,
+}
+
+impl Drop for Table {
+    fn drop(self) {
+        let Table {
+            past: _,
+            sizes: _,
+            docs: _,
+        } = self;
+    }
 }
 
 impl Model for Table {

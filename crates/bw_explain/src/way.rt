@@ -16,13 +16,24 @@ use std::marker::Model;
 
 /// What may stand at a gap: nothing, where it may be left open, any string, where it is free, these words, and these
 /// templates.
-#[derive(Drop)]
 pub struct Way {
     gap: GapId,
     is_open: bool,
     is_free: bool,
     words: Words,
     led: Vec<u32>,
+}
+
+impl Drop for Way {
+    fn drop(self) {
+        let Way {
+            gap: _,
+            is_open: _,
+            is_free: _,
+            words: _,
+            led: _,
+        } = self;
+    }
 }
 
 impl Model for Way {
@@ -34,9 +45,14 @@ impl Model for Way {
 }
 
 /// The ways of a template's gaps.
-#[derive(Drop)]
 pub struct Node {
     ways: Vec<Way>,
+}
+
+impl Drop for Node {
+    fn drop(self) {
+        let Node { ways: _ } = self;
+    }
 }
 
 impl Model for Node {

@@ -14,9 +14,14 @@ use std::marker::Model;
 use std::mem::replace;
 
 /// Faults in their order, without doubles. Contracts see the list.
-#[derive(Drop)]
 pub struct Faults {
     list: Vec<Fault>,
+}
+
+impl Drop for Faults {
+    fn drop(self) {
+        let Faults { list: _ } = self;
+    }
 }
 
 impl Model for Faults {
@@ -109,7 +114,8 @@ impl Faults {
         // These calls tell that both lists are in order.
         let _mine = self.as_slice();
         let _others = other.as_slice();
-        for fault in other.list {
+        let Faults { list } = other;
+        for fault in list {
             self.add(fault)?;
         }
         Ok(())
@@ -124,7 +130,8 @@ impl Faults {
         let _others = other.as_slice();
         let alloc = *self.list.allocator();
         let mine = replace(&mut self.list, Vec::new(alloc));
-        self.list = merged(alloc, mine, other.list)?;
+        let Faults { list: others } = other;
+        self.list = merged(alloc, mine, others)?;
         Ok(())
     }
 }

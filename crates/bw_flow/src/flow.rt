@@ -8,10 +8,18 @@ use bw_lang::SessionId;
 use std::marker::Model;
 
 /// The points of a service, and for each session, in source order, the place of its first point.
-#[derive(Drop)]
 pub struct Flow {
     points: Vec<Point>,
     firsts: Vec<PointId>,
+}
+
+impl Drop for Flow {
+    fn drop(self) {
+        let Flow {
+            points: _,
+            firsts: _,
+        } = self;
+    }
 }
 
 impl Model for Flow {

@@ -27,9 +27,14 @@ pub struct Frame {
 }
 
 /// The groups around, the innermost first.
-#[derive(Drop)]
 pub struct Frames {
     list: Vec<Frame>,
+}
+
+impl Drop for Frames {
+    fn drop(self) {
+        let Frames { list: _ } = self;
+    }
 }
 
 impl Model for Frames {

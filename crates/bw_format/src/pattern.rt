@@ -18,9 +18,14 @@ pub enum Member {
 }
 
 /// The members of a bracket, in their order.
-#[derive(Drop)]
 pub struct Members {
     list: Vec<Member>,
+}
+
+impl Drop for Members {
+    fn drop(self) {
+        let Members { list: _ } = self;
+    }
 }
 
 impl Model for Members {
@@ -47,7 +52,6 @@ pub enum Class {
 
 /// A node of a pattern.
 #[cycle(pattern)]
-#[derive(Drop)]
 pub enum Node {
     /// The empty sequence.
     Nothing,
@@ -61,13 +65,39 @@ pub enum Node {
     Group(Pattern),
 }
 
+impl Drop for Node {
+    #[cycle(pattern_drop)]
+    fn drop(self) {
+        match self {
+            Node::Nothing => {}
+            Node::One(_) => {}
+            Node::Sequence(_, _) => {}
+            Node::Either(_, _) => {}
+            Node::Star(_) => {}
+            Node::Plus(_) => {}
+            Node::Optional(_) => {}
+            Node::Group(_) => {}
+        }
+    }
+}
+
 /// A pattern, with the number of its places, the classes in it, and that of its repetitions.
 #[cycle(pattern)]
-#[derive(Drop)]
 pub struct Pattern {
     node: Box<Node>,
     width: usize,
     stars: usize,
+}
+
+impl Drop for Pattern {
+    #[cycle(pattern_drop)]
+    fn drop(self) {
+        let Pattern {
+            node: _,
+            width: _,
+            stars: _,
+        } = self;
+    }
 }
 
 impl Model for Pattern {

@@ -12,7 +12,6 @@ use bw_page::Sheet;
 use itoa::Buffer;
 
 /// What a request, or the lack of one, is answered by.
-#[derive(Drop)]
 pub enum Reply {
     /// 200: the names of the sessions, each with the end of a line.
     Index(Sheet),
@@ -54,6 +53,32 @@ pub enum Reply {
     Memory,
 }
 
+impl Drop for Reply {
+    fn drop(self) {
+        match self {
+            Reply::Index(_) => {}
+            Reply::Page(_) => {}
+            Reply::Final(_) => {}
+            Reply::NoSuch => {}
+            Reply::Method(_) => {}
+            Reply::Stale(_) => {}
+            Reply::Lacking(_) => {}
+            Reply::Repeated(_) => {}
+            Reply::FieldTooLong(_) => {}
+            Reply::Format(_) => {}
+            Reply::Failed(_) => {}
+            Reply::NoNumbers => {}
+            Reply::NoTurns => {}
+            Reply::Bad => {}
+            Reply::LengthRequired => {}
+            Reply::BodyTooLong => {}
+            Reply::Media => {}
+            Reply::HeadTooLong => {}
+            Reply::Memory => {}
+        }
+    }
+}
+
 /// The methods that a path serves.
 #[derive(Clone, Copy, PartialEq, Eq)]
 pub enum Allow {
@@ -73,17 +98,25 @@ pub fn write_reply<W: Sink>(
     requires { IsReply fields.now reply }
     ensures { Sends W.Channel sink.old sink.new (bytes_of fields.now reply) result }
 {
+    write_lent(&reply, fields, sink)
+}
+
+/// Writes a reply that is lent.
+fn write_lent<W: Sink>(reply: &Reply, fields: &FieldNames, sink: &mut W) -> Result<(), WriteFault>
+    requires { IsReply fields.now reply.now }
+    ensures { Sends W.Channel sink.old sink.new (bytes_of fields.now reply.now) result }
+{
     match reply {
         Reply::Index(names) => write_sheet(b"text/plain; charset=utf-8", names, sink),
         Reply::Page(page) => write_sheet(b"text/html; charset=utf-8", page, sink),
         Reply::Final(page) => write_sheet(b"text/html; charset=utf-8", page, sink),
-        Reply::Lacking(field) => write_field(b"lacking ", field, fields, sink),
-        Reply::Repeated(field) => write_field(b"repeated ", field, fields, sink),
-        Reply::FieldTooLong(field) => write_field(b"too long ", field, fields, sink),
-        Reply::Format(field) => write_field(b"format ", field, fields, sink),
-        Reply::Method(allow) => write_allowed(allow, sink),
-        Reply::Stale(turn) => write_stale(turn, sink),
-        Reply::Failed(fault) => write_failed(fault, sink),
+        Reply::Lacking(field) => write_field(b"lacking ", *field, fields, sink),
+        Reply::Repeated(field) => write_field(b"repeated ", *field, fields, sink),
+        Reply::FieldTooLong(field) => write_field(b"too long ", *field, fields, sink),
+        Reply::Format(field) => write_field(b"format ", *field, fields, sink),
+        Reply::Method(allow) => write_allowed(*allow, sink),
+        Reply::Stale(turn) => write_stale(*turn, sink),
+        Reply::Failed(fault) => write_failed(*fault, sink),
         Reply::Bad => write_words(b"HTTP/1.1 400 Bad Request", b"bad request", sink),
         Reply::NoSuch => write_words(b"HTTP/1.1 404 Not Found", b"no such page", sink),
         Reply::LengthRequired => write_words(
@@ -166,11 +199,11 @@ fn write_allowed<W: Sink>(allow: Allow, sink: &mut W) -> Result<(), WriteFault>
 }
 
 /// Writes a page or plain text, of this type.
-fn write_sheet<W: Sink>(kind: &[u8], sheet: Sheet, sink: &mut W) -> Result<(), WriteFault>
-    ensures { Sends W.Channel sink.old sink.new (message (codes "HTTP/1.1 200 OK") kind.now [] sheet) result }
+fn write_sheet<W: Sink>(kind: &[u8], sheet: &Sheet, sink: &mut W) -> Result<(), WriteFault>
+    ensures { Sends W.Channel sink.old sink.new (message (codes "HTTP/1.1 200 OK") kind.now [] sheet.now) result }
 {
     write_head(b"HTTP/1.1 200 OK", kind, b"", sheet.length(), sink)?;
-    sheet.write(sink)
+    write_all(sink, sheet.as_bytes())
 }
 
 /// Writes a line of plain text.

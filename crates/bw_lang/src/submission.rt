@@ -11,9 +11,14 @@ pub const MAX_VALUE_BYTES: usize = 16_384;
 
 /// A form as it was submitted: pairs of the name of a control and a value, in the order in which they came (HTML 4.01,
 /// section 17.13.3). A name may come several times. Contracts see the list of the pairs, each value of which is UTF-8.
-#[derive(Drop)]
 pub struct Submission {
     pairs: Vec<(Text, Text)>,
+}
+
+impl Drop for Submission {
+    fn drop(self) {
+        let Submission { pairs: _ } = self;
+    }
 }
 
 impl Model for Submission {

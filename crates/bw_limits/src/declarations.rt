@@ -152,10 +152,9 @@ fn too_large(name: &Name, gaps: &GapNames, declarations: &[Declaration]) -> Opti
 }
 
 /// The first limit that the declarations of a service pass, with the first number in source order that does. In this
-/// order: the templates (256 at most), the sessions (64), the shared variables (64), the different names of gaps (128),
-/// the different names of controls and receives (128), the locals of a session (64), the bytes of a name (64), the bytes
-/// that a string stands for (16,384), and the weight of a template (262,144). `gaps` are the names of the gaps by their
-/// numbers.
+/// order: the templates, the sessions, the shared variables, the different names of gaps, the different names of controls
+/// and receives, the locals of a session, the bytes of a name, the bytes that a string stands for, and the weight of a
+/// template. What each may be is a constant of `bw_lang::limits`. `gaps` are the names of the gaps by their numbers.
 pub fn too_many(
     alloc: Global,
     name: &Name,

@@ -7,9 +7,14 @@ use std::alloc::Global;
 use std::marker::Model;
 
 /// Summaries on a stack. Contracts see the list of them, of which the first is on top.
-#[derive(Drop)]
 pub(crate) struct Sums {
     list: Vec<Summary>,
+}
+
+impl Drop for Sums {
+    fn drop(self) {
+        let Sums { list: _ } = self;
+    }
 }
 
 impl Model for Sums {

@@ -10,17 +10,27 @@ use std::alloc::Global;
 use std::marker::Model;
 
 /// A control that has a field: the field's name, and how many values it may have.
-#[derive(Drop)]
 pub struct FieldUse {
     pub name: Text,
     pub kind: FieldKind,
 }
 
+impl Drop for FieldUse {
+    fn drop(self) {
+        let FieldUse { name: _, kind: _ } = self;
+    }
+}
+
 /// The controls of a page that have a field, in the order of the page. Contracts see the list of their names and
 /// kinds.
-#[derive(Drop)]
 pub struct FieldList {
     list: Vec<FieldUse>,
+}
+
+impl Drop for FieldList {
+    fn drop(self) {
+        let FieldList { list: _ } = self;
+    }
 }
 
 impl Model for FieldList {

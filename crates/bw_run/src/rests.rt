@@ -76,9 +76,14 @@ impl Rest {
 }
 
 /// The strings still to come of the foreachs around a place, the outermost first.
-#[derive(Drop)]
 pub struct Rests {
     list: Vec<Rest>,
+}
+
+impl Drop for Rests {
+    fn drop(self) {
+        let Rests { list: _ } = self;
+    }
 }
 
 impl Model for Rests {

@@ -25,9 +25,14 @@ pub struct Record {
 }
 
 /// The sessions that wait, the most recently used first. Contracts see the list of them.
-#[derive(Drop)]
 pub struct Records {
     list: Vec<Record>,
+}
+
+impl Drop for Records {
+    fn drop(self) {
+        let Records { list: _ } = self;
+    }
 }
 
 impl Model for Records {

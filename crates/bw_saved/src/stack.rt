@@ -11,11 +11,16 @@ use std::marker::Model;
 
 /// Documents on a stack, which together weigh no more than one document may: so however many operations a file has, they
 /// take no more memory than the document that it could be. Contracts see the list of them, of which the first is on top.
-#[derive(Drop)]
 pub(crate) struct Stack {
     list: Vec<Doc>,
     /// What they weigh.
     weight: u64,
+}
+
+impl Drop for Stack {
+    fn drop(self) {
+        let Stack { list: _, weight: _ } = self;
+    }
 }
 
 impl Model for Stack {

@@ -26,11 +26,21 @@ pub enum Kind {
 
 /// A name, with what it is declared or used as and in which rule. The rules are counted from 1 in the order of their
 /// lines; 0 stands for the whole schema.
-#[derive(PartialEq, Eq, Hash, Drop)]
+#[derive(PartialEq, Eq, Hash)]
 pub struct Mark {
     pub rule: usize,
     pub kind: Kind,
     pub name: String,
+}
+
+impl Drop for Mark {
+    fn drop(self) {
+        let Mark {
+            rule: _,
+            kind: _,
+            name: _,
+        } = self;
+    }
 }
 
 impl Mark {
@@ -46,9 +56,14 @@ impl Mark {
 }
 
 /// Marks in their order.
-#[derive(Drop)]
 pub struct Marks {
     list: Vec<Mark>,
+}
+
+impl Drop for Marks {
+    fn drop(self) {
+        let Marks { list: _ } = self;
+    }
 }
 
 impl Model for Marks {
@@ -98,9 +113,14 @@ impl Marks {
 }
 
 /// Marks, each of them once, found in a time that doesn't grow with their number.
-#[derive(Drop)]
 pub struct MarkSet {
     marks: IndexSet<Mark>,
+}
+
+impl Drop for MarkSet {
+    fn drop(self) {
+        let MarkSet { marks: _ } = self;
+    }
 }
 
 impl Model for MarkSet {

@@ -16,16 +16,26 @@ pub fn is_among(words: &Words, word: &str) -> bool
 }
 
 /// The values that an attribute may have.
-#[derive(Drop)]
 pub struct ValueList {
     pub name: Name,
     pub words: Words,
 }
 
+impl Drop for ValueList {
+    fn drop(self) {
+        let ValueList { name: _, words: _ } = self;
+    }
+}
+
 /// Value lists, which contracts see as a list.
-#[derive(Drop)]
 pub struct ValueLists {
     list: Vec<ValueList>,
+}
+
+impl Drop for ValueLists {
+    fn drop(self) {
+        let ValueLists { list: _ } = self;
+    }
 }
 
 impl Model for ValueLists {
@@ -71,7 +81,6 @@ impl ValueLists {
 }
 
 /// The rule of an element.
-#[derive(Drop)]
 pub struct Rule {
     /// The element's tag.
     pub tag: Name,
@@ -89,6 +98,20 @@ pub struct Rule {
     pub needs: Formulas,
 }
 
+impl Drop for Rule {
+    fn drop(self) {
+        let Rule {
+            tag: _,
+            may: _,
+            must: _,
+            values: _,
+            has: _,
+            text: _,
+            needs: _,
+        } = self;
+    }
+}
+
 impl Rule {
     /// Whether the attribute is allowed.
     pub fn allows(&self, name: &str) -> bool
@@ -99,9 +122,14 @@ impl Rule {
 }
 
 /// Rules, which contracts see as a list.
-#[derive(Drop)]
 pub struct Rules {
     list: Vec<Rule>,
+}
+
+impl Drop for Rules {
+    fn drop(self) {
+        let Rules { list: _ } = self;
+    }
 }
 
 impl Model for Rules {

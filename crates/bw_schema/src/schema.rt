@@ -6,11 +6,19 @@ use crate::rules::Rules;
 use bw_lang::Name;
 
 /// A schema: the tag of the root element, and the rule of each element, in the order of the text that reads as it.
-#[derive(Drop)]
 pub struct Schema {
     pub(crate) root: Name,
     pub(crate) elements: Rules,
     pub ghost readable: { ∥ IsReadable root elements ∥₁ },
+}
+
+impl Drop for Schema {
+    fn drop(self) {
+        let Schema {
+            root: _,
+            elements: _,
+        } = self;
+    }
 }
 
 impl Schema {

@@ -16,10 +16,15 @@ use bw_types::Typed;
 use std::alloc::Global;
 
 /// The wrappers of shown and of last pages of a service.
-#[derive(Drop)]
 pub struct Wrappers {
     show: Items,
     exit: Items,
+}
+
+impl Drop for Wrappers {
+    fn drop(self) {
+        let Wrappers { show: _, exit: _ } = self;
+    }
 }
 
 impl Wrappers {

@@ -17,10 +17,15 @@ use bw_sum::{Label, Summary};
 use std::alloc::Global;
 
 /// A node for each template, and the strings that may fill its gaps.
-#[derive(Drop)]
 pub struct Graphed {
     pub nodes: Vec<Node>,
     pub said: Vec<Sayings>,
+}
+
+impl Drop for Graphed {
+    fn drop(self) {
+        let Graphed { nodes: _, said: _ } = self;
+    }
 }
 
 /// So many nodes of which nothing is known.

@@ -12,12 +12,22 @@ use std::marker::Model;
 
 /// What a page graph says of a template: its links, each a gap and a template that may stand there, in the order of the
 /// gaps, and its gaps that may be left open, that some string may fill, and that a string may fill that isn't blank.
-#[derive(Drop)]
 pub struct Node {
     links: Vec<(GapId, TemplateId)>,
     open_gaps: Vec<GapId>,
     said: Vec<GapId>,
     wordy: Vec<GapId>,
+}
+
+impl Drop for Node {
+    fn drop(self) {
+        let Node {
+            links: _,
+            open_gaps: _,
+            said: _,
+            wordy: _,
+        } = self;
+    }
 }
 
 impl Model for Node {

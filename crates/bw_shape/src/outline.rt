@@ -19,7 +19,6 @@ use std::alloc::Global;
 /// The shape of a page graph: the templates that it reaches, and of each of these the elements and texts that it may have
 /// at its top, the fields that it may have, lack and have twice, and, of the tags that formulas name, those that it may
 /// miss at its top and those that may stand there in the wrong order. Contracts see the sets of these facts.
-#[derive(Drop)]
 pub struct Outline {
     /// What the page graph says of each template.
     pub graphed: Graphed,
@@ -29,6 +28,17 @@ pub struct Outline {
     pub pairs: Vec<(usize, usize)>,
     /// How many tags formulas name.
     pub first: usize,
+}
+
+impl Drop for Outline {
+    fn drop(self) {
+        let Outline {
+            graphed: _,
+            tables: _,
+            pairs: _,
+            first: _,
+        } = self;
+    }
 }
 
 impl Outline {

@@ -8,9 +8,14 @@ use std::alloc::Global;
 use std::marker::Model;
 
 /// Numbered rows of flags, which contracts see as a list of lists.
-#[derive(Drop)]
 pub struct Table {
     rows: Vec<Row>,
+}
+
+impl Drop for Table {
+    fn drop(self) {
+        let Table { rows: _ } = self;
+    }
 }
 
 impl Model for Table {

@@ -22,7 +22,6 @@ use bw_lang::{FieldNames, Item, Items, Memory};
 use std::alloc::Global;
 
 /// The facts of a page graph, as rows of flags by the numbers of templates. Templates that aren't reached have empty rows.
-#[derive(Drop)]
 pub struct Tables {
     /// The templates that are reached, the root first.
     pub order: Vec<u32>,
@@ -40,6 +39,21 @@ pub struct Tables {
     pub miss: Table,
     /// The pairs of tags of which it may have the first before the second at its top, of those that formulas order.
     pub cross: Table,
+}
+
+impl Drop for Tables {
+    fn drop(self) {
+        let Tables {
+            order: _,
+            tags: _,
+            tops: _,
+            have: _,
+            lack: _,
+            twice: _,
+            miss: _,
+            cross: _,
+        } = self;
+    }
 }
 
 /// Takes the tags in of an element and of those in it.

@@ -12,9 +12,14 @@ use std::marker::Model;
 /// The different strings that the string literals of a service stand for, in the order of their first places in the
 /// text, and behind them the service's name, where it isn't one of them. The number of a string is its place, counted
 /// from 0. Contracts see the list of the strings, of which there are fewer than 4,294,967,296.
-#[derive(Drop)]
 pub struct Literals {
     texts: NameTable,
+}
+
+impl Drop for Literals {
+    fn drop(self) {
+        let Literals { texts: _ } = self;
+    }
 }
 
 impl Model for Literals {

@@ -17,7 +17,6 @@ use bw_types::Typed;
 use std::alloc::{AllocError, Global};
 
 /// What is known of some documents: the documents that its template constants may become by plugs.
-#[derive(Drop)]
 pub struct Summary {
     /// The templates that a document may begin as.
     pub roots: Set<TemplateId>,
@@ -29,6 +28,18 @@ pub struct Summary {
     pub tracks: Set<(GapId, TemplateId)>,
     /// The gaps of which a document may have none open.
     pub lacks: Set<GapId>,
+}
+
+impl Drop for Summary {
+    fn drop(self) {
+        let Summary {
+            roots: _,
+            edges: _,
+            texts: _,
+            tracks: _,
+            lacks: _,
+        } = self;
+    }
 }
 
 impl Summary {

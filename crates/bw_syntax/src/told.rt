@@ -10,10 +10,18 @@ use bw_lex::{LexFault, lex};
 use std::alloc::Global;
 
 /// The tokens of a text, and what they say.
-#[derive(Drop)]
 pub struct Told {
     pub tokens: Tokens,
     pub lexemes: Vec<Lexeme>,
+}
+
+impl Drop for Told {
+    fn drop(self) {
+        let Told {
+            tokens: _,
+            lexemes: _,
+        } = self;
+    }
 }
 
 impl Told {

@@ -24,9 +24,14 @@ pub struct OpenElement {
 }
 
 /// The elements that are open, the innermost first.
-#[derive(Drop)]
 pub struct OpenElements {
     list: Vec<OpenElement>,
+}
+
+impl Drop for OpenElements {
+    fn drop(self) {
+        let OpenElements { list: _ } = self;
+    }
 }
 
 impl Model for OpenElements {

@@ -11,9 +11,14 @@ use std::alloc::Global;
 use std::marker::Model;
 
 /// Names, the last that was pushed first.
-#[derive(Drop)]
 pub struct NameStack {
     list: Vec<Name>,
+}
+
+impl Drop for NameStack {
+    fn drop(self) {
+        let NameStack { list: _ } = self;
+    }
 }
 
 impl Model for NameStack {

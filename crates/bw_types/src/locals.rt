@@ -18,10 +18,18 @@ struct Local {
 
 /// What a place in a session's body sees: the locals in scope, and the names of all that the session declares in front
 /// of it, in scope or not.
-#[derive(Drop)]
 pub struct Locals {
     in_scope: Vec<Local>,
     taken: NameTable,
+}
+
+impl Drop for Locals {
+    fn drop(self) {
+        let Locals {
+            in_scope: _,
+            taken: _,
+        } = self;
+    }
 }
 
 impl Model for Locals {

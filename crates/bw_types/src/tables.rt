@@ -27,9 +27,14 @@ pub struct Kinds<K> {
 
 /// Gaps with a kind each, which is the kind that the gap was first given. Contracts see the gaps with their kinds in
 /// the order in which they came.
-#[derive(Drop)]
 pub struct GapKinds {
     kinds: IndexMap<u32, GapKind>,
+}
+
+impl Drop for GapKinds {
+    fn drop(self) {
+        let GapKinds { kinds: _ } = self;
+    }
 }
 
 /// What the names of a service stand for: the names of its templates and of its sessions, and the kinds of its shared

@@ -21,7 +21,6 @@ use bw_lang::{
 use std::alloc::Global;
 
 /// A service that is well typed and that some text reads as, with what its names stand for.
-#[derive(Drop)]
 pub struct Typed {
     service: Service,
     fields: FieldNames,
@@ -30,6 +29,16 @@ pub struct Typed {
     pub ghost readable: { ∥ IsReadable service ∥₁ },
     pub ghost named: { fields ≡ with_names [] (field_names service) },
     pub ghost known: { IsKnown service tables },
+}
+
+impl Drop for Typed {
+    fn drop(self) {
+        let Typed {
+            service: _,
+            fields: _,
+            tables: _,
+        } = self;
+    }
 }
 
 /// The service, which some text reads as, if it is well typed. Else the fault of the first test that fails, in one walk

@@ -20,10 +20,15 @@ pub struct Suspended {
 }
 
 /// Live sessions, the most recently used first. Contracts see the list of them.
-#[derive(Drop)]
 pub struct Suspendeds {
     /// The most recently used last.
     list: Vec<Suspended>,
+}
+
+impl Drop for Suspendeds {
+    fn drop(self) {
+        let Suspendeds { list: _ } = self;
+    }
 }
 
 impl Model for Suspendeds {

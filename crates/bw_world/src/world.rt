@@ -30,9 +30,14 @@ use std::sync::ledger::Ledger;
 /// Contracts see the live sessions by their numbers, the most recently used first. Each waits at a show of its own with a
 /// fit frame, and the shared variables are fit. Whatever was requested, there is a world of the meaning that this one stands
 /// for, and that is sound: each page that is answered from it on is good.
-#[derive(Drop)]
 pub struct World {
     state: State,
+}
+
+impl Drop for World {
+    fn drop(self) {
+        let World { state: _ } = self;
+    }
 }
 
 impl Model for World {

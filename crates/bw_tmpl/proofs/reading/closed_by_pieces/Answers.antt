@@ -33,7 +33,7 @@ pub returns-clause-items : goal.returns-clause-items
 returns-clause-items c =
     let ps = c.as_slice-pieces.result.now in
     let s = pieces_spelled c.args.bytes.now ps (c.in_ok-list.ensures ∙ ap Some (sym c.as_slice-pieces.ensures.value)) in
-    MatchResult-weaker c.items_of-2.result c.items_of-2.ensures
+    MatchResult-weaker c.items_of.result c.items_of.ensures
     (λ (f : Forest) (b : built c.new.result ps ≡ Some f). read SpellsClosed [] c.args.most c.args.bytes.now ps f
     (record { spells = s; closed = c.if-any_gap.ensures }) c.in_ok-check.ensures (ap (λ (t : List (List ℕ)). built t ps) (sym c.new.ensures) ∙ b))
     (λ (e : TmplFault) (b : MismatchedIfNone e (built c.new.result ps)). refused_for_memory SpellsClosed c.args.most c.args.bytes.now e
@@ -42,6 +42,6 @@ returns-clause-items c =
 pub returns-clause-closed : goal.returns-clause-closed
 returns-clause-closed c =
     let ps = c.as_slice-pieces.result.now in
-    MatchResult-weaker c.items_of-2.result c.items_of-2.ensures
+    MatchResult-weaker c.items_of.result c.items_of.ensures
     (λ (f : Forest) (b : built c.new.result ps ≡ Some f). none_open c.new.result ps f c.if-any_gap.ensures (built_reads c.new.result ps f b))
     (λ (e : TmplFault) (b : MismatchedIfNone e (built c.new.result ps)). tt)

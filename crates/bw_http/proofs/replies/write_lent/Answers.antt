@@ -1,4 +1,4 @@
-use Rattle.bw_http.proofs.replies.write_reply.Goals as goal
+use Rattle.bw_http.proofs.replies.write_lent.Goals as goal
 
 pub returns-in-Index : goal.returns-in-Index
 returns-in-Index g c = rw c.in-Index.is c.write_sheet.ensures
