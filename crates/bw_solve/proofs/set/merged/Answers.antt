@@ -36,7 +36,7 @@ both_step cmp a b i j x y z all new m h k p q r e f done =
     let at_z = left_at a i z h r in
     let at_y = left_at b j y k q in
     let front : merge cmp (x ∷ xs) (y ∷ ys) ≡ x ∷ merge cmp xs ys =
-      ap (λ o. match_ordering o (x ∷ merge cmp xs (y ∷ ys)) (x ∷ merge cmp xs ys) (y ∷ merge_into cmp x xs (merge cmp xs) ys)) e in
+    ap (λ o. match_ordering o (x ∷ merge cmp xs (y ∷ ys)) (x ∷ merge cmp xs ys) (y ∷ merge_into cmp x xs (merge cmp xs) ys)) e in
     let behind : (all ++ (z ∷ [])) ++ merge cmp xs ys ≡ all ++ (z ∷ merge cmp xs ys) = append_assoc all (z ∷ []) (merge cmp xs ys) in
     cc
 
