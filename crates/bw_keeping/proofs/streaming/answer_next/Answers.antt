@@ -1,9 +1,18 @@
-use Rattle.std.proofs.Common.{subst}
+use Rattle.std.proofs.Common.{◌≡◌, ℕ, ◌∙◌, refl, subst}
 use Rattle.std.specs.Io.KnownBytes.{Appends}
+use Rattle.bw_out.specs.Causes.{Rose, Shows}
 use Rattle.bw_out.specs.Writes.{AppendsPart}
 use Rattle.bw_world.specs.Streams.Courses.{bytes_by}
 use Rattle.bw_keeping.proofs.StreamTurns.{answer_breaks, answer_goes, end_goes, read_goes, refusal_breaks, refusal_goes, unkept_goes}
 use Rattle.bw_keeping.proofs.streaming.answer_next.Goals as goal
+
+-- no fault, and the count stands
+still : {p : Type 0} {a d : ℕ} → (p → ⊥) → d ≡ a → Shows p a d
+still none e = record { only = λ x. absurd (none x); other = λ _. e }
+
+-- a fault, and the count rose
+rises : {p : Type 0} {a b d : ℕ} → p → b ≡ a → Rose b d → Shows p a d
+rises {d = d} x e r = record { only = λ _. subst (λ (n : ℕ). Rose n d) e r; other = λ none. absurd (none x) }
 
 pub returns-in-End-clause-goes : goal.returns-in-End-clause-goes
 returns-in-End-clause-goes g c =
@@ -62,3 +71,66 @@ returns-in-Err-send-clause-goes g c =
     (g.C.Channel.left c.send-in-Ok-keep_group.new.link) held (g.J.Journal.deeds c.args.journal.now) (g.J.Journal.deeds c.keep_group.new.journal)
     c.keep_group.new.group.sum c.in-Err-send.ensures.left kept.sum kept.keeps
     (subst (λ s. AppendsPart was held (bytes_by s c.in-Answered.reply)) c.in-Answered.ensures.service c.in-Err-send.ensures.writes.part)
+
+pub returns-in-End-clause-read_fault : goal.returns-in-End-clause-read_fault
+returns-in-End-clause-read_fault g c = still (λ e. cc) (c.in-End.ensures.reads.cause.other (λ e. cc))
+
+pub returns-in-End-clause-write_fault : goal.returns-in-End-clause-write_fault
+returns-in-End-clause-write_fault g c = still (λ e. cc) c.in-End.ensures.reads.write_faults
+
+pub returns-in-ReadFault-clause-read_fault : goal.returns-in-ReadFault-clause-read_fault
+returns-in-ReadFault-clause-read_fault g c = rises refl refl (c.in-ReadFault.ensures.reads.cause.only refl)
+
+pub returns-in-ReadFault-clause-write_fault : goal.returns-in-ReadFault-clause-write_fault
+returns-in-ReadFault-clause-write_fault g c = still (λ e. cc) c.in-ReadFault.ensures.reads.write_faults
+
+pub returns-in-Ok-clause-read_fault : goal.returns-in-Ok-clause-read_fault
+returns-in-Ok-clause-read_fault g c = still (λ e. cc) (c.in-Ok.ensures.read_faults ∙ c.in-Refused.ensures.reads.cause.other (λ e. cc))
+
+pub returns-in-Ok-clause-write_fault : goal.returns-in-Ok-clause-write_fault
+returns-in-Ok-clause-write_fault g c = still (λ e. cc) (c.in-Ok.ensures.cause.quiet ∙ c.in-Refused.ensures.reads.write_faults)
+
+pub returns-in-Ok-clause-same_link : goal.returns-in-Ok-clause-same_link
+returns-in-Ok-clause-same_link g c = g.met.C.Source.same_trans _ _ _ c.in-Refused.ensures.reads.same c.in-Ok.ensures.same
+
+pub returns-in-Err-clause-read_fault : goal.returns-in-Err-clause-read_fault
+returns-in-Err-clause-read_fault g c = still (λ e. cc) (c.in-Err.ensures.read_faults ∙ c.in-Refused.ensures.reads.cause.other (λ e. cc))
+
+pub returns-in-Err-clause-write_fault : goal.returns-in-Err-clause-write_fault
+returns-in-Err-clause-write_fault g c = rises refl c.in-Refused.ensures.reads.write_faults c.in-Err.ensures.cause.failed
+
+pub returns-in-Err-clause-same_link : goal.returns-in-Err-clause-same_link
+returns-in-Err-clause-same_link g c = g.met.C.Source.same_trans _ _ _ c.in-Refused.ensures.reads.same c.in-Err.ensures.same
+
+pub returns-in-Err-keep_group-clause-read_fault : goal.returns-in-Err-keep_group-clause-read_fault
+returns-in-Err-keep_group-clause-read_fault g c = still (λ e. cc) (c.in-Answered.ensures.reads.cause.other (λ e. cc))
+
+pub returns-in-Err-keep_group-clause-write_fault : goal.returns-in-Err-keep_group-clause-write_fault
+returns-in-Err-keep_group-clause-write_fault g c = still (λ e. cc) c.in-Answered.ensures.reads.write_faults
+
+pub returns-in-Err-keep_group-clause-journal_fault : goal.returns-in-Err-keep_group-clause-journal_fault
+returns-in-Err-keep_group-clause-journal_fault g c = rises refl refl c.in-Err-keep_group.ensures.cause.failed
+
+pub returns-in-Ok-send-clause-read_fault : goal.returns-in-Ok-send-clause-read_fault
+returns-in-Ok-send-clause-read_fault g c = still (λ e. cc) (c.in-Ok-send.ensures.read_faults ∙ c.in-Answered.ensures.reads.cause.other (λ e. cc))
+
+pub returns-in-Ok-send-clause-write_fault : goal.returns-in-Ok-send-clause-write_fault
+returns-in-Ok-send-clause-write_fault g c = still (λ e. cc) (c.in-Ok-send.ensures.cause.quiet ∙ c.in-Answered.ensures.reads.write_faults)
+
+pub returns-in-Ok-send-clause-same_link : goal.returns-in-Ok-send-clause-same_link
+returns-in-Ok-send-clause-same_link g c = g.met.C.Source.same_trans _ _ _ c.in-Answered.ensures.reads.same c.in-Ok-send.ensures.same
+
+pub returns-in-Ok-send-clause-journal_fault : goal.returns-in-Ok-send-clause-journal_fault
+returns-in-Ok-send-clause-journal_fault g c = still (λ e. cc) c.in-Ok-keep_group.ensures.cause.quiet
+
+pub returns-in-Err-send-clause-read_fault : goal.returns-in-Err-send-clause-read_fault
+returns-in-Err-send-clause-read_fault g c = still (λ e. cc) (c.in-Err-send.ensures.read_faults ∙ c.in-Answered.ensures.reads.cause.other (λ e. cc))
+
+pub returns-in-Err-send-clause-write_fault : goal.returns-in-Err-send-clause-write_fault
+returns-in-Err-send-clause-write_fault g c = rises refl c.in-Answered.ensures.reads.write_faults c.in-Err-send.ensures.cause.failed
+
+pub returns-in-Err-send-clause-same_link : goal.returns-in-Err-send-clause-same_link
+returns-in-Err-send-clause-same_link g c = g.met.C.Source.same_trans _ _ _ c.in-Answered.ensures.reads.same c.in-Err-send.ensures.same
+
+pub returns-in-Err-send-clause-journal_fault : goal.returns-in-Err-send-clause-journal_fault
+returns-in-Err-send-clause-journal_fault g c = still (λ e. cc) c.in-Ok-keep_group.ensures.cause.quiet
