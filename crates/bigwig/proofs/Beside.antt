@@ -9,8 +9,8 @@ use Rattle.bw_journal.specs.Saved.{saved_head}
 use Rattle.bw_keeping.specs.Answered.{AreAnswered, Between as Stage, Exchange, IsAnswered, at_link, backs_of}
 use Rattle.bw_keeping.specs.Served.{Serves, view}
 use Rattle.bw_keeping.specs.declared.ended.Ended.{Ended}
-use Rattle.bw_keeping.specs.declared.recalling.Recalled.{Recalled}
-use Rattle.bw_keeping.specs.declared.recalling.Recalled.TheVariants as recalled
+use Rattle.bw_recall.specs.declared.recalling.Recalled.{Recalled}
+use Rattle.bw_recall.specs.declared.recalling.Recalled.TheVariants as recalled
 use Rattle.bw_lang.specs.declared.service.Service.{Service}
 use Rattle.bw_model.specs.Sessions.{World}
 use Rattle.bw_out.specs.Causes.{Rose}

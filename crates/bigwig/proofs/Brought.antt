@@ -6,15 +6,15 @@ use Rattle.bw_journal.specs.Heads.{head_of}
 use Rattle.bw_journal.specs.Layout.{Entry}
 use Rattle.bw_journal.specs.Reading.{IsCut}
 use Rattle.bw_journal.specs.Starts.{FitsOrigin, Origin, head_from, sum_from}
-use Rattle.bw_keeping.specs.Bringing.{Brings}
-use Rattle.bw_keeping.specs.Recalling.{Recalls, Stands}
-use Rattle.bw_keeping.specs.Starting.{IsRecalledFrom}
-use Rattle.bw_keeping.specs.Windows.{Hand}
-use Rattle.bw_keeping.specs.declared.recalling.Recalled.{Recalled}
-use Rattle.bw_keeping.specs.declared.recalling.Recalled.TheVariants as recalled
-use Rattle.bw_keeping.specs.declared.starting.Mark.{Mark}
-use Rattle.bw_keeping.proofs.Begun.{recalled_from}
-use Rattle.bw_keeping.proofs.Bringing.{brings_keep_sound, brings_keep_within}
+use Rattle.bw_bringing.specs.Bringing.{Brings}
+use Rattle.bw_recall.specs.Recalling.{Recalls, Stands}
+use Rattle.bw_recall.specs.Starting.{IsRecalledFrom}
+use Rattle.bw_recall.specs.Windows.{Hand}
+use Rattle.bw_recall.specs.declared.recalling.Recalled.{Recalled}
+use Rattle.bw_recall.specs.declared.recalling.Recalled.TheVariants as recalled
+use Rattle.bw_recall.specs.declared.starting.Mark.{Mark}
+use Rattle.bw_recall.proofs.Begun.{recalled_from}
+use Rattle.bw_bringing.proofs.Bringing.{brings_keep_sound, brings_keep_within}
 use Rattle.bw_lang.specs.declared.service.Service.{Service}
 use Rattle.bw_lang.specs.declared.text.Memory.{Memory}
 use Rattle.bw_model.specs.Sessions.{World, empty}

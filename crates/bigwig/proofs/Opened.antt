@@ -4,13 +4,13 @@ use Rattle.std.proofs.Common.{refl, sym, ap, ◌∙◌, subst, inl, inr, arith}
 use Rattle.bw_format.specs.declared.format.Format.{Format}
 use Rattle.bw_journal.specs.Heads.{saved_front}
 use Rattle.bw_journal.specs.Starts.{nothing, saved}
-use Rattle.bw_keeping.specs.Starting.{IsStarted}
-use Rattle.bw_keeping.specs.Windows.{Hand}
-use Rattle.bw_keeping.specs.declared.recalling.Recalled.{Recalled}
-use Rattle.bw_keeping.specs.declared.recalling.Recalled.TheVariants as recalled
-use Rattle.bw_keeping.specs.declared.starting.Mark.{Mark}
-use Rattle.bw_keeping.specs.declared.starting.Started.{Started}
-use Rattle.bw_keeping.specs.declared.starting.Started.TheVariants as started
+use Rattle.bw_recall.specs.Starting.{IsStarted}
+use Rattle.bw_recall.specs.Windows.{Hand}
+use Rattle.bw_recall.specs.declared.recalling.Recalled.{Recalled}
+use Rattle.bw_recall.specs.declared.recalling.Recalled.TheVariants as recalled
+use Rattle.bw_recall.specs.declared.starting.Mark.{Mark}
+use Rattle.bw_recall.specs.declared.starting.Started.{Started}
+use Rattle.bw_recall.specs.declared.starting.Started.TheVariants as started
 use Rattle.bw_lang.specs.declared.service.Service.{Service}
 use Rattle.bw_model.specs.Sessions.{empty}
 use Rattle.bw_out.specs.Causes.{Rose}

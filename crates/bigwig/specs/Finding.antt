@@ -4,13 +4,13 @@ use Rattle.bw_journal.specs.Heads.{head_of, start_sum}
 use Rattle.bw_journal.specs.Reading.{IsCut}
 use Rattle.bw_journal.specs.Saved.{saved_head, saved_start}
 use Rattle.bw_journal.specs.Starts.{FitsOrigin, Origin}
-use Rattle.bw_keeping.specs.Starting.{IsBehind}
-use Rattle.bw_keeping.specs.Windows.{Hand}
-use Rattle.bw_keeping.specs.declared.starting.Mark.{Mark}
+use Rattle.bw_recall.specs.Starting.{IsBehind}
+use Rattle.bw_recall.specs.Windows.{Hand}
+use Rattle.bw_recall.specs.declared.starting.Mark.{Mark}
 use Rattle.bw_model.specs.Sessions.{World, empty}
 use Rattle.bw_out.specs.Doors.{Returned}
-use Rattle.bw_keeping.specs.declared.recalling.Recalled.{Recalled}
-use Rattle.bw_keeping.specs.declared.recalling.Recalled.TheVariants as recalled
+use Rattle.bw_recall.specs.declared.recalling.Recalled.{Recalled}
+use Rattle.bw_recall.specs.declared.recalling.Recalled.TheVariants as recalled
 use Rattle.bw_save.specs.Frozen.{loaded_of, saved_of}
 use Rattle.bw_save.specs.Onward.{IsFileAgain}
 use Rattle.bw_stable.specs.Deeds.{Deed, cut, kept}

@@ -1,7 +1,7 @@
 -- The line of a journal that is refused.
 use Rattle.std.specs.Prelude.{List, [], ℕ, ◌++◌, codes, decimal}
-use Rattle.bw_keeping.specs.declared.recalling.Recalled.{Recalled}
-use Rattle.bw_keeping.specs.declared.recalling.Recalled.TheVariants as recalled
+use Rattle.bw_recall.specs.declared.recalling.Recalled.{Recalled}
+use Rattle.bw_recall.specs.declared.recalling.Recalled.TheVariants as recalled
 
 -- why a journal is refused
 abbrev pub journal_line : Recalled → List ℕ

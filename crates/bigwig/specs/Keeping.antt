@@ -22,11 +22,11 @@ use Rattle.bw_world.specs.Streams.Answers.{between}
 use Rattle.bw_out.specs.Doors.{Returned, Asks, MayAsk}
 use Rattle.bw_out.specs.Told.{Coming}
 use Rattle.bw_out.specs.Writes.{AppendsPart}
-use Rattle.bw_keeping.specs.Bringing.{Brings}
-use Rattle.bw_keeping.specs.Recalling.{IsWrong}
-use Rattle.bw_keeping.specs.Starting.{HasNoStart, HasNoWorld}
-use Rattle.bw_keeping.specs.declared.recalling.Recalled.{Recalled}
-use Rattle.bw_keeping.specs.declared.recalling.Recalled.TheVariants as recalled
+use Rattle.bw_bringing.specs.Bringing.{Brings}
+use Rattle.bw_recall.specs.Recalling.{IsWrong}
+use Rattle.bw_recall.specs.Starting.{HasNoStart, HasNoWorld}
+use Rattle.bw_recall.specs.declared.recalling.Recalled.{Recalled}
+use Rattle.bw_recall.specs.declared.recalling.Recalled.TheVariants as recalled
 use Rattle.bw_save.specs.Frozen.{saved_of}
 use Rattle.bw_save.specs.Onward.{IsFileAgain, IsNoFile}
 use Rattle.bw_stable.specs.Deeds.{Deed, cut, kept}

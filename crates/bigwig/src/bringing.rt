@@ -15,10 +15,10 @@ ghost use Rattle.bigwig.specs.Fits.{IsFitStart};
 use crate::journal_lines::journal_line;
 use crate::origins::{BegunServer, begin_reading};
 use crate::server::Server;
-use bw_keeping::{Mark, Reader, Recalled, recall_behind};
 use bw_lang::Memory;
 use bw_out::{Failed, Files, Source, Steps};
 use bw_questions::{Refusal, Served, Stop, refused};
+use bw_recall::{Mark, Reader, Recalled, recall_behind};
 use std::alloc::Global;
 use std::sync::ledger::Ledger;
 

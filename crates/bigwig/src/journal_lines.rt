@@ -2,9 +2,9 @@
 ghost use Rattle.std.specs.Prelude.{◌≡◌, IfOk};
 ghost use Rattle.bigwig.specs.JournalLines as spec;
 
-use bw_keeping::Recalled;
 use bw_lang::Memory;
 use bw_questions::placed;
+use bw_recall::Recalled;
 use std::alloc::Global;
 
 /// Why a journal is refused.

@@ -3,10 +3,10 @@ ghost use Rattle.std.specs.Prelude.{◌≡◌, ◌≤◌, ◌<◌, ◌+◌, ◌^
 ghost use Rattle.std.specs.declared.option.Option.{Option};
 ghost use Rattle.bw_journal.specs.Heads.{head_of, saved_front};
 ghost use Rattle.bw_journal.specs.declared.limits.TheConstants.{MAX_ENTRY_BYTES};
-ghost use Rattle.bw_keeping.specs.Starting.{IsMarked, IsStarted};
-ghost use Rattle.bw_keeping.specs.Windows.{Hand, fresh};
-ghost use Rattle.bw_keeping.specs.declared.recalling.Recalled.TheVariants as damaged;
-ghost use Rattle.bw_keeping.specs.declared.window.TheConstants.{MAX_TEXT_BYTES};
+ghost use Rattle.bw_recall.specs.Starting.{IsMarked, IsStarted};
+ghost use Rattle.bw_recall.specs.Windows.{Hand, fresh};
+ghost use Rattle.bw_recall.specs.declared.recalling.Recalled.TheVariants as damaged;
+ghost use Rattle.bw_recall.specs.declared.window.TheConstants.{MAX_TEXT_BYTES};
 ghost use Rattle.bw_model.specs.Sessions.{empty};
 ghost use Rattle.bw_out.specs.Sends.{Takes};
 ghost use Rattle.bw_questions.specs.Asked.{Ruled};
@@ -20,10 +20,10 @@ use crate::bringing::stop_of;
 use crate::server::Server;
 use crate::thawing::thawed_server;
 use bw_journal::head_bytes;
-use bw_keeping::{Mark, Reader, Recalled, Started, read_start};
 use bw_lang::Memory;
 use bw_out::Source;
 use bw_questions::{Served, Stop};
+use bw_recall::{Mark, Reader, Recalled, Started, read_start};
 use std::alloc::Global;
 
 /// A server in the world at which a journal begins, and where its entries stand. There is no such place where nothing was kept yet.

@@ -25,14 +25,14 @@ use Rattle.bw_out.specs.Told.{AreWords, Draws}
 use Rattle.bw_world.specs.Handled.{Handles}
 use Rattle.bw_world.specs.Streams.Answers.{Place, IsAt}
 use Rattle.bw_world.proofs.Streams.Messages.{request_taken}
-use Rattle.bw_keeping.specs.Bringing.{Sends}
+use Rattle.bw_bringing.specs.Bringing.{Sends}
 use Rattle.bw_keeping.specs.Entering.{IsEntered, nothing, kept}
 use Rattle.bw_keeping.specs.Groups.{Grouped, Grows, IsKept}
 use Rattle.bw_world.specs.Streams.Taking.{Taking, without_request}
 use Rattle.bw_keeping.specs.Taking.{TakesFrom, Takes}
 use Rattle.bw_world.specs.declared.outcomes.Taken.{Taken}
 use Rattle.bw_world.specs.declared.outcomes.Taken.TheVariants as takens
-use Rattle.bw_keeping.proofs.Messages.{cut_more, cut_off, one_cut}
+use Rattle.bw_bringing.proofs.Messages.{cut_more, cut_off, one_cut}
 
 -- ---- the message that was noted
 

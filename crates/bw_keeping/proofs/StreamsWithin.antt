@@ -7,7 +7,7 @@ use Rattle.bw_model.specs.Runs.{At, Stops, ended, refused}
 use Rattle.bw_model.specs.Within.{AreWithin}
 use Rattle.bw_model.proofs.Storing.{turn_within}
 use Rattle.bw_world.specs.Streams.Answers.{Place}
-use Rattle.bw_keeping.specs.StreamLaws.{StreamsKeepWithin}
+use Rattle.bw_keeping.specs.StreamsWithin.{StreamsKeepWithin}
 use Rattle.bw_keeping.specs.Streamed.{AreHandled, IsOver, Message}
 use Rattle.bw_keeping.specs.declared.ended.StreamEnded.{StreamEnded}
 use Rattle.bw_keeping.specs.declared.ended.StreamEnded.TheVariants.{Ended, ReadFault, WriteFault, JournalFault}

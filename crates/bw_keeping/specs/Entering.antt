@@ -8,7 +8,7 @@ use Rattle.bw_model.specs.Guards.{IsGuarded}
 use Rattle.bw_model.specs.Laws.{is_page}
 use Rattle.bw_model.specs.Runs.{At}
 use Rattle.bw_model.specs.Steps.{Step}
-use Rattle.bw_keeping.specs.Bringing.{Sends}
+use Rattle.bw_bringing.specs.Bringing.{Sends}
 
 -- what is kept of a message between two places of its stream: nothing where the world stays as it was, and its bytes with
 -- its key where it is answered by a page

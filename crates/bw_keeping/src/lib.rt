@@ -1,13 +1,9 @@
-//! A service beside a journal: its world is brought back, and links are served (`serve_kept`), or the messages of one stream
-//! answered (`answer_kept`), so that what is kept of a message is in the journal before a byte of its reply is sent.
+//! A service beside a journal: links are served (`serve_kept`), or the messages of one stream answered (`answer_kept`), so that
+//! what is kept of a message is in the journal before a byte of its reply is sent.
 //!
 //! **What is kept.** A journal keeps of each request that a page answered the bytes of its message and the key that was
 //! drawn for it. A request is one step of the world by its key, so these entries, one after another, bring about the world
-//! again. Each other reply leaves the world as it was, and nothing of its request is kept.
-//!
-//! **Where it begins.** A journal begins at the world in which nothing was requested yet, or at a saved one, whose bytes it
-//! holds (`read_start`). A saved world is loaded by the caller, and the entries behind it are handled from there on
-//! (`recall_behind`).
+//! again (`recall_behind` of `bw_recall`). Each other reply leaves the world as it was, and nothing of its request is kept.
 //!
 //! **Groups.** A link that came waits with its reply until no further link is at hand, or until as many wait as may be. Then
 //! what is kept of all of them goes into the journal in one piece, and they are sent their replies in the order in which
@@ -25,28 +21,22 @@ pub mod doors;
 pub mod ended;
 mod flushing;
 mod group;
-mod handling;
 pub mod laws;
 pub mod lent;
 mod notes;
-mod recalling;
 mod replying;
 mod room;
 mod serving;
-mod starting;
 mod streaming;
 mod taking;
 mod waiting;
-mod window;
 
 pub use doors::WideDoor;
 pub use ended::{Ended, StreamEnded};
 pub use group::Group;
 pub use lent::{Handler, StreamRoom};
 pub use notes::Notes;
-pub use recalling::{Recalled, recall_behind};
 pub use room::Room;
 pub use serving::serve_kept;
-pub use starting::{Mark, Reader, Started, read_start};
 pub use streaming::answer_kept;
 pub use taking::take_kept;

@@ -1,7 +1,7 @@
 use Rattle.std.proofs.Common.{None, Some, Err, length, refl, ap, subst}
 use Rattle.bw_journal.specs.Heads.{saved_front}
-use Rattle.bw_keeping.specs.Starting.{IsMarked}
-use Rattle.bw_keeping.specs.declared.recalling.Recalled.TheVariants as recalled
+use Rattle.bw_recall.specs.Starting.{IsMarked}
+use Rattle.bw_recall.specs.declared.recalling.Recalled.TheVariants as recalled
 use Rattle.bigwig.proofs.Opened.{begins_empty, begins_new, damaged_stops, empty_reads, empty_stops, fit_begun, free_stops, near_begun, other_stops}
 use Rattle.bigwig.proofs.Opened.{saved_begun, saved_stops, told_reads, version_stops}
 use Rattle.bigwig.proofs.origins.begin_at.Goals as goal

@@ -1,6 +1,6 @@
 use Rattle.std.proofs.Common.{ℕ, sym, subst, ◌∙◌}
 use Rattle.bw_journal.proofs.HeadParts.{length-front_of, length-head}
-use Rattle.bw_keeping.specs.declared.recalling.Recalled.TheVariants as recalled
+use Rattle.bw_recall.specs.declared.recalling.Recalled.TheVariants as recalled
 use Rattle.bigwig.specs.Finding.{IsToldBy}
 use Rattle.bigwig.proofs.origins.unloaded.Goals as goal
 

@@ -1,5 +1,0 @@
-use Rattle.bw_keeping.proofs.LinksBring.{answered_bring, answered_fit}
-use Rattle.bw_keeping.proofs.laws.answered_bring.Goals as goal
-
-pub returns : goal.returns
-returns c = record { bring = answered_bring; fit = answered_fit }

@@ -1,8 +1,0 @@
-use Rattle.bw_keeping.proofs.Bringing.{between, in_parts}
-use Rattle.bw_keeping.proofs.laws.brings_in_parts.Goals as goal
-
-pub returns-clause-parts : goal.returns-clause-parts
-returns-clause-parts c = between
-
-pub returns-clause-whole : goal.returns-clause-whole
-returns-clause-whole c = in_parts

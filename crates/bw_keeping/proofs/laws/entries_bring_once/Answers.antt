@@ -1,5 +1,0 @@
-use Rattle.bw_keeping.proofs.Bringing.{brings_once}
-use Rattle.bw_keeping.proofs.laws.entries_bring_once.Goals as goal
-
-pub returns : goal.returns
-returns c = brings_once

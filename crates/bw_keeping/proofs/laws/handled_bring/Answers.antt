@@ -1,5 +1,0 @@
-use Rattle.bw_keeping.proofs.StreamsSurvive.{handled_bring, handled_fit}
-use Rattle.bw_keeping.proofs.laws.handled_bring.Goals as goal
-
-pub returns : goal.returns
-returns c = record { bring = handled_bring; fit = handled_fit }

@@ -1,5 +1,0 @@
-use Rattle.bw_keeping.proofs.Parting.{kept_in_parts, pieces_are_groups}
-use Rattle.bw_keeping.proofs.laws.pieces_are_groups.Goals as goal
-
-pub returns : goal.returns
-returns c = record { groups = pieces_are_groups; parts = kept_in_parts }

@@ -1,5 +1,0 @@
-use Rattle.bw_keeping.proofs.Restarting.{restarts_go_on}
-use Rattle.bw_keeping.proofs.laws.restarts_go_on.Goals as goal
-
-pub returns : goal.returns
-returns c = restarts_go_on

@@ -1,5 +1,0 @@
-use Rattle.bw_keeping.proofs.StreamsSurvive.{kept_first_in_parts, streams_survive}
-use Rattle.bw_keeping.proofs.laws.streams_survive.Goals as goal
-
-pub returns : goal.returns
-returns c = record { parts = kept_first_in_parts; survive = streams_survive }

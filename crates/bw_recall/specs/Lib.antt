@@ -1,0 +1,3 @@
+pub mod Recalling
+pub mod Starting
+pub mod Windows

@@ -1,0 +1,5 @@
+pub mod Laws
+pub mod Restarts
+pub mod Rotating
+pub mod StreamLaws
+pub mod Surviving
