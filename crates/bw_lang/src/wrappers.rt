@@ -1,6 +1,7 @@
 //! The wrappers that documents are plugged into to become pages.
 ghost use Rattle.std.specs.Prelude.{◌≡◌, ◌∷◌, ◌<◌, ◌-◌, ◌^◌, [], codes, length, IfOk};
 ghost use Rattle.bw_lang.specs.Document.Forest.{none};
+ghost use Rattle.bw_lang.specs.Document.Forest as document;
 ghost use Rattle.bw_lang.specs.Document.View.{before};
 ghost use Rattle.bw_lang.specs.Document.Wrappers as spec;
 
@@ -43,14 +44,10 @@ pub fn page(alloc: Global, title: Item, body: Items) -> Result<Items, Memory>
 pub fn form(alloc: Global, target: AttrValue, mut items: Items) -> Result<Item, Memory>
     ensures { IfOk result (λ item. before item none ≡ spec.form target items) }
 {
-    let action = attr(alloc, "action", target)?;
-    let method = attr(alloc, "method", fixed(alloc, "post")?)?;
     items.push(button(alloc)?)?;
-    Ok(Item::Element(Element {
-        tag: Name::of(alloc, "form")?,
-        attrs: two_attrs(alloc, action, method)?,
-        items,
-    }))
+    let action = attr(alloc, "action", target)?;
+    let attrs = two_attrs(alloc, action, fixed(alloc, "method", "post")?)?;
+    element(alloc, "form", attrs, items)
 }
 
 /// The head of a page, with its title.
@@ -65,13 +62,9 @@ fn head(alloc: Global, title: Item) -> Result<Item, Memory>
 fn button(alloc: Global) -> Result<Item, Memory>
     ensures { IfOk result (λ item. before item none ≡ spec.button) }
 {
-    let kind = attr(alloc, "type", fixed(alloc, "submit")?)?;
-    let label = attr(alloc, "value", fixed(alloc, "Continue")?)?;
-    let input = Item::Element(Element {
-        tag: Name::of(alloc, "input")?,
-        attrs: two_attrs(alloc, kind, label)?,
-        items: Items::new(alloc),
-    });
+    let kind = fixed(alloc, "type", "submit")?;
+    let attrs = two_attrs(alloc, kind, fixed(alloc, "value", "Continue")?)?;
+    let input = element(alloc, "input", attrs, Items::new(alloc))?;
     plain(alloc, "p", Items::one(alloc, input)?)
 }
 
@@ -79,18 +72,25 @@ fn button(alloc: Global) -> Result<Item, Memory>
 fn plain(alloc: Global, tag: &str, items: Items) -> Result<Item, Memory>
     ensures { IfOk result (λ item. before item none ≡ spec.plain tag.now items) }
 {
+    element(alloc, tag, Attrs::new(alloc), items)
+}
+
+/// An element with these attributes.
+fn element(alloc: Global, tag: &str, attrs: Attrs, items: Items) -> Result<Item, Memory>
+    ensures { IfOk result (λ item. before item none ≡ document.element tag.now attrs items none) }
+{
     Ok(Item::Element(Element {
         tag: Name::of(alloc, tag)?,
-        attrs: Attrs::new(alloc),
+        attrs,
         items,
     }))
 }
 
-/// A fixed value of an attribute.
-fn fixed(alloc: Global, value: &str) -> Result<AttrValue, Memory>
-    ensures { IfOk result (λ v. v ≡ AttrValue.Fixed value.now) }
+/// An attribute with a fixed value.
+fn fixed(alloc: Global, name: &str, value: &str) -> Result<Attr, Memory>
+    ensures { IfOk result (λ a. a ≡ spec.attr name.now (AttrValue.Fixed value.now)) }
 {
-    Ok(AttrValue::Fixed(Text::of(alloc, value)?))
+    attr(alloc, name, AttrValue::Fixed(Text::of(alloc, value)?))
 }
 
 /// An attribute with this value.

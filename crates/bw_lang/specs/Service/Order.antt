@@ -1,9 +1,11 @@
 -- The order in which a service's declarations stand.
-use Rattle.std.specs.Prelude.{◌≡◌, List, [], ◌∷◌, map}
+use Rattle.std.specs.Prelude.{◌≡◌, List, [], ◌∷◌, drop, map}
 use Rattle.bw_lang.specs.declared.declaration.Declaration.{Declaration}
 use Rattle.bw_lang.specs.declared.declaration.Declaration.TheVariants as declarations
 use Rattle.bw_lang.specs.declared.declaration.Declared.{Declared}
 use Rattle.bw_lang.specs.declared.declaration.Declared.TheVariants as standing
+use Rattle.bw_lang.specs.declared.declaration.Lists.{Lists}
+use Rattle.bw_lang.specs.declared.declaration.Passed.{Passed}
 use Rattle.bw_lang.specs.declared.service.Service.{Service}
 use Rattle.bw_lang.specs.declared.service.Session.{Session}
 use Rattle.bw_lang.specs.declared.service.Shared.{Shared}
@@ -26,11 +28,23 @@ woven (sorts.Session ∷ order) ts vs (s ∷ ss) = declarations.Session s ∷ wo
 abbrev pub declarations_of : Service → List Declaration
 declarations_of service = woven service.order service.templates service.shared service.sessions
 
+-- those behind the first of each sort that were passed, in the order of these sorts
+abbrev pub rest_of : Service → Passed → List Sort → List Declaration
+rest_of service passed order =
+    woven order (drop passed.templates service.templates) (drop passed.shared service.shared) (drop passed.sessions service.sessions)
+
 -- the service's lists are those of its declarations
 pub record IsWoven (service : Service) : Type 0 where
   pub templates : templates_of (declarations_of service) ≡ service.templates
   pub shared : shared_of (declarations_of service) ≡ service.shared
   pub sessions : sessions_of (declarations_of service) ≡ service.sessions
+
+-- the lists are those of these declarations, by their sorts
+pub record AreListed (ds : List Declaration) (lists : Lists) : Type 0 where
+  pub order : lists.order.items ≡ map sort_of ds
+  pub templates : lists.templates.items ≡ templates_of ds
+  pub shared : lists.shared.items ≡ shared_of ds
+  pub sessions : lists.sessions.items ≡ sessions_of ds
 
 -- a declaration that stands in a service
 abbrev pub seen : Declared → Declaration
