@@ -5,6 +5,7 @@ pub mod ExactFields
 pub mod KnownTags
 pub mod Outlines
 pub mod ExactTops
+pub mod Filled
 pub mod Reaching
 pub mod Stays
 pub mod PairsNamed
