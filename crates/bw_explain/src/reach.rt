@@ -7,7 +7,7 @@ ghost use Rattle.bw_explain.specs.Walks as spec;
 use crate::sizes::{if_so, plus};
 
 /// The least sizes behind a part, in the states 0, 1 and 2.
-#[derive(Clone, Copy, Drop)]
+#[derive(Clone, Copy)]
 pub struct Reach {
     pub start: u32,
     pub middle: u32,
@@ -15,7 +15,7 @@ pub struct Reach {
 }
 
 /// What an item costs, from each state to each.
-#[derive(Clone, Copy, Drop)]
+#[derive(Clone, Copy)]
 pub struct Moves {
     pub start: u32,
     pub start_middle: u32,

@@ -41,14 +41,14 @@ pub struct Walk<'a> {
 }
 
 /// The sizes behind a part, and the number of elements up to its end.
-#[derive(Clone, Copy, Drop)]
+#[derive(Clone, Copy)]
 pub struct Behind {
     pub reach: Reach,
     pub place: u32,
 }
 
 /// What an item costs, and the number of elements up to its end.
-#[derive(Clone, Copy, Drop)]
+#[derive(Clone, Copy)]
 pub struct Step {
     pub moves: Moves,
     pub place: u32,

@@ -1,10 +1,87 @@
-use Rattle.std.proofs.Common.{ap, ◌∙◌}
-use Rattle.std.specs.List.{list_any}
-use Rattle.bw_explain.specs.Ways.{ways_at}
-use Rattle.bw_explain.specs.Building.{has_way, of_track, of_edge, of_label}
+use Rattle.std.proofs.Common.{◌≡◌, ℕ, zero, suc, ◌<◌, List, [], length, get_or, replicate, refl, ap, sym, ◌∙◌, subst}
+use Rattle.std.specs.List.{list_any, All}
+use Rattle.std.proofs.lemmas.List.{length-replicate}
+use Rattle.std.proofs.lemmas.List.Elements.{All-nil}
+use Rattle.bw_shape.specs.Nodes.Nodes.{Node}
+use Rattle.bw_strings.specs.declared.strings.StrSet.{StrSet}
+use Rattle.bw_explain.specs.Ways.{Way, ways_at}
+use Rattle.bw_explain.specs.Building.{AreMade, made, has_way, of_track, of_edge, of_label}
 use Rattle.bw_explain.proofs.Tying.{ways_tie}
 use Rattle.std.proofs.lemmas.Bool.{or_left, or_right}
 use Rattle.bw_explain.proofs.building.ways_of.Goals as goal
+
+-- what is below one bound is below an equal one, in an equal list
+low : {A : Type 0} {rows k : ℕ} {xs ys : List A} (f : A → ℕ) → k ≡ rows → ys ≡ xs → All (λ x. f x < rows) xs → All (λ x. f x < k) ys
+low {rows = rows} {ys = ys} f e h all = subst (λ n. All (λ x. f x < n) ys) (sym e) (subst (All (λ x. f x < rows)) (sym h) all)
+
+empty_at : (rows n : ℕ) → get_or {A = List Way} (replicate rows []) n [] ≡ []
+empty_at zero n = refl
+empty_at (suc rows) zero = refl
+empty_at (suc rows) (suc n) = empty_at rows n
+
+made_none : (literals : List (List ℕ)) (nodes : List Node) (said : List (List (ℕ × StrSet))) (list : List (List Way)) (rows : ℕ)
+    → list ≡ replicate rows [] → AreMade literals nodes said list
+made_none literals nodes said list rows e n =
+    subst (All (λ w. w ≡ made literals nodes said n w.at)) (sym (ap (λ l. ways_at l n) e ∙ empty_at rows n))
+    (All-nil (λ w. w ≡ made literals nodes said n w.at))
+
+pub add_tracks-requires-clause-rows : goal.add_tracks-requires-clause-rows
+add_tracks-requires-clause-rows c =
+    low (λ t. t.1) (ap length c.in_ok-list.ensures ∙ length-replicate {A = List Way} c.len.result [] ∙ c.len.ensures ∙ c.args.graphed.now.nodes.ok.0) c.as_slice.ensures.value
+    c.requires.tracks
+
+pub add_tracks-requires-clause-nodes : goal.add_tracks-requires-clause-nodes
+add_tracks-requires-clause-nodes c = sym (ap length c.in_ok-list.ensures ∙ length-replicate {A = List Way} c.len.result [] ∙ c.len.ensures ∙ c.args.graphed.now.nodes.ok.0)
+
+pub add_tracks-requires-clause-said : goal.add_tracks-requires-clause-said
+add_tracks-requires-clause-said c =
+    c.requires.said ∙ sym (ap length c.in_ok-list.ensures ∙ length-replicate {A = List Way} c.len.result [] ∙ c.len.ensures ∙ c.args.graphed.now.nodes.ok.0)
+
+pub add_tracks-requires-clause-made : goal.add_tracks-requires-clause-made
+add_tracks-requires-clause-made c = made_none _ _ _ _ c.len.result c.in_ok-list.ensures
+
+pub add_edges-requires-clause-rows : goal.add_edges-requires-clause-rows
+add_edges-requires-clause-rows c =
+    low (λ t. t.0)
+    (c.in_ok-add_tracks.ensures.more.len ∙ ap length c.in_ok-list.ensures ∙ length-replicate {A = List Way} c.len.result [] ∙ c.len.ensures ∙ c.args.graphed.now.nodes.ok.0)
+    c.as_slice-2.ensures.value c.requires.edges
+
+pub add_edges-requires-clause-nodes : goal.add_edges-requires-clause-nodes
+add_edges-requires-clause-nodes c =
+    sym (c.in_ok-add_tracks.ensures.more.len ∙ ap length c.in_ok-list.ensures ∙ length-replicate {A = List Way} c.len.result [] ∙ c.len.ensures ∙ c.args.graphed.now.nodes.ok.0)
+
+pub add_edges-requires-clause-said : goal.add_edges-requires-clause-said
+add_edges-requires-clause-said c =
+    c.requires.said
+    ∙ sym (c.in_ok-add_tracks.ensures.more.len ∙ ap length c.in_ok-list.ensures ∙ length-replicate {A = List Way} c.len.result [] ∙ c.len.ensures ∙ c.args.graphed.now.nodes.ok.0)
+
+pub add_edges-requires-clause-made : goal.add_edges-requires-clause-made
+add_edges-requires-clause-made c = c.in_ok-add_tracks.ensures.made
+
+pub add_labels-requires-clause-rows : goal.add_labels-requires-clause-rows
+add_labels-requires-clause-rows c =
+    low (λ t. t.0.0)
+    (c.in_ok-add_edges.ensures.more.len ∙ c.in_ok-add_tracks.ensures.more.len ∙ ap length c.in_ok-list.ensures
+    ∙ length-replicate {A = List Way} c.len.result [] ∙ c.len.ensures ∙ c.args.graphed.now.nodes.ok.0) c.as_slice-3.ensures.value c.requires.labels
+
+pub add_labels-requires-clause-nodes : goal.add_labels-requires-clause-nodes
+add_labels-requires-clause-nodes c =
+    sym (c.in_ok-add_edges.ensures.more.len ∙ c.in_ok-add_tracks.ensures.more.len ∙ ap length c.in_ok-list.ensures
+    ∙ length-replicate {A = List Way} c.len.result [] ∙ c.len.ensures ∙ c.args.graphed.now.nodes.ok.0)
+
+pub add_labels-requires-clause-said : goal.add_labels-requires-clause-said
+add_labels-requires-clause-said c =
+    c.requires.said
+    ∙ sym (c.in_ok-add_edges.ensures.more.len ∙ c.in_ok-add_tracks.ensures.more.len ∙ ap length c.in_ok-list.ensures
+    ∙ length-replicate {A = List Way} c.len.result [] ∙ c.len.ensures ∙ c.args.graphed.now.nodes.ok.0)
+
+pub add_labels-requires-clause-made : goal.add_labels-requires-clause-made
+add_labels-requires-clause-made c = c.in_ok-add_edges.ensures.made
+
+pub returns-clause-len : goal.returns-clause-len
+returns-clause-len c =
+    c.in_ok-add_labels.ensures.more.len ∙ c.in_ok-add_edges.ensures.more.len ∙ c.in_ok-add_tracks.ensures.more.len ∙ ap length c.in_ok-list.ensures
+    ∙ length-replicate {A = List Way} c.len.result [] ∙ c.len.ensures ∙ c.args.graphed.now.nodes.ok.0
 
 pub returns-clause-ties : goal.returns-clause-ties
 returns-clause-ties c =

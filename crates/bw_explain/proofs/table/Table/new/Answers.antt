@@ -1,0 +1,36 @@
+use Rattle.std.proofs.Common.{◌≡◌, ℕ, zero, suc, ◌+◌, ◌≤◌, List, [], ◌∷◌, ◌++◌, length, get_or, replicate, ap, sym, ◌∙◌, subst, arith}
+use Rattle.std.proofs.lemmas.List.{replicate_more, length-replicate}
+use Rattle.bw_lang.specs.Document.Forest.{none}
+use Rattle.bw_explain.specs.declared.sizes.TheConstants.{NONE}
+use Rattle.bw_explain.proofs.table.Table.new.Goals as goal
+
+-- a filled list with one more, and one with as many as were asked
+one_more : {X : Type 0} (n : ℕ) (y : X) {ys zs : List X} {x : X} → zs ≡ ys ++ x ∷ [] → ys ≡ replicate n y → x ≡ y → zs ≡ replicate (n + 1) y
+one_more n y {x = x} e h k = e ∙ ap (λ xs. xs ++ x ∷ []) h ∙ ap (λ z. replicate n y ++ z ∷ []) k ∙ replicate_more n y
+
+as_many : {X : Type 0} (n m : ℕ) (y : X) {ys : List X} → ys ≡ replicate n y → m ≤ n → n ≤ m → ys ≡ replicate m y
+as_many n m y h low high = h ∙ ap (λ k. replicate k y) (omega (arith, low, high))
+
+most_at : (count n past : ℕ) → past ≤ NONE → get_or (replicate count NONE) n past ≤ NONE
+most_at zero n past h = h
+most_at (suc count) zero past h = omega arith
+most_at (suc count) (suc n) past h = most_at count n past h
+
+pub loop-preserved : goal.loop-preserved
+loop-preserved c = one_more _ _ c.in_ok-push.ensures.items c.loop.invariant c.new.ensures
+
+pub invariant_of-result : goal.invariant_of-result
+invariant_of-result c =
+    let docs = as_many _ _ _ c.loop.invariant c.loop-test.false c.loop.auto.counter-end in
+    let sizes = c.in_ok-vec.ensures.items_if_clones_equal (λ y e. e) in
+    record {
+      long = ap length docs ∙ length-replicate c.args.count none ∙ sym (ap length sizes ∙ length-replicate c.args.count NONE);
+      most = λ n. subst (λ xs. get_or xs n c.args.past ≤ NONE) (sym sizes) (most_at c.args.count n c.args.past c.requires);
+      beyond = c.requires;
+    }
+
+pub returns : goal.returns
+returns c =
+    let docs = as_many _ _ _ c.loop.invariant c.loop-test.false c.loop.auto.counter-end in
+    let sizes = c.in_ok-vec.ensures.items_if_clones_equal (λ y e. e) in
+    λ i. record { past = c.args.past; sizes = sizes i; docs = docs i }
