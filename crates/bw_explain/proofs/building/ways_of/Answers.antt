@@ -14,6 +14,11 @@ use Rattle.bw_explain.proofs.building.ways_of.Goals as goal
 low : {A : Type 0} {rows k : ℕ} {xs ys : List A} (f : A → ℕ) → k ≡ rows → ys ≡ xs → All (λ x. f x < rows) xs → All (λ x. f x < k) ys
 low {rows = rows} {ys = ys} f e h all = subst (λ n. All (λ x. f x < n) ys) (sym e) (subst (All (λ x. f x < rows)) (sym h) all)
 
+-- as many templates as there are nodes
+begun_len : {rows : ℕ} {list : List (List Way)} (k : ℕ) → list ≡ replicate k [] → k ≡ rows → length list ≡ rows
+begun_len k e h = ap length e ∙ length-replicate {A = List Way} k [] ∙ h
+
+-- none of them has a way
 empty_at : (rows n : ℕ) → get_or {A = List Way} (replicate rows []) n [] ≡ []
 empty_at zero n = refl
 empty_at (suc rows) zero = refl
@@ -27,15 +32,15 @@ made_none literals nodes said list rows e n =
 
 pub add_tracks-requires-clause-rows : goal.add_tracks-requires-clause-rows
 add_tracks-requires-clause-rows c =
-    low (λ t. t.1) (ap length c.in_ok-list.ensures ∙ length-replicate {A = List Way} c.len.result [] ∙ c.len.ensures ∙ c.args.graphed.now.nodes.ok.0) c.as_slice.ensures.value
+    low (λ t. t.1) (begun_len c.len.result c.in_ok-list.ensures (c.len.ensures ∙ c.args.graphed.now.nodes.ok.0)) c.as_slice.ensures.value
     c.requires.tracks
 
 pub add_tracks-requires-clause-nodes : goal.add_tracks-requires-clause-nodes
-add_tracks-requires-clause-nodes c = sym (ap length c.in_ok-list.ensures ∙ length-replicate {A = List Way} c.len.result [] ∙ c.len.ensures ∙ c.args.graphed.now.nodes.ok.0)
+add_tracks-requires-clause-nodes c = sym (begun_len c.len.result c.in_ok-list.ensures (c.len.ensures ∙ c.args.graphed.now.nodes.ok.0))
 
 pub add_tracks-requires-clause-said : goal.add_tracks-requires-clause-said
 add_tracks-requires-clause-said c =
-    c.requires.said ∙ sym (ap length c.in_ok-list.ensures ∙ length-replicate {A = List Way} c.len.result [] ∙ c.len.ensures ∙ c.args.graphed.now.nodes.ok.0)
+    c.requires.said ∙ sym (begun_len c.len.result c.in_ok-list.ensures (c.len.ensures ∙ c.args.graphed.now.nodes.ok.0))
 
 pub add_tracks-requires-clause-made : goal.add_tracks-requires-clause-made
 add_tracks-requires-clause-made c = made_none _ _ _ _ c.len.result c.in_ok-list.ensures
@@ -43,17 +48,17 @@ add_tracks-requires-clause-made c = made_none _ _ _ _ c.len.result c.in_ok-list.
 pub add_edges-requires-clause-rows : goal.add_edges-requires-clause-rows
 add_edges-requires-clause-rows c =
     low (λ t. t.0)
-    (c.in_ok-add_tracks.ensures.more.len ∙ ap length c.in_ok-list.ensures ∙ length-replicate {A = List Way} c.len.result [] ∙ c.len.ensures ∙ c.args.graphed.now.nodes.ok.0)
+    (c.in_ok-add_tracks.ensures.more.len ∙ begun_len c.len.result c.in_ok-list.ensures (c.len.ensures ∙ c.args.graphed.now.nodes.ok.0))
     c.as_slice-2.ensures.value c.requires.edges
 
 pub add_edges-requires-clause-nodes : goal.add_edges-requires-clause-nodes
 add_edges-requires-clause-nodes c =
-    sym (c.in_ok-add_tracks.ensures.more.len ∙ ap length c.in_ok-list.ensures ∙ length-replicate {A = List Way} c.len.result [] ∙ c.len.ensures ∙ c.args.graphed.now.nodes.ok.0)
+    sym (c.in_ok-add_tracks.ensures.more.len ∙ begun_len c.len.result c.in_ok-list.ensures (c.len.ensures ∙ c.args.graphed.now.nodes.ok.0))
 
 pub add_edges-requires-clause-said : goal.add_edges-requires-clause-said
 add_edges-requires-clause-said c =
     c.requires.said
-    ∙ sym (c.in_ok-add_tracks.ensures.more.len ∙ ap length c.in_ok-list.ensures ∙ length-replicate {A = List Way} c.len.result [] ∙ c.len.ensures ∙ c.args.graphed.now.nodes.ok.0)
+    ∙ sym (c.in_ok-add_tracks.ensures.more.len ∙ begun_len c.len.result c.in_ok-list.ensures (c.len.ensures ∙ c.args.graphed.now.nodes.ok.0))
 
 pub add_edges-requires-clause-made : goal.add_edges-requires-clause-made
 add_edges-requires-clause-made c = c.in_ok-add_tracks.ensures.made
@@ -61,27 +66,28 @@ add_edges-requires-clause-made c = c.in_ok-add_tracks.ensures.made
 pub add_labels-requires-clause-rows : goal.add_labels-requires-clause-rows
 add_labels-requires-clause-rows c =
     low (λ t. t.0.0)
-    (c.in_ok-add_edges.ensures.more.len ∙ c.in_ok-add_tracks.ensures.more.len ∙ ap length c.in_ok-list.ensures
-    ∙ length-replicate {A = List Way} c.len.result [] ∙ c.len.ensures ∙ c.args.graphed.now.nodes.ok.0) c.as_slice-3.ensures.value c.requires.labels
+    (c.in_ok-add_edges.ensures.more.len ∙ c.in_ok-add_tracks.ensures.more.len
+    ∙ begun_len c.len.result c.in_ok-list.ensures (c.len.ensures ∙ c.args.graphed.now.nodes.ok.0))
+    c.as_slice-3.ensures.value c.requires.labels
 
 pub add_labels-requires-clause-nodes : goal.add_labels-requires-clause-nodes
 add_labels-requires-clause-nodes c =
-    sym (c.in_ok-add_edges.ensures.more.len ∙ c.in_ok-add_tracks.ensures.more.len ∙ ap length c.in_ok-list.ensures
-    ∙ length-replicate {A = List Way} c.len.result [] ∙ c.len.ensures ∙ c.args.graphed.now.nodes.ok.0)
+    sym (c.in_ok-add_edges.ensures.more.len ∙ c.in_ok-add_tracks.ensures.more.len
+    ∙ begun_len c.len.result c.in_ok-list.ensures (c.len.ensures ∙ c.args.graphed.now.nodes.ok.0))
 
 pub add_labels-requires-clause-said : goal.add_labels-requires-clause-said
 add_labels-requires-clause-said c =
     c.requires.said
-    ∙ sym (c.in_ok-add_edges.ensures.more.len ∙ c.in_ok-add_tracks.ensures.more.len ∙ ap length c.in_ok-list.ensures
-    ∙ length-replicate {A = List Way} c.len.result [] ∙ c.len.ensures ∙ c.args.graphed.now.nodes.ok.0)
+    ∙ sym (c.in_ok-add_edges.ensures.more.len ∙ c.in_ok-add_tracks.ensures.more.len
+    ∙ begun_len c.len.result c.in_ok-list.ensures (c.len.ensures ∙ c.args.graphed.now.nodes.ok.0))
 
 pub add_labels-requires-clause-made : goal.add_labels-requires-clause-made
 add_labels-requires-clause-made c = c.in_ok-add_edges.ensures.made
 
 pub returns-clause-len : goal.returns-clause-len
 returns-clause-len c =
-    c.in_ok-add_labels.ensures.more.len ∙ c.in_ok-add_edges.ensures.more.len ∙ c.in_ok-add_tracks.ensures.more.len ∙ ap length c.in_ok-list.ensures
-    ∙ length-replicate {A = List Way} c.len.result [] ∙ c.len.ensures ∙ c.args.graphed.now.nodes.ok.0
+    c.in_ok-add_labels.ensures.more.len ∙ c.in_ok-add_edges.ensures.more.len ∙ c.in_ok-add_tracks.ensures.more.len
+    ∙ begun_len c.len.result c.in_ok-list.ensures (c.len.ensures ∙ c.args.graphed.now.nodes.ok.0)
 
 pub returns-clause-ties : goal.returns-clause-ties
 returns-clause-ties c =
