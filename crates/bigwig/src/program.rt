@@ -124,7 +124,11 @@ fn obey_words<
     ensures same { AreSame lent.old lent.new }
 {
     match read_words(tools.alloc, words) {
-        Ok(command) => obey(tools, &command, lent),
+        Ok(command) => {
+            let status = obey(tools, &command, lent);
+            drop(command);
+            status
+        }
         Err(WordsFault::Refused) => print_line(lent.out, Status::Usage, USAGE),
         Err(WordsFault::Memory) => Status::Memory,
     }

@@ -5,10 +5,10 @@ use Rattle.bigwig.proofs.Headline.{headline_told}
 use Rattle.bigwig.proofs.program.obey_words.Goals as goal
 
 pub returns-in-Ok-clause-comes : goal.returns-in-Ok-clause-comes
-returns-in-Ok-clause-comes g c = words_come _ _ c.in-Ok.command _ _ _ c.in-Ok.ensures.ok.0 c.obey.ensures.comes
+returns-in-Ok-clause-comes g c = words_come _ _ c.in-Ok.command _ _ _ c.in-Ok.ensures.ok.0 c.obey-status.ensures.comes
 
 pub returns-in-Ok-clause-headline : goal.returns-in-Ok-clause-headline
-returns-in-Ok-clause-headline g c = headline_told _ _ _ _ _ (words_come _ _ c.in-Ok.command _ _ _ c.in-Ok.ensures.ok.0 c.obey.ensures.comes)
+returns-in-Ok-clause-headline g c = headline_told _ _ _ _ _ (words_come _ _ c.in-Ok.command _ _ _ c.in-Ok.ensures.ok.0 c.obey-status.ensures.comes)
 
 pub returns-in-Err-Refused-clause-comes : goal.returns-in-Err-Refused-clause-comes
 returns-in-Err-Refused-clause-comes g c =
