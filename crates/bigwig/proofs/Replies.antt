@@ -166,7 +166,7 @@ replies_found (Some d) later_told name judging form requests asked text q ruled 
 
 -- ---- links
 
-outside_same : (p : Option (List ℕ)) (k : Option Coming) (a : Option (List ℕ)) (c d : Option (List (List ℕ))) (r t : Option (List Returned))
+pub outside_same : (p : Option (List ℕ)) (k : Option Coming) (a : Option (List ℕ)) (c d : Option (List (List ℕ))) (r t : Option (List Returned))
     (u : Option (List ℕ)) (s : ℕ) (m : Option (List Deed)) → c ≡ d → r ≡ t → outside p k a c r u s m ≡ outside p k a d t u s m
 outside_same p k a c d r t u s m e f = ap (λ x. outside p k a x r u s m) e ∙ ap (λ x. outside p k a d x u s m) f
 
