@@ -79,6 +79,14 @@ preserved_causes asked b r before after written told links kept is shows read wr
 rose_some : (n : ℕ) → Rose 0 n → 0 < n
 rose_some n h = omega (arith, h)
 
+-- a file was read and closed
+pub closed_shows : (fact : Type 0) (before mid after read now : ℕ) → mid ≡ before → read ≡ 0 → Shows fact read now → (0 < now → Rose mid after)
+    → (now ≡ 0 → after ≡ mid) → Shows fact before after
+closed_shows fact before mid after read now same fresh shows failed quiet = record {
+  only = λ e. subst (λ n. Rose n after) same (failed (rose_some now (subst (λ n. Rose n now) fresh (shows.only e))));
+  other = λ n. quiet (shows.other n ∙ fresh) ∙ same;
+}
+
 -- a file was read and closed, and then it was told what came of it
 pub frozen_causes : (end : StreamEnd) (r : Status) (before mid after read now written told links kept : ℕ) → mid ≡ before → read ≡ 0
     → Shows (end ≡ ends.ReadFault) read now → (0 < now → Rose mid after) → (now ≡ 0 → after ≡ mid) → (r ≡ status.ReadFault → end ≡ ends.ReadFault)
