@@ -1,4 +1,3 @@
-use Rattle.std.proofs.Common.{◌<◌, ◌^◌, IfSome, subst}
 use Rattle.bigwig.proofs.Opened.{takes_as, takes_both}
 use Rattle.bigwig.proofs.Brought.{entries_brought, entries_stop, memory_stops, none_brought}
 use Rattle.bigwig.proofs.bringing.bring_file.Goals as goal
@@ -35,6 +34,3 @@ pub returns-clause-takes : goal.returns-clause-takes
 returns-clause-takes g c =
     takes_both g.S.Channel c.args.source.now c.begin_reading.new.source c.bring_entries.new.source g.met.S.Source.same_trans (λ e. absurd cc)
     c.in-Ok-begin_reading.ensures.takes c.bring_entries.ensures.takes
-
-pub bring_entries-requires-clause-near : goal.bring_entries-requires-clause-near
-bring_entries-requires-clause-near g c = subst (λ m. IfSome m (λ mark. mark.len < 2 ^ 34)) c.in-Some.is c.in-Ok-begin_reading.ensures.near

@@ -1,5 +1,4 @@
-use Rattle.std.proofs.Common.{◌≡◌, IfSome, refl, inl, subst, arith}
-use Rattle.bw_out.specs.Causes.{Rose}
+use Rattle.std.proofs.Common.{◌≡◌, IfSome, refl, inl, subst}
 use Rattle.bw_save.specs.Frozen.{loaded_of}
 use Rattle.bigwig.specs.Asked.{frozen}
 use Rattle.bigwig.proofs.Saving.{nothing_frozen, absent_frozen, requests_frozen}
@@ -34,6 +33,3 @@ returns-in-Ok-Some-clause-causes g c =
     (subst (λ f. IfSome f (λ file. g.F.File.Channel.read_faults file ≡ 0)) c.in-Ok-Some.field-0-is c.in-Ok-Some.ensures.fresh)
     c.answer_source-end.ensures.read_fault c.close.ensures.failed c.close.ensures.quiet c.freeze_end.ensures.read c.freeze_end.ensures.reads
     c.freeze_end.ensures.write_fault c.freeze_end.ensures.others c.freeze_end.ensures.no_journal
-
-pub freeze_end-requires-clause-written : goal.freeze_end-requires-clause-written
-freeze_end-requires-clause-written g c = λ e. let rose : Rose 0 0 = c.answer_source-end.ensures.write_fault.only e in absurd (omega (arith, rose))

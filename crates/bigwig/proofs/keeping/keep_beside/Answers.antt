@@ -1,5 +1,3 @@
-use Rattle.std.proofs.Common.{◌≤◌, length, subst, sym}
-use Rattle.bw_lang.specs.declared.limits.TheConstants.{MAX_FILE_BYTES}
 use Rattle.bigwig.specs.Finding.{IsTask}
 use Rattle.bigwig.specs.Lent.{seen_of}
 use Rattle.bigwig.specs.Works.{Outside}
@@ -29,6 +27,3 @@ pub returns-in-Err-clause-read_fault : goal.returns-in-Err-clause-read_fault
 returns-in-Err-clause-read_fault g c =
     reported_read c.bring_back.result c.in-Err.stop c.report.result _ _ _ c.in-Err.is c.bring_back.ensures.read_fault c.report.ensures.read
     c.report.ensures.reads c.close_task.ensures.quiet
-
-pub keep_brought-status-requires-clause-text : goal.keep_brought-status-requires-clause-text
-keep_brought-status-requires-clause-text g c = subst (λ t. length t ≤ MAX_FILE_BYTES) (sym c.deref-in-Ok.ensures.value) c.requires.text
