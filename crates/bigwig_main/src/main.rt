@@ -2,23 +2,18 @@
 //! code of its status. What standard output doesn't tell of an end it says on standard error.
 #![tactic(auto)]
 
-mod ends;
-mod help;
-mod shown;
-
 ghost use Rattle.std.specs.Prelude.{◌≡◌, ◌<◌};
-ghost use Rattle.bw_http.specs.Messages.{IsSettled};
 
-use crate::ends::{Troubles, say_end, say_memory};
-use crate::shown::ShownDoor;
 use bigwig::{Status, run};
-use bw_door::{Lack, Limits, PortDoor, Settles};
-use bw_lang::{Memory, Text, Words};
+use bw_door::{Limits, PortDoor};
+use bw_lang::{Memory, Words};
 use bw_out::{DiskFiles, Quiet, RandomKeys, Steps, Writing};
 use bw_stable::DiskJournals;
+use bw_terminal::{Messages, ShownDoor, Troubles, command_line, say_end, say_memory};
 use rand_chacha::ChaCha20Rng;
 use std::alloc::Global;
-use std::io::{ErrorKind, IsTerminal};
+use std::io;
+use std::io::IsTerminal;
 use std::marker::Brand;
 use std::net::Net;
 use std::process::ExitCode;
@@ -26,25 +21,9 @@ use std::sync::Wait;
 use std::sync::ledger::{Blank, Ledger};
 use std::thread::Threads;
 use std::time::Clock;
-use std::{env, io};
 
 /// The exit code where the key generator can't be seeded.
 const NO_KEYS: u8 = 14;
-
-/// A client's first message is whole where reading a request asks for no more.
-#[derive(Drop)]
-struct Messages;
-
-impl Settles for Messages {
-    ghost settled = { λ bytes. IsSettled bytes };
-
-    fn lack(&mut self, bytes: &[u8]) -> Option<Lack> {
-        match bw_http::lack(bytes)? {
-            bw_http::Lack::Line => Some(Lack::Line),
-            bw_http::Lack::Bytes(need) => Some(Lack::Bytes(need)),
-        }
-    }
-}
 
 fn main(rt: HostRuntime) -> ExitCode {
     let generator: ChaCha20Rng = match rand::make_rng(&rt) {
@@ -67,24 +46,6 @@ fn main(rt: HostRuntime) -> ExitCode {
             ExitCode::from(Status::Memory.code())
         }
     }
-}
-
-/// The words behind the program's own name. Where one of them isn't UTF-8 there are none, so that they are refused.
-fn command_line(rt: &HostRuntime) -> Result<Words, Memory> {
-    let mut words = Words::new(rt.alloc());
-    match env::args(rt) {
-        Ok(args) => {
-            for word in args.skip(1) {
-                words.push(Text::from_string(word))?;
-            }
-        }
-        Err(error) => {
-            if error.kind() == ErrorKind::OutOfMemory {
-                return Err(Memory);
-            }
-        }
-    }
-    Ok(words)
 }
 
 /// Runs the program over the real things, with a count of steps that nobody reads. `threads` is where the check makes its

@@ -38,7 +38,6 @@ pub(crate) enum End {
 ///
 /// `listen` fails where the system refuses the port. `next` fails where the system refused 101 times in a row, or where
 /// no port is listened on.
-#[derive(Drop)]
 pub struct PortDoor<R: Net + Clock + Wait + Copy, W: Settles> {
     rt: R,
     port: Option<Port>,
@@ -55,6 +54,22 @@ pub struct PortDoor<R: Net + Clock + Wait + Copy, W: Settles> {
     /// Why the system refused the last call that failed.
     error: Option<ErrorKind>,
     faults: u64,
+}
+
+impl<R: Net + Clock + Wait + Copy, W: Settles + Drop> Drop for PortDoor<R, W> {
+    fn drop(self) {
+        let PortDoor {
+            rt: _,
+            port: _,
+            changes: _,
+            desk: _,
+            crowd: _,
+            refusals: _,
+            last: _,
+            error: _,
+            faults: _,
+        } = self;
+    }
 }
 
 impl<R: Net + Clock + Wait + Copy, W: Settles + Drop> PortDoor<R, W> {

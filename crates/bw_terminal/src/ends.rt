@@ -1,6 +1,6 @@
 //! What is said on standard error where standard output doesn't tell why the program ended.
 use crate::help::HELP;
-use bigwig::Status;
+use bw_questions::Status;
 use std::fmt::{Display, Formatter};
 use std::io::{Eprint, ErrorKind};
 use std::{fmt, io};
