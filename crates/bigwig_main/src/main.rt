@@ -9,7 +9,7 @@ use bw_door::{Limits, PortDoor};
 use bw_lang::{Memory, Words};
 use bw_out::{DiskFiles, Quiet, RandomKeys, Steps, Writing};
 use bw_stable::DiskJournals;
-use bw_terminal::{Messages, ShownDoor, Troubles, command_line, say_end, say_memory};
+use bw_terminal::{Messages, ShownDoor, command_line, say_end, say_memory};
 use rand_chacha::ChaCha20Rng;
 use std::alloc::Global;
 use std::io;
@@ -84,16 +84,7 @@ fn counted<L: Ledger, R: Threads + Sync + Net + Clock + Wait>(
         &Quiet,
         &mut steps,
     );
-    let troubles = Troubles {
-        file: files.last_name(),
-        of_file: files.trouble(),
-        of_output: out.trouble(),
-        port: door.port,
-        of_port: door.inner.last_error(),
-        journal: journals.last_name(),
-        of_journal: journals.trouble(),
-    };
-    say_end(rt, status, &troubles);
+    say_end(rt, status, &files, &out, &door, &journals);
 
     // The status stands, whether or not each client takes its reply.
     let _ = door.inner.finish();

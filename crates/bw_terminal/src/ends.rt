@@ -1,25 +1,32 @@
 //! What is said on standard error where standard output doesn't tell why the program ended.
 use crate::help::HELP;
+use crate::shown::ShownDoor;
+use bw_door::{PortDoor, Settles};
+use bw_out::{DiskFiles, Writing};
 use bw_questions::Status;
+use bw_stable::DiskJournals;
 use std::fmt::{Display, Formatter};
 use std::io::{Eprint, ErrorKind};
+use std::net::Net;
+use std::sync::Wait;
+use std::time::Clock;
 use std::{fmt, io};
 
 /// Why calls of the system failed that failed.
 #[derive(Clone, Copy)]
-pub struct Troubles<'a> {
+struct Troubles<'a> {
     /// The file that was asked for last; empty where there was no memory to note it.
-    pub file: &'a str,
-    pub of_file: Option<ErrorKind>,
-    pub of_output: Option<ErrorKind>,
+    file: &'a str,
+    of_file: Option<ErrorKind>,
+    of_output: Option<ErrorKind>,
 
     /// The port that was asked for.
-    pub port: u16,
-    pub of_port: Option<ErrorKind>,
+    port: u16,
+    of_port: Option<ErrorKind>,
 
     /// The journal that was asked for; empty where there was no memory to note it.
-    pub journal: &'a str,
-    pub of_journal: Option<ErrorKind>,
+    journal: &'a str,
+    of_journal: Option<ErrorKind>,
 }
 
 /// Why a call of the system failed, in words.
@@ -41,8 +48,30 @@ impl Display for Reason {
     }
 }
 
-/// Says why the program ends with this status, where that is for somebody else than the service's author to mend.
-pub fn say_end<R: Eprint>(rt: &R, status: Status, troubles: &Troubles<'_>) {
+/// Says why the program ends with this status, where that is for somebody else than the service's author to mend, by what
+/// these noted of calls of the system.
+pub fn say_end<R: Eprint, F, O, N: Net + Clock + Wait + Copy, W: Settles, J>(
+    rt: &R,
+    status: Status,
+    files: &DiskFiles<F>,
+    out: &Writing<O>,
+    door: &ShownDoor<'_, PortDoor<N, W>, R>,
+    journals: &DiskJournals<J>,
+) {
+    let troubles = Troubles {
+        file: files.last_name(),
+        of_file: files.trouble(),
+        of_output: out.trouble(),
+        port: door.port,
+        of_port: door.inner.last_error(),
+        journal: journals.last_name(),
+        of_journal: journals.trouble(),
+    };
+    say_status(rt, status, &troubles);
+}
+
+/// The same of calls that failed for these reasons.
+fn say_status<R: Eprint>(rt: &R, status: Status, troubles: &Troubles<'_>) {
     let _ = match status {
         Status::Usage => rt.eprint(HELP),
         Status::ReadFault => {

@@ -8,7 +8,7 @@ mod help;
 mod messages;
 mod shown;
 
-pub use ends::{Troubles, say_end, say_memory};
+pub use ends::{say_end, say_memory};
 pub use given::command_line;
 pub use messages::Messages;
 pub use shown::ShownDoor;
