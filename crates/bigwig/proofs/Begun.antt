@@ -40,8 +40,8 @@ use Rattle.bw_questions.specs.Questions.{Question, ◌>>=◌, IsAnswer, IsStop}
 use Rattle.bw_questions.specs.Reports.{IsReported, SaysLine}
 use Rattle.bigwig.specs.Works.{Outside}
 use Rattle.bigwig.specs.declared.server.Server.{Server}
-use Rattle.bw_questions.specs.declared.status.Refusal.TheVariants as refusals
-use Rattle.bw_questions.specs.declared.status.Status.{Status}
+use Rattle.bw_command.specs.declared.status.Refusal.TheVariants as refusals
+use Rattle.bw_command.specs.declared.status.Status.{Status}
 use Rattle.bw_questions.specs.declared.stop.Stop.{Stop}
 use Rattle.bw_questions.specs.declared.stop.Stop.TheVariants as stop
 use Rattle.bw_out.specs.Told.{Coming}

@@ -28,7 +28,7 @@ use Rattle.bw_questions.specs.Asked.Work.{keeps}
 use Rattle.bw_questions.specs.Behind.{content_of}
 use Rattle.bw_questions.specs.Checks.{IsRuled}
 use Rattle.bigwig.specs.Fits.{IsFitWorld}
-use Rattle.bw_questions.specs.Codes.{status_for}
+use Rattle.bw_command.specs.Codes.{status_for}
 use Rattle.bigwig.specs.Finding.{IsFoundIn, IsRead, IsRefusedBy, begun_by, sum_of}
 use Rattle.bigwig.specs.Freezing.{file_of}
 use Rattle.bigwig.specs.Keeping.{EndsWith, Follows, IsBegun, IsKept, IsUntouched, Keeps, ServesKept, rotate_of}
@@ -47,10 +47,10 @@ use Rattle.bw_command.specs.declared.command.Judging.{Judging}
 use Rattle.bigwig.specs.declared.bringing.Found.{Found}
 use Rattle.bigwig.specs.declared.readying.Opening.{Opening}
 use Rattle.bigwig.specs.declared.readying.Opening.TheVariants.{Head, Cut, Anew}
-use Rattle.bw_questions.specs.declared.status.Refusal.{Refusal}
-use Rattle.bw_questions.specs.declared.status.Refusal.TheVariants as refusals
-use Rattle.bw_questions.specs.declared.status.Status.{Status}
-use Rattle.bw_questions.specs.declared.status.Status.TheVariants as status
+use Rattle.bw_command.specs.declared.status.Refusal.{Refusal}
+use Rattle.bw_command.specs.declared.status.Refusal.TheVariants as refusals
+use Rattle.bw_command.specs.declared.status.Status.{Status}
+use Rattle.bw_command.specs.declared.status.Status.TheVariants as status
 use Rattle.bw_questions.specs.declared.stop.Stop.{Stop}
 use Rattle.bw_questions.specs.declared.stop.Stop.TheVariants as stop
 use Rattle.bigwig.proofs.Endings.{comes_then}

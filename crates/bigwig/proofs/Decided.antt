@@ -40,8 +40,8 @@ use Rattle.bw_questions.specs.Asked.{Ruled, Script}
 use Rattle.bw_command.specs.declared.command.Command.{Command}
 use Rattle.bw_command.specs.declared.command.Command.TheVariants.{Check, Replay, Resume, Serve, Keep, Valid, Make, Light, Freeze, Preserve, Visit}
 use Rattle.bw_command.specs.declared.command.Judging.{Judging}
-use Rattle.bw_questions.specs.declared.status.Status.{Status}
-use Rattle.bw_questions.specs.declared.status.Status.TheVariants.{Usage, NoFile, ServiceRefused, SchemaRefused, PageRefused, FormatsRefused, LoadRefused, ScriptRefused}
+use Rattle.bw_command.specs.declared.status.Status.{Status}
+use Rattle.bw_command.specs.declared.status.Status.TheVariants.{Usage, NoFile, ServiceRefused, SchemaRefused, PageRefused, FormatsRefused, LoadRefused, ScriptRefused}
 use Rattle.bw_questions.proofs.Checks.{IsTyped, typed_of, typed_given, not_refused}
 use Rattle.bigwig.proofs.OneLoad.{loaded_once, not_loaded}
 

@@ -31,8 +31,8 @@ use Rattle.bw_questions.specs.Questions.{Said, line}
 use Rattle.bw_command.specs.declared.command.Command.{Command}
 use Rattle.bw_command.specs.declared.command.Command.TheVariants.{Check, Valid}
 use Rattle.bw_command.specs.declared.command.Judging.{Judging}
-use Rattle.bw_questions.specs.declared.status.Status.{Status}
-use Rattle.bw_questions.specs.declared.status.Status.TheVariants.{Done, ReadFault, WriteFault, DoorFault, Memory, SaveRefused, JournalRefused, JournalFault, ScriptRefused}
+use Rattle.bw_command.specs.declared.status.Status.{Status}
+use Rattle.bw_command.specs.declared.status.Status.TheVariants.{Done, ReadFault, WriteFault, DoorFault, Memory, SaveRefused, JournalRefused, JournalFault, ScriptRefused}
 use Rattle.bigwig.proofs.Decided.{asked_decided}
 use Rattle.bigwig.proofs.Refusals.{never_said}
 use Rattle.bigwig.proofs.SomeAnswer.{asked_some}

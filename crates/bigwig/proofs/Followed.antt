@@ -32,7 +32,7 @@ use Rattle.bw_questions.specs.Asked.Work.{visits}
 use Rattle.bw_questions.specs.Checks.{IsRuled}
 use Rattle.bigwig.specs.Outcomes.{Comes, Replies}
 use Rattle.bigwig.specs.Outcomes.Comes.{said, done, read_fault, no_memory}
-use Rattle.bw_questions.specs.Codes.{status_for}
+use Rattle.bw_command.specs.Codes.{status_for}
 use Rattle.bw_questions.specs.Questions.{Said, ◌>>=◌, IsStop, found, line}
 use Rattle.bw_questions.specs.Reports.{IsReported, SaysLine}
 use Rattle.bigwig.specs.Scripts.{no_script_line, script, unknown_line}
@@ -40,9 +40,9 @@ use Rattle.bigwig.specs.Visiting.{AreSpent, IsStatusOf, PrintsVisit, SaysUnknown
 use Rattle.bigwig.specs.Works.{Outside}
 use Rattle.bw_questions.specs.Reports.{Prints as PrintsText}
 use Rattle.bw_command.specs.declared.command.Judging.{Judging}
-use Rattle.bw_questions.specs.declared.status.Refusal.TheVariants as refusals
-use Rattle.bw_questions.specs.declared.status.Status.{Status}
-use Rattle.bw_questions.specs.declared.status.Status.TheVariants as status
+use Rattle.bw_command.specs.declared.status.Refusal.TheVariants as refusals
+use Rattle.bw_command.specs.declared.status.Status.{Status}
+use Rattle.bw_command.specs.declared.status.Status.TheVariants as status
 use Rattle.bw_questions.specs.declared.stop.Stop.{Stop}
 use Rattle.bw_questions.specs.declared.stop.Stop.TheVariants as stop
 use Rattle.bw_questions.proofs.Answering.{stops_first}

@@ -6,8 +6,8 @@ use Rattle.bw_recall.specs.declared.recalling.Recalled.TheVariants as recalled
 use Rattle.bw_out.specs.Doors.{Returned}
 use Rattle.bw_questions.specs.Asked.{Ruled, Task}
 use Rattle.bw_questions.specs.Asked.Task.{to_answer, to_save, to_serve}
-use Rattle.bw_questions.specs.declared.status.Status.{Status}
-use Rattle.bw_questions.specs.declared.status.Status.TheVariants.{JournalFault}
+use Rattle.bw_command.specs.declared.status.Status.{Status}
+use Rattle.bw_command.specs.declared.status.Status.TheVariants.{JournalFault}
 use Rattle.bw_stable.specs.Deeds.{Deed, Does, DoesFirst, cut, kept}
 use Rattle.bw_stable.specs.Replacing.{replacing}
 use Rattle.bw_world.specs.Seen.{Seen}

@@ -45,8 +45,8 @@ use Rattle.bigwig.specs.Works.IsServing.{no_port, no_line, links_served}
 use Rattle.bw_command.specs.declared.command.Command.{Command}
 use Rattle.bw_command.specs.declared.command.Command.TheVariants.{Replay, Serve, Light, Freeze, Visit}
 use Rattle.bw_command.specs.declared.command.Judging.{Judging}
-use Rattle.bw_questions.specs.declared.status.Status.{Status}
-use Rattle.bw_questions.specs.declared.status.Status.TheVariants as status
+use Rattle.bw_command.specs.declared.status.Status.{Status}
+use Rattle.bw_command.specs.declared.status.Status.TheVariants as status
 use Rattle.bigwig.proofs.Refusals.{never_said}
 use Rattle.bigwig.proofs.Starting.{start_within, starts_at, frozen_done}
 

@@ -19,7 +19,7 @@ use Rattle.bw_questions.specs.Asked.{Ruled}
 use Rattle.bw_questions.specs.Checks.{IsRuled}
 use Rattle.bigwig.specs.Fits.{IsFitWorld}
 use Rattle.bigwig.specs.Works.{Between, Outside, AreServed, IsServed, AreGivenBack, ServesLinks, begins}
-use Rattle.bw_questions.specs.declared.status.Status.TheVariants.{Done, DoorFault}
+use Rattle.bw_command.specs.declared.status.Status.TheVariants.{Done, DoorFault}
 use Rattle.bigwig.proofs.Reaching.{course_is_fit}
 
 -- so many links were given back, and the world of the code stands for the model world that they leave, which is fit

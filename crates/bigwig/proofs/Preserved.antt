@@ -11,7 +11,7 @@ use Rattle.bw_questions.specs.Behind.{content_of}
 use Rattle.bw_questions.specs.Checks.{IsRuled}
 use Rattle.bw_questions.specs.Questions.{◌>>=◌}
 use Rattle.bw_questions.specs.Reports.{IsReported}
-use Rattle.bw_questions.specs.declared.status.Status.{Status}
+use Rattle.bw_command.specs.declared.status.Status.{Status}
 use Rattle.bw_questions.specs.declared.stop.Stop.{Stop}
 use Rattle.bw_command.specs.declared.command.Judging.{Judging}
 use Rattle.bigwig.specs.Finding.{IsFoundIn, IsRefusedBy, recalled_of}

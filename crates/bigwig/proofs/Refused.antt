@@ -6,7 +6,7 @@ use Rattle.bigwig.specs.Asked.{asked}
 use Rattle.bigwig.specs.Laws.{IsUnanswered, ScriptsAreRefused}
 use Rattle.bigwig.specs.Outcomes.Comes.{said, done, read_fault, no_memory}
 use Rattle.bw_questions.specs.Questions.{Said}
-use Rattle.bw_questions.specs.declared.status.Status.TheVariants.{Done, ReadFault, WriteFault, Memory, ScriptRefused}
+use Rattle.bw_command.specs.declared.status.Status.TheVariants.{Done, ReadFault, WriteFault, Memory, ScriptRefused}
 use Rattle.bigwig.proofs.Due.{done_or_fault, unanswered}
 use Rattle.bigwig.proofs.VisitEnds.{IsEnd, not_free}
 

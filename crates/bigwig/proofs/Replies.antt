@@ -22,7 +22,7 @@ use Rattle.bigwig.specs.Asked.{replayed, at_port}
 use Rattle.bw_questions.specs.Asked.Work.{replays, serves}
 use Rattle.bw_questions.specs.Checks.{IsRuled}
 use Rattle.bigwig.specs.Fits.{IsFitStart, IsFitWorld}
-use Rattle.bw_questions.specs.Codes.{status_for}
+use Rattle.bw_command.specs.Codes.{status_for}
 use Rattle.bw_questions.specs.Lines.{no_file_line}
 use Rattle.bigwig.specs.Outcomes.{Comes, Replies}
 use Rattle.bigwig.specs.Works.{Between, Outside, outside, IsReplayed, IsStreamed, ServesLinks, begins, serving_line, status_of}
@@ -31,10 +31,10 @@ use Rattle.bigwig.specs.Works.IsServing.{no_port, no_line, links_served}
 use Rattle.bw_questions.specs.Questions.{Said, Question, ◌>>=◌, IsStop, found, line}
 use Rattle.bw_questions.specs.Reports.{IsReported, SaysLine}
 use Rattle.bw_command.specs.declared.command.Judging.{Judging}
-use Rattle.bw_questions.specs.declared.status.Refusal.{Refusal}
-use Rattle.bw_questions.specs.declared.status.Refusal.TheVariants as refusals
-use Rattle.bw_questions.specs.declared.status.Status.{Status}
-use Rattle.bw_questions.specs.declared.status.Status.TheVariants as status
+use Rattle.bw_command.specs.declared.status.Refusal.{Refusal}
+use Rattle.bw_command.specs.declared.status.Refusal.TheVariants as refusals
+use Rattle.bw_command.specs.declared.status.Status.{Status}
+use Rattle.bw_command.specs.declared.status.Status.TheVariants as status
 use Rattle.bw_questions.specs.declared.stop.Stop.{Stop}
 use Rattle.bw_questions.specs.declared.stop.Stop.TheVariants as stop
 use Rattle.bw_questions.proofs.Answering.{stops_first}

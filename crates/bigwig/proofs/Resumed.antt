@@ -29,9 +29,9 @@ use Rattle.bw_questions.specs.Reports.{IsReported, SaysLine}
 use Rattle.bigwig.specs.Works.{Between, IsServing, Outside, begins}
 use Rattle.bigwig.specs.Works.IsServing.{no_port, no_line, links_served}
 use Rattle.bw_command.specs.declared.command.Judging.{Judging}
-use Rattle.bw_questions.specs.declared.status.Refusal.TheVariants as refusals
-use Rattle.bw_questions.specs.declared.status.Status.{Status}
-use Rattle.bw_questions.specs.declared.status.Status.TheVariants as status
+use Rattle.bw_command.specs.declared.status.Refusal.TheVariants as refusals
+use Rattle.bw_command.specs.declared.status.Status.{Status}
+use Rattle.bw_command.specs.declared.status.Status.TheVariants as status
 use Rattle.bw_questions.specs.declared.stop.Stop.{Stop}
 use Rattle.bigwig.proofs.Beside.{of_reading}
 use Rattle.bw_questions.proofs.Answering.{stops_first}

@@ -26,13 +26,13 @@ use Rattle.bw_questions.specs.Lines.{no_file_line}
 use Rattle.bigwig.specs.Outcomes.{Comes, Replies}
 use Rattle.bigwig.specs.Outcomes.Comes.{done, read_fault, no_memory}
 use Rattle.bw_questions.specs.Questions.{Question, ◌>>=◌, IsStop, found, line}
-use Rattle.bw_questions.specs.Codes.{status_for}
+use Rattle.bw_command.specs.Codes.{status_for}
 use Rattle.bw_questions.specs.Reports.{IsReported, Prints, SaysLine}
-use Rattle.bw_questions.specs.declared.status.Refusal.{Refusal}
+use Rattle.bw_command.specs.declared.status.Refusal.{Refusal}
 use Rattle.bigwig.specs.Works.{Outside}
-use Rattle.bw_questions.specs.declared.status.Refusal.TheVariants as refusals
-use Rattle.bw_questions.specs.declared.status.Status.{Status}
-use Rattle.bw_questions.specs.declared.status.Status.TheVariants as status
+use Rattle.bw_command.specs.declared.status.Refusal.TheVariants as refusals
+use Rattle.bw_command.specs.declared.status.Status.{Status}
+use Rattle.bw_command.specs.declared.status.Status.TheVariants as status
 use Rattle.bw_questions.specs.declared.stop.Stop.{Stop}
 use Rattle.bw_questions.specs.declared.stop.Stop.TheVariants as stop
 use Rattle.bw_questions.proofs.Answering.{asks_next, stops_first}

@@ -19,7 +19,7 @@ use Rattle.bw_questions.specs.Making.{first_request, next_request, requests, pag
 use Rattle.bigwig.specs.Sending.{IsSent}
 use Rattle.bigwig.specs.Outcomes.{Speaks}
 use Rattle.bw_questions.specs.Questions.{IsStop}
-use Rattle.bw_questions.specs.declared.status.Status.{Status}
+use Rattle.bw_command.specs.declared.status.Status.{Status}
 use Rattle.bw_questions.specs.declared.stop.Stop.{Stop}
 use Rattle.bw_questions.proofs.Answering.{stops_first}
 

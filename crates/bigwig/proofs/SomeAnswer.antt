@@ -53,7 +53,7 @@ use Rattle.bigwig.proofs.OneLoad.{loaded_tells}
 use Rattle.bw_command.specs.declared.command.Command.{Command}
 use Rattle.bw_command.specs.declared.command.Command.TheVariants.{Check, Replay, Resume, Serve, Keep, Valid, Make, Light, Freeze, Preserve, Visit}
 use Rattle.bw_command.specs.declared.command.Judging.{Judging}
-use Rattle.bw_questions.specs.declared.status.Status.TheVariants.{Usage, NoFile, ServiceRefused, SchemaRefused, PageRefused, FormatsRefused, LoadRefused, ScriptRefused}
+use Rattle.bw_command.specs.declared.status.Status.TheVariants.{Usage, NoFile, ServiceRefused, SchemaRefused, PageRefused, FormatsRefused, LoadRefused, ScriptRefused}
 use Rattle.bigwig.specs.Scripts.{no_script_line, script}
 
 abbrev pub HasAnswer : {A : Type 0} → Question A → Type 0

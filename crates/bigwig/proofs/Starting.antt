@@ -29,8 +29,8 @@ use Rattle.bigwig.specs.Freezing.{FreezesAt, IsFrozen, file_of}
 use Rattle.bigwig.specs.Freezing.IsFrozen.{saved as was_saved, too_long, no_memory}
 use Rattle.bigwig.specs.Headline.{StartsAt}
 use Rattle.bigwig.specs.Loading.{Loads}
-use Rattle.bw_questions.specs.declared.status.Status.{Status}
-use Rattle.bw_questions.specs.declared.status.Status.TheVariants as status
+use Rattle.bw_command.specs.declared.status.Status.{Status}
+use Rattle.bw_command.specs.declared.status.Status.TheVariants as status
 use Rattle.bigwig.proofs.Begun.{loaded_within}
 
 -- no session has stored anything there

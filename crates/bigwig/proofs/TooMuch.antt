@@ -23,8 +23,8 @@ use Rattle.bigwig.specs.Outcomes.Comes.{said, done, read_fault, no_memory}
 use Rattle.bw_questions.specs.Questions.{Said}
 use Rattle.bigwig.specs.Works.{Outside, IsSaid, IsServing, status_of}
 use Rattle.bigwig.specs.Works.IsServing.{no_port, no_line, links_served}
-use Rattle.bw_questions.specs.declared.status.Status.{Status}
-use Rattle.bw_questions.specs.declared.status.Status.TheVariants.{Done, ReadFault, WriteFault, DoorFault, Memory, SaveRefused, JournalFault, ScriptRefused}
+use Rattle.bw_command.specs.declared.status.Status.{Status}
+use Rattle.bw_command.specs.declared.status.Status.TheVariants.{Done, ReadFault, WriteFault, DoorFault, Memory, SaveRefused, JournalFault, ScriptRefused}
 use Rattle.bigwig.proofs.Refusals.{never_said}
 use Rattle.bigwig.proofs.VisitEnds.{visit_status}
 

@@ -6,8 +6,8 @@ use Rattle.bw_questions.specs.Asked.Work.{visits}
 use Rattle.bigwig.specs.Laws.{IsFree}
 use Rattle.bw_questions.specs.Asked.{Script}
 use Rattle.bigwig.specs.Visiting.{IsStatusOf}
-use Rattle.bw_questions.specs.declared.status.Status.{Status}
-use Rattle.bw_questions.specs.declared.status.Status.TheVariants.{Done, ReadFault, WriteFault, DoorFault, Memory, JournalRefused, JournalFault, SaveRefused, ScriptRefused}
+use Rattle.bw_command.specs.declared.status.Status.{Status}
+use Rattle.bw_command.specs.declared.status.Status.TheVariants.{Done, ReadFault, WriteFault, DoorFault, Memory, JournalRefused, JournalFault, SaveRefused, ScriptRefused}
 
 -- the work is a visit that ended where an answer had no control
 abbrev pub IsUnknown : Work → Status → Type 0

@@ -30,7 +30,7 @@ use Rattle.bigwig.specs.declared.readying.Opening.{Opening}
 use Rattle.bigwig.specs.declared.readying.Opening.TheVariants.{Head, Cut, Anew}
 use Rattle.bigwig.specs.declared.keeping.Task.{Task as CodeTask}
 use Rattle.bigwig.specs.declared.keeping.Task.TheVariants.{Links, Stream}
-use Rattle.bw_questions.specs.declared.status.Refusal.TheVariants as refusals
+use Rattle.bw_command.specs.declared.status.Refusal.TheVariants as refusals
 use Rattle.bw_questions.specs.declared.stop.Stop.{Stop}
 use Rattle.bw_questions.specs.declared.stop.Stop.TheVariants.{Says, ReadFault, Memory}
 

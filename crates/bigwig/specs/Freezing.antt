@@ -19,8 +19,8 @@ use Rattle.bw_questions.specs.Asked.{Ruled}
 use Rattle.bw_questions.specs.Questions.{line}
 use Rattle.bigwig.specs.Works.{Between, IsStreamed, Outside}
 use Rattle.bw_questions.specs.Reports.{Prints}
-use Rattle.bw_questions.specs.declared.status.Status.{Status}
-use Rattle.bw_questions.specs.declared.status.Status.TheVariants.{Done, SaveRefused, ReadFault, Memory}
+use Rattle.bw_command.specs.declared.status.Status.{Status}
+use Rattle.bw_command.specs.declared.status.Status.TheVariants.{Done, SaveRefused, ReadFault, Memory}
 
 -- what is printed where all values weigh so much, which is too much
 abbrev pub save_line : ℕ → List ℕ

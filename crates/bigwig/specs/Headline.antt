@@ -40,8 +40,8 @@ use Rattle.bigwig.specs.Loading.{Loads}
 use Rattle.bigwig.specs.Works.{Outside}
 use Rattle.bw_command.specs.declared.command.Command.TheVariants.{Replay, Serve, Light, Freeze, Visit}
 use Rattle.bw_command.specs.declared.command.Judging.{Judging}
-use Rattle.bw_questions.specs.declared.status.Status.{Status}
-use Rattle.bw_questions.specs.declared.status.Status.TheVariants.{Done, DoorFault}
+use Rattle.bw_command.specs.declared.status.Status.{Status}
+use Rattle.bw_command.specs.declared.status.Status.TheVariants.{Done, DoorFault}
 
 -- ---- a stream of requests
 

@@ -41,8 +41,8 @@ use Rattle.bigwig.specs.Loading.{loads}
 use Rattle.bw_questions.specs.Questions.{Said, line}
 use Rattle.bigwig.specs.Works.{Between, Outside, AreServed, IsSaid, begins, serving_line}
 use Rattle.bw_questions.specs.Reports.{Prints}
-use Rattle.bw_questions.specs.declared.status.Status.{Status}
-use Rattle.bw_questions.specs.declared.status.Status.TheVariants.{Done, ReadFault, WriteFault, DoorFault, Memory, JournalRefused, JournalFault}
+use Rattle.bw_command.specs.declared.status.Status.{Status}
+use Rattle.bw_command.specs.declared.status.Status.TheVariants.{Done, ReadFault, WriteFault, DoorFault, Memory, JournalRefused, JournalFault}
 
 -- ---- what a journal holds
 

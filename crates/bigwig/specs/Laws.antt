@@ -29,8 +29,8 @@ use Rattle.bw_questions.specs.Asked.{Script}
 use Rattle.bw_command.specs.declared.command.Command.{Command}
 use Rattle.bw_command.specs.declared.command.Command.TheVariants.{Check, Make, Replay, Resume, Serve, Keep, Valid, Light, Freeze, Preserve, Visit}
 use Rattle.bw_command.specs.declared.command.Judging.{Judging}
-use Rattle.bw_questions.specs.declared.status.Status.{Status}
-use Rattle.bw_questions.specs.declared.status.Status.TheVariants.{Done, ReadFault, WriteFault, DoorFault, Memory, SaveRefused, JournalRefused, JournalFault, ScriptRefused}
+use Rattle.bw_command.specs.declared.status.Status.{Status}
+use Rattle.bw_command.specs.declared.status.Status.TheVariants.{Done, ReadFault, WriteFault, DoorFault, Memory, SaveRefused, JournalRefused, JournalFault, ScriptRefused}
 
 -- the status that is due by the words and the files: that of what is said, or that of work that is done
 abbrev pub Due : List (List ℕ) → Disk → Status → Type 0

@@ -8,8 +8,8 @@ use Rattle.bw_out.specs.declared.outside.Keys as keys
 use Rattle.bw_stable.specs.declared.outside.Journals as journals
 use Rattle.bigwig.specs.Works.{Outside}
 use Rattle.bigwig.specs.declared.lent.Lent.{Lent}
-use Rattle.bw_questions.specs.declared.status.Status.{Status}
-use Rattle.bw_questions.specs.declared.status.Status.TheVariants.{ReadFault, WriteFault, DoorFault, JournalFault}
+use Rattle.bw_command.specs.declared.status.Status.{Status}
+use Rattle.bw_command.specs.declared.status.Status.TheVariants.{ReadFault, WriteFault, DoorFault, JournalFault}
 
 -- the same things are lent
 abbrev pub AreSame : {F J D K W S : Type 0} → Lent F J D K W S → Lent F J D K W S → Type 0

@@ -10,7 +10,7 @@ use Rattle.bw_load.specs.Loads.{loaded}
 use Rattle.bw_model.specs.Sessions.{World}
 use Rattle.bw_saved.specs.declared.saved.Saved.{Saved}
 use Rattle.bw_questions.specs.Questions.{Question, line}
-use Rattle.bw_questions.specs.declared.status.Status.TheVariants.{LoadRefused}
+use Rattle.bw_command.specs.declared.status.Status.TheVariants.{LoadRefused}
 
 -- why a file of saved sessions is refused
 abbrev pub load_line : LoadFault → List ℕ

@@ -8,8 +8,8 @@ use Rattle.bigwig.specs.Keeping.{IsKept}
 use Rattle.bw_questions.specs.Questions.{Said, Question}
 use Rattle.bigwig.specs.Visiting.{IsVisited}
 use Rattle.bigwig.specs.Works.{Outside, IsReplayed, IsSaid, IsServing}
-use Rattle.bw_questions.specs.declared.status.Status.{Status}
-use Rattle.bw_questions.specs.declared.status.Status.TheVariants.{Done, ReadFault, Memory}
+use Rattle.bw_command.specs.declared.status.Status.{Status}
+use Rattle.bw_command.specs.declared.status.Status.TheVariants.{Done, ReadFault, Memory}
 
 -- what comes of the work
 abbrev pub IsDone : Work → Outside → Outside → Status → Type 0

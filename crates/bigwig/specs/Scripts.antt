@@ -4,7 +4,7 @@ use Rattle.bw_visit.specs.Scripts.{IsScript, IsNoScript}
 use Rattle.bw_questions.specs.Lines.{shown}
 use Rattle.bw_questions.specs.Asked.{Script}
 use Rattle.bw_questions.specs.Questions.{Question, line}
-use Rattle.bw_questions.specs.declared.status.Status.TheVariants.{ScriptRefused}
+use Rattle.bw_command.specs.declared.status.Status.TheVariants.{ScriptRefused}
 
 -- the bytes are no script
 abbrev pub no_script_line : List ℕ

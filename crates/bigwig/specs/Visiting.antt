@@ -19,8 +19,8 @@ use Rattle.bigwig.specs.Scripts.{unknown_line}
 use Rattle.bw_questions.specs.Asked.{Script}
 use Rattle.bigwig.specs.Works.{Outside}
 use Rattle.bw_questions.specs.Reports.{Prints}
-use Rattle.bw_questions.specs.declared.status.Status.{Status}
-use Rattle.bw_questions.specs.declared.status.Status.TheVariants.{Done, WriteFault, Memory, ScriptRefused}
+use Rattle.bw_command.specs.declared.status.Status.{Status}
+use Rattle.bw_command.specs.declared.status.Status.TheVariants.{Done, WriteFault, Memory, ScriptRefused}
 
 -- the script that the code holds
 abbrev pub script_of : CodeScript → Script

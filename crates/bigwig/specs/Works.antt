@@ -13,11 +13,11 @@ use Rattle.bw_world.specs.Streams.Courses.{AreLeft, Course}
 use Rattle.bw_world.specs.declared.ends.StreamEnd.{StreamEnd}
 use Rattle.bw_world.specs.declared.ends.StreamEnd.TheVariants as ends
 use Rattle.bw_sound.specs.Good.{AreGood}
-use Rattle.bw_questions.specs.declared.status.Status.{Status}
+use Rattle.bw_command.specs.declared.status.Status.{Status}
 use Rattle.bw_questions.specs.Asked.{Ruled}
 use Rattle.bw_questions.specs.Questions.{Said, line}
 use Rattle.bw_questions.specs.Reports.{Prints}
-use Rattle.bw_questions.specs.declared.status.Status.TheVariants.{Done, ReadFault, WriteFault, DoorFault}
+use Rattle.bw_command.specs.declared.status.Status.TheVariants.{Done, ReadFault, WriteFault, DoorFault}
 use Rattle.bw_stable.specs.Deeds.{Deed}
 
 -- what is seen of the outside: what `out` holds, the keys to come, the ports that were asked for, the links to come and

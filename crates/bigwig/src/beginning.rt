@@ -20,10 +20,10 @@ use crate::lent::Lent;
 use crate::readying::Opening;
 use crate::server::Server;
 use crate::serving::print_serving;
-use bw_keeping::{Ended, Room, WideDoor, serve_kept};
+use bw_keeping::{Ended, Room, serve_kept};
 use bw_out::{Failed, Files, Keys, Sink, Steps, WriteFault};
 use bw_questions::{Status, print_line};
-use bw_stable::{Journal, Journals, replace};
+use bw_stable::{Journal, Journals, WideDoor, replace};
 use std::alloc::Global;
 use std::sync::ledger::Ledger;
 

@@ -16,10 +16,9 @@ use crate::saying::{check_command, light_command, valid_command};
 use crate::serving::serve_command;
 use crate::visiting::visit_command;
 use bw_command::{Command, Named};
-use bw_keeping::WideDoor;
 use bw_out::{Files, Keys, Pulse, Sink, Steps};
 use bw_questions::{Status, Tools};
-use bw_stable::Journals;
+use bw_stable::{Journals, WideDoor};
 use std::sync::ledger::Ledger;
 use std::thread::Threads;
 

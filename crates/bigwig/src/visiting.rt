@@ -20,7 +20,7 @@ ghost use Rattle.bw_questions.specs.Reports.{SaysLine};
 ghost use Rattle.bigwig.specs.Scripts as scripts;
 ghost use Rattle.bigwig.specs.Visiting.{TellsEnd, script_of};
 ghost use Rattle.bw_command.specs.declared.command.Command.TheVariants as commands;
-ghost use Rattle.bw_questions.specs.declared.status.Refusal.TheVariants as refusals;
+ghost use Rattle.bw_command.specs.declared.status.Refusal.TheVariants as refusals;
 
 use crate::lent::Lent;
 use crate::server::Server;

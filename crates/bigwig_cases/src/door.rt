@@ -2,9 +2,8 @@
 ghost use Rattle.std.specs.Prelude.{◌≡◌};
 ghost use Rattle.bw_out.specs.Causes.{HasCause};
 
-use bw_keeping::WideDoor;
 use bw_out::{Door, Failed, MemDoor, MemLink};
-use bw_stable::ReadyDoor;
+use bw_stable::{ReadyDoor, WideDoor};
 
 /// Which links of a door come how. Each sort of call is counted from 1.
 #[derive(Clone, Copy)]

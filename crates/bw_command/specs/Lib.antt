@@ -1,3 +1,4 @@
+pub mod Codes
 pub mod Commands
 pub mod Numbers
 pub mod Words

@@ -6,6 +6,7 @@ mod command;
 mod numbers;
 mod reading;
 mod serviceless;
+mod status;
 mod words;
 
 pub use command::{
@@ -13,4 +14,5 @@ pub use command::{
     Named,
 };
 pub use reading::read_words;
+pub use status::{Refusal, Status};
 pub use words::WordsFault;

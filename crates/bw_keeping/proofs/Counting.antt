@@ -1,9 +1,7 @@
 -- How many links are out, and how many wait.
 use Rattle.std.proofs.Common.{◌≡◌, ◌+◌, ℕ, List, [], ◌∷◌, ◌++◌, length, Option, None, Some, Result, Ok, Err, ap, ◌∙◌, subst, length-append}
-use Rattle.std.specs.Prelude.{IfOk, OnOk}
-use Rattle.bw_out.specs.MemLinks.{DoorValue, TakesFirst}
-use Rattle.bw_out.specs.declared.memory.link.MemLink.{MemLink}
-use Rattle.bw_keeping.specs.Counts.{CountsOut}
+use Rattle.std.specs.Prelude.{OnOk}
+use Rattle.bw_stable.specs.Counts.{CountsOut}
 
 pub none_out : {Link : Type 0} (before now : ℕ) (next : Option Link) → next ≡ None → CountsOut before now next → now ≡ before
 none_out {Link} before now next none counts = subst (λ (x : Option Link). CountsOut before now x) none counts
@@ -13,13 +11,6 @@ one_out {Link} before now next link some counts = subst (λ (x : Option Link). C
 
 pub one_longer : {X : Type 0} (xs now : List X) (x : X) → now ≡ xs ++ x ∷ [] → length now ≡ length xs + 1
 one_longer xs now x pushed = ap length pushed ∙ length-append xs (x ∷ [])
-
--- a door in memory counts what it hands out
-pub counts_next : {E : Type 0} (old new : DoorValue) (next : Result (Option MemLink) E) → IfOk next (TakesFirst old new)
-    → IfOk next (CountsOut old.out new.out)
-counts_next old new (Ok None) takes = ap (λ (d : DoorValue). d.out) takes.1
-counts_next old new (Ok (Some link)) takes = ap (λ (d : DoorValue). d.out) takes.4
-counts_next old new (Err e) takes = tt
 
 -- what follows where a call succeeded
 pub on_ok : {T E P Q : Type 0} (result : Result T E) → (P → Q) → OnOk result P → OnOk result Q

@@ -1,5 +1,4 @@
 pub mod Answered
-pub mod Counts
 pub mod Entering
 pub mod Groups
 pub mod Kept

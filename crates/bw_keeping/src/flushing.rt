@@ -7,13 +7,12 @@ ghost use Rattle.bw_world.specs.Streams.Taking.{AreFit};
 ghost use Rattle.bw_keeping.specs.declared.waiting.TheConstants.{MAX_WAITING};
 ghost use Rattle.bw_keeping.specs.Steps.{Closes, Finishes, Flushes, Keeps, desk};
 
-use crate::doors::WideDoor;
 use crate::ended::Ended;
 use crate::group::Group;
 use crate::replying::{give_up_all, reply_to_all};
 use crate::room::Room;
 use bw_out::{Channel, Door, Failed};
-use bw_stable::Journal;
+use bw_stable::{Journal, WideDoor};
 use bw_world::World;
 
 /// Keeps bytes in one piece, if there are some. What is written on the links that wait is told with it.

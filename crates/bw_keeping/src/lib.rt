@@ -17,7 +17,6 @@
 //! message of the stream got, and what had been written when its entry was kept: the replies in front, and nothing of its own.
 #![tactic(auto)]
 
-pub mod doors;
 pub mod ended;
 mod flushing;
 mod group;
@@ -31,7 +30,6 @@ mod streaming;
 mod taking;
 mod waiting;
 
-pub use doors::WideDoor;
 pub use ended::{Ended, StreamEnded};
 pub use group::Group;
 pub use lent::{Handler, StreamRoom};

@@ -9,11 +9,11 @@ ghost use Rattle.bw_world.specs.Stands.{fields_of};
 ghost use Rattle.bw_world.specs.Streams.Courses.{bytes_by};
 ghost use Rattle.bw_keeping.specs.Steps.{AreReplied, GivesBackAll, IsSent, Replies, unanswered};
 
-use crate::doors::WideDoor;
 use crate::waiting::{Queue, Waiting};
 use bw_http::{Reply, write_reply};
 use bw_out::{Sink, Source, WriteFault};
 use bw_world::{Taken, World};
+use bw_stable::WideDoor;
 
 /// Sends the reply that is due on a link, if one is, and gives the link. A fault ends this link alone.
 fn reply_to<C: Source + Sink>(world: &World, waiting: Waiting<C>) -> C

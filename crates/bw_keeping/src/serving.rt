@@ -3,14 +3,13 @@ ghost use Rattle.std.specs.Prelude.{◌≡◌, []};
 ghost use Rattle.bw_out.specs.Causes.{Shows};
 ghost use Rattle.bw_keeping.specs.Served.{Serves, view};
 
-use crate::doors::WideDoor;
 use crate::ended::Ended;
 use crate::flushing::{finish, make_room};
 use crate::replying::give_up_all;
 use crate::room::Room;
 use bw_format::Formats;
 use bw_out::{Failed, Keys, Steps};
-use bw_stable::Journal;
+use bw_stable::{Journal, WideDoor};
 use bw_world::World;
 use std::alloc::Global;
 use std::sync::ledger::Ledger;

@@ -22,12 +22,12 @@ use Rattle.bw_types.specs.declared.typed.Typed.{Typed}
 use Rattle.bw_questions.specs.Asked.{Ruled, Work, accepted, accepted_file, checked, typed}
 use Rattle.bw_questions.specs.FaultLines.{check_text, page_names}
 use Rattle.bw_questions.specs.Behind.{Shown, AreMarked, behind_marks}
-use Rattle.bw_questions.specs.Codes.{status_for}
+use Rattle.bw_command.specs.Codes.{status_for}
 use Rattle.bw_questions.specs.Questions.{◌>>=◌, IsStop, Said}
 use Rattle.bw_questions.specs.Reports.{SaysWhy}
 use Rattle.bw_questions.specs.declared.seen.Sight.{Sight}
-use Rattle.bw_questions.specs.declared.status.Refusal.{Refusal}
-use Rattle.bw_questions.specs.declared.status.Status.TheVariants.{ServiceRefused}
+use Rattle.bw_command.specs.declared.status.Refusal.{Refusal}
+use Rattle.bw_command.specs.declared.status.Status.TheVariants.{ServiceRefused}
 use Rattle.bw_questions.specs.declared.stop.Stop.{Stop}
 use Rattle.bw_questions.specs.declared.stop.Stop.TheVariants as stop
 use Rattle.bw_questions.proofs.Stops.{no_stop}

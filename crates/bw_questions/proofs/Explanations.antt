@@ -47,14 +47,14 @@ use Rattle.bw_sum.specs.Templates.{template_items}
 use Rattle.bw_sum.specs.declared.summary.Summary.{Summary}
 use Rattle.bw_questions.specs.Asked.{examined}
 use Rattle.bw_questions.specs.Behind.{Shown, AreMarked, behind_marks}
-use Rattle.bw_questions.specs.Codes.{status_for}
+use Rattle.bw_command.specs.Codes.{status_for}
 use Rattle.bw_questions.specs.Explaining.{is_of_element, StandsAt, Explains, explanation_text, IsExplanationOf, IsExplanation}
 use Rattle.bw_questions.specs.FaultLines.{check_text, fault_lines, page_names}
 use Rattle.bw_questions.specs.Questions.{IsStop, Said}
 use Rattle.bw_questions.specs.Reports.{SaysWhy}
 use Rattle.bw_questions.specs.declared.seen.Sight.{Sight}
-use Rattle.bw_questions.specs.declared.status.Refusal.{Refusal}
-use Rattle.bw_questions.specs.declared.status.Status.TheVariants.{ServiceRefused}
+use Rattle.bw_command.specs.declared.status.Refusal.{Refusal}
+use Rattle.bw_command.specs.declared.status.Status.TheVariants.{ServiceRefused}
 use Rattle.bw_questions.specs.declared.stop.Stop.{Stop}
 use Rattle.bw_questions.specs.declared.stop.Stop.TheVariants as stop
 

@@ -39,7 +39,7 @@ use Rattle.bw_questions.specs.Asked.{Work}
 use Rattle.bw_questions.specs.Lines.{format_line}
 use Rattle.bw_questions.specs.Questions.{IsAnswer, IsStop}
 use Rattle.bw_questions.specs.Reports.{SaysLine}
-use Rattle.bw_questions.specs.declared.status.Refusal.TheVariants as refusals
+use Rattle.bw_command.specs.declared.status.Refusal.TheVariants as refusals
 use Rattle.bw_questions.specs.declared.stop.Stop.{Stop}
 use Rattle.bw_questions.specs.declared.stop.Stop.TheVariants as stop
 use Rattle.bw_questions.proofs.Files.{take_all, take_length}

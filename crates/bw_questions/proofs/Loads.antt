@@ -27,13 +27,13 @@ use Rattle.bw_out.specs.Told.{Disk}
 use Rattle.bw_questions.specs.Asked.{file, read, typed, service_text}
 use Rattle.bw_questions.specs.Behind.{Shown, AreKept, AreShown, told_if, IsAimAt, IsAimed, shown_if, shown_file, content_of, behind_syntax, behind_type, behind_aim, blamed_in}
 use Rattle.bw_questions.specs.declared.seen.Aimed.{Aimed}
-use Rattle.bw_questions.specs.Codes.{status_for}
+use Rattle.bw_command.specs.Codes.{status_for}
 use Rattle.bw_questions.specs.Lines.{syntax_line, type_line}
 use Rattle.bw_questions.specs.Questions.{Said, Question, ◌>>=◌, IsStop, IsAnswer, line}
 use Rattle.bw_questions.specs.Reports.{SaysText}
-use Rattle.bw_questions.specs.declared.status.Refusal.{Refusal}
-use Rattle.bw_questions.specs.declared.status.Refusal.TheVariants as refusals
-use Rattle.bw_questions.specs.declared.status.Status.TheVariants.{ServiceRefused}
+use Rattle.bw_command.specs.declared.status.Refusal.{Refusal}
+use Rattle.bw_command.specs.declared.status.Refusal.TheVariants as refusals
+use Rattle.bw_command.specs.declared.status.Status.TheVariants.{ServiceRefused}
 use Rattle.bw_questions.specs.declared.stop.Stop.{Stop}
 use Rattle.bw_questions.specs.declared.stop.Stop.TheVariants as stop
 use Rattle.bw_questions.proofs.Answering.{asks_next, stops_first}

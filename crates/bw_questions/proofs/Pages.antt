@@ -17,7 +17,7 @@ use Rattle.bw_questions.specs.Asked.{page, rules, schema, built_in, judged}
 use Rattle.bw_questions.specs.Lines.{no_page_line, breach_line, schema_line}
 use Rattle.bw_questions.specs.Questions.{IsStop, IsAnswer}
 use Rattle.bw_questions.specs.Reports.{SaysLine}
-use Rattle.bw_questions.specs.declared.status.Refusal.TheVariants as refusals
+use Rattle.bw_command.specs.declared.status.Refusal.TheVariants as refusals
 use Rattle.bw_questions.specs.declared.stop.Stop.{Stop}
 use Rattle.bw_questions.specs.declared.stop.Stop.TheVariants as stop
 use Rattle.bw_questions.proofs.Files.{take_all, take_short, refused_all}

@@ -4,10 +4,10 @@ use Rattle.std.proofs.Common.{Vec, Global, ◌≡◌, ℕ, List, Option, None, S
 use Rattle.bw_lang.specs.declared.text.Memory.{Memory}
 use Rattle.bw_out.specs.Causes.{Rose, Shows}
 use Rattle.bw_out.specs.Told.{Disk}
-use Rattle.bw_questions.specs.Codes.{status_for}
+use Rattle.bw_command.specs.Codes.{status_for}
 use Rattle.bw_questions.specs.Questions.{Question, ◌>>=◌, IsStop, IsAnswer, line}
 use Rattle.bw_questions.specs.Reports.{SaysText, SaysLine}
-use Rattle.bw_questions.specs.declared.status.Refusal.{Refusal}
+use Rattle.bw_command.specs.declared.status.Refusal.{Refusal}
 use Rattle.bw_questions.specs.declared.stop.Stop.{Stop}
 use Rattle.bw_questions.specs.declared.stop.Stop.TheVariants as stop
 

@@ -41,7 +41,7 @@ use Rattle.bw_questions.specs.Questions.{Question, ◌>>=◌, found, line}
 use Rattle.bw_command.specs.declared.command.Command.{Command}
 use Rattle.bw_command.specs.declared.command.Judging.{Judging}
 use Rattle.bw_questions.specs.declared.lighting.TheConstants.{MAX_TEXTS_BYTES}
-use Rattle.bw_questions.specs.declared.status.Status.TheVariants.{Usage, NoFile, ServiceRefused, SchemaRefused, PageRefused, FormatsRefused}
+use Rattle.bw_command.specs.declared.status.Status.TheVariants.{Usage, NoFile, ServiceRefused, SchemaRefused, PageRefused, FormatsRefused}
 
 -- what is printed where the words are refused
 abbrev pub usage_line : List ℕ

@@ -1,7 +1,6 @@
 pub mod Asked
 pub mod Behind
 pub mod Checks
-pub mod Codes
 pub mod Explaining
 pub mod FaultLines
 pub mod Lines

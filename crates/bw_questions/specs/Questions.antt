@@ -1,7 +1,7 @@
 -- Questions, one after another: what the program finds out before it does its work.
 use Rattle.std.specs.Prelude.{◌≡◌, ◌⊎◌, ℕ, List, [], ◌∷◌, ◌++◌, Result, MatchResult, ⊤}
-use Rattle.bw_questions.specs.Codes.{status_for}
-use Rattle.bw_questions.specs.declared.status.Status.{Status}
+use Rattle.bw_command.specs.Codes.{status_for}
+use Rattle.bw_command.specs.declared.status.Status.{Status}
 use Rattle.bw_questions.specs.declared.stop.Stop.{Stop}
 use Rattle.bw_questions.specs.declared.stop.Stop.TheVariants.{Says, ReadFault, Memory}
 

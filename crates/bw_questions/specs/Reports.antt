@@ -6,14 +6,14 @@ use Rattle.bw_check.specs.declared.fault.CheckFault.TheVariants as checks
 use Rattle.bw_faults.specs.declared.fault.Fault.{Fault}
 use Rattle.bw_out.specs.Writes.{AppendsPart}
 use Rattle.bw_questions.specs.Behind.{Shown}
-use Rattle.bw_questions.specs.Codes.{status_for}
+use Rattle.bw_command.specs.Codes.{status_for}
 use Rattle.bw_questions.specs.FaultLines.{check_text}
 use Rattle.bw_questions.specs.Questions.{Said, line}
-use Rattle.bw_questions.specs.declared.status.Refusal.{Refusal}
-use Rattle.bw_questions.specs.declared.status.Refusal.TheVariants as refusals
-use Rattle.bw_questions.specs.declared.status.Status.{Status}
-use Rattle.bw_questions.specs.declared.status.Status.TheVariants as status
-use Rattle.bw_questions.specs.declared.status.Status.TheVariants.{WriteFault}
+use Rattle.bw_command.specs.declared.status.Refusal.{Refusal}
+use Rattle.bw_command.specs.declared.status.Refusal.TheVariants as refusals
+use Rattle.bw_command.specs.declared.status.Status.{Status}
+use Rattle.bw_command.specs.declared.status.Status.TheVariants as status
+use Rattle.bw_command.specs.declared.status.Status.TheVariants.{WriteFault}
 use Rattle.bw_questions.specs.declared.stop.Stop.{Stop}
 use Rattle.bw_questions.specs.declared.stop.Stop.TheVariants.{Says, ReadFault, Memory}
 

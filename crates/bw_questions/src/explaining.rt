@@ -11,7 +11,7 @@ ghost use Rattle.bw_questions.specs.Asked.Work.{prints};
 ghost use Rattle.bw_questions.specs.Behind.{shown_of};
 ghost use Rattle.bw_questions.specs.Explaining as spec;
 ghost use Rattle.bw_questions.specs.Questions.{IsAnswer, IsStop, line};
-ghost use Rattle.bw_questions.specs.declared.status.Status.TheVariants.{ServiceRefused};
+ghost use Rattle.bw_command.specs.declared.status.Status.TheVariants.{ServiceRefused};
 
 use crate::checking::page_names;
 use crate::fault_lines::{check_stop, fault_lines};
@@ -19,7 +19,7 @@ use crate::loading::{Loaded, load_service, refused_text};
 use crate::schemas::load_schema;
 use crate::seen::Seen;
 use crate::sight::{seen_as, sight_if};
-use crate::status::Refusal;
+use bw_command::Refusal;
 use crate::stop::Stop;
 use crate::tools::Tools;
 use bw_analyse::page_graph;

@@ -10,7 +10,7 @@ ghost use Rattle.bw_questions.specs.Reports.{SaysWhy};
 use crate::lines::{points_line, shown};
 use crate::seen::Sight;
 use crate::sight::{push_behind_facts, push_behind_fault, push_behind_points};
-use crate::status::Refusal;
+use bw_command::Refusal;
 use crate::stop::Stop;
 use bw_check::CheckFault;
 use bw_faults::{Fault, Faults};

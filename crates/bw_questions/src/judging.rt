@@ -9,7 +9,7 @@ ghost use Rattle.bw_questions.specs.Questions.{IsAnswer, line};
 use crate::lines::{breach_line, no_page_line};
 use crate::loading::{fetch_bytes, refused};
 use crate::schemas::load_schema;
-use crate::status::Refusal;
+use bw_command::Refusal;
 use crate::stop::Stop;
 use bw_lang::{Text, Tree};
 use bw_out::Files;

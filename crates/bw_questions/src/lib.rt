@@ -13,10 +13,10 @@ mod reporting;
 mod schemas;
 mod seen;
 mod sight;
-mod status;
 mod stop;
 mod tools;
 
+pub use bw_command::{Refusal, Status};
 pub use checking::{Kept, Served, load_accepted, load_checked, load_kept, made_checked};
 pub use explaining::load_explained;
 pub use fault_lines::push_shown;
@@ -25,6 +25,5 @@ pub use lighting::load_lights;
 pub use lines::{paired, placed};
 pub use loading::{fetch_bytes, no_file, refused};
 pub use reporting::{print_line, print_text, report};
-pub use status::{Refusal, Status};
 pub use stop::Stop;
 pub use tools::Tools;

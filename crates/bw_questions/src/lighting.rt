@@ -6,12 +6,12 @@ ghost use Rattle.bw_questions.specs.Asked.Work.{prints};
 ghost use Rattle.bw_questions.specs.Lines as spec;
 ghost use Rattle.bw_questions.specs.Questions.{IsAnswer};
 ghost use Rattle.bw_questions.specs.Reports.{SaysLine};
-ghost use Rattle.bw_questions.specs.declared.status.Refusal.TheVariants as refusals;
+ghost use Rattle.bw_command.specs.declared.status.Refusal.TheVariants as refusals;
 
 use crate::formats::load_formats;
 use crate::lines::no_texts_line;
 use crate::loading::{fetch_bytes, refused};
-use crate::status::Refusal;
+use bw_command::Refusal;
 use crate::stop::Stop;
 use bw_format::Formats;
 use bw_lang::Memory;

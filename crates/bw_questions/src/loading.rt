@@ -12,12 +12,12 @@ ghost use Rattle.bw_questions.specs.Behind.{shown_if, shown_of, shown_file, AreK
 ghost use Rattle.bw_questions.specs.Lines as lines;
 ghost use Rattle.bw_questions.specs.Questions.{IsAnswer, IsStop, line};
 ghost use Rattle.bw_questions.specs.Reports.{SaysLine, SaysText};
-ghost use Rattle.bw_questions.specs.declared.status.Refusal.TheVariants as refusals;
+ghost use Rattle.bw_command.specs.declared.status.Refusal.TheVariants as refusals;
 
 use crate::lines::{no_file_line, syntax_line, type_line};
 use crate::seen::{Aimed, Seen};
 use crate::sight::{aim_if, kept, push_behind_syntax, push_behind_type, seen_as};
-use crate::status::Refusal;
+use bw_command::Refusal;
 use crate::stop::Stop;
 use bw_diagnose::Paper;
 use bw_lang::limits::MAX_FILE_BYTES;

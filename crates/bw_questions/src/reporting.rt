@@ -5,7 +5,7 @@ ghost use Rattle.bw_questions.specs.Reports.{Prints};
 ghost use Rattle.bw_questions.specs.Questions.{line};
 ghost use Rattle.bw_questions.specs.Reports.{IsReported};
 
-use crate::status::Status;
+use bw_command::Status;
 use crate::stop::Stop;
 use bw_out::{Sink, WriteFault, write_all, write_parts};
 

@@ -7,7 +7,7 @@ ghost use Rattle.bw_questions.specs.Questions.{IsAnswer};
 
 use crate::lines::schema_line;
 use crate::loading::{fetch_bytes, refused};
-use crate::status::Refusal;
+use bw_command::Refusal;
 use crate::stop::Stop;
 use bw_lang::{Memory, Text};
 use bw_out::Files;

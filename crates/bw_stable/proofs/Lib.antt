@@ -1,3 +1,4 @@
+mod Counting
 pub mod Deeds
 pub mod Replaced
 mod Walks

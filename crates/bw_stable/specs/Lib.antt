@@ -1,4 +1,5 @@
 pub mod Coding
+pub mod Counts
 pub mod Deeds
 pub mod Disk
 pub mod MemJournals

@@ -22,6 +22,7 @@
 #![tactic(auto)]
 
 mod disk;
+mod doors;
 pub mod laws;
 mod log;
 mod memory;
@@ -30,6 +31,7 @@ mod replacing;
 mod system;
 
 pub use disk::{DiskJournal, DiskJournals};
+pub use doors::WideDoor;
 pub use memory::{MemJournal, MemJournals};
 pub use outside::{Journal, Journals, ReadyDoor};
 pub use replacing::replace;

@@ -3,7 +3,7 @@ use crate::help::HELP;
 use crate::shown::ShownDoor;
 use bw_door::{PortDoor, Settles};
 use bw_out::{DiskFiles, Writing};
-use bw_questions::Status;
+use bw_command::Status;
 use bw_stable::DiskJournals;
 use std::fmt::{Display, Formatter};
 use std::io::{Eprint, ErrorKind};

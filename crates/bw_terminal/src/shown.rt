@@ -2,9 +2,8 @@
 ghost use Rattle.std.specs.Prelude.{◌≡◌};
 
 use bw_door::{PortDoor, Settles};
-use bw_keeping::WideDoor;
 use bw_out::{Door, Failed};
-use bw_stable::ReadyDoor;
+use bw_stable::{ReadyDoor, WideDoor};
 use std::io::Eprint;
 use std::net::Net;
 use std::sync::Wait;

@@ -1,7 +1,6 @@
 //! A door in memory that is waited for, or not.
-use bw_keeping::WideDoor;
 use bw_out::{Door, Failed, MemDoor, MemLink};
-use bw_stable::ReadyDoor;
+use bw_stable::{ReadyDoor, WideDoor};
 
 /// A door in memory. Where its links aren't at hand, each of them is kept and answered before the next one comes; else all
 /// together.

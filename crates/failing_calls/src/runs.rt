@@ -3,10 +3,9 @@ ghost use Rattle.std.specs.Prelude.{◌≡◌, ◌<◌};
 
 use crate::wrongs::Wrong;
 use bigwig::run;
-use bw_keeping::WideDoor;
 use bw_lang::{Memory, Text, Words};
 use bw_out::{MemDoor, MemFile, MemFiles, MemKeys, MemLink, MemSink, MemSource, Quiet, Steps};
-use bw_stable::MemJournals;
+use bw_stable::{MemJournals, WideDoor};
 use std::alloc::Global;
 use std::marker::Brand;
 use std::num::NonZeroUsize;

@@ -4,10 +4,9 @@ ghost use Rattle.bw_out.specs.Causes.{Shows};
 ghost use Rattle.bigwig.specs.Lent.{ShowsJournal};
 
 use bigwig::{Status, run};
-use bw_keeping::WideDoor;
 use bw_lang::Words;
 use bw_out::{Files, Keys, Pulse, Sink, Steps};
-use bw_stable::Journals;
+use bw_stable::{Journals, WideDoor};
 use std::alloc::Global;
 use std::sync::ledger::Ledger;
 use std::thread::Threads;

@@ -5,10 +5,9 @@ ghost use Rattle.bigwig.specs.Outcomes.{Comes};
 ghost use Rattle.bigwig.specs.Works.{outside};
 
 use bigwig::{Status, run};
-use bw_keeping::WideDoor;
 use bw_lang::Words;
 use bw_out::{Files, Keys, Pulse, Sink, Steps};
-use bw_stable::Journals;
+use bw_stable::{Journals, WideDoor};
 use std::alloc::Global;
 use std::sync::ledger::Ledger;
 use std::thread::Threads;

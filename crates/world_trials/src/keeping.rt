@@ -6,11 +6,9 @@ ghost use Rattle.bw_keeping.specs.Served.{Serves, view};
 ghost use Rattle.bw_keeping.specs.Streamed.{Streams, sight};
 
 use bw_format::Formats;
-use bw_keeping::{
-    Ended, Handler, Room, StreamEnded, StreamRoom, WideDoor, answer_kept, serve_kept,
-};
+use bw_keeping::{Ended, Handler, Room, StreamEnded, StreamRoom, answer_kept, serve_kept};
 use bw_out::{Door, Keys, Sink, Source, Steps};
-use bw_stable::Journal;
+use bw_stable::{Journal, WideDoor};
 use bw_world::World;
 use std::alloc::Global;
 use std::sync::ledger::Ledger;

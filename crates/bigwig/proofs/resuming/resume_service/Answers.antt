@@ -8,7 +8,7 @@ use Rattle.bigwig.specs.Outcomes.{Comes}
 use Rattle.bigwig.specs.Outcomes.Comes.{read_fault}
 use Rattle.bigwig.specs.Works.{Outside}
 use Rattle.bigwig.specs.declared.keeping.Task.TheVariants.{Stream}
-use Rattle.bw_questions.specs.declared.status.Status.TheVariants.{ReadFault}
+use Rattle.bw_command.specs.declared.status.Status.TheVariants.{ReadFault}
 use Rattle.bigwig.proofs.Beside.{told_all}
 use Rattle.bigwig.proofs.Resumed.{file_absent, file_resumed}
 use Rattle.bigwig.proofs.resuming.resume_service.Goals as goal

@@ -2,7 +2,7 @@ use Rattle.std.proofs.Common.{refl, ap, ◌∙◌, length, arith}
 use Rattle.bw_check.proofs.Accepting.{accepted_by}
 use Rattle.bw_questions.specs.Asked.{examined}
 use Rattle.bw_questions.specs.Behind.{shown_of}
-use Rattle.bw_questions.specs.declared.status.Refusal.TheVariants as refusals
+use Rattle.bw_command.specs.declared.status.Refusal.TheVariants as refusals
 use Rattle.bw_questions.proofs.Loads.{said_stops}
 use Rattle.bw_questions.proofs.explaining.answer_by.Goals as goal
 

@@ -2,10 +2,10 @@
 ghost use Rattle.std.specs.Prelude.{◌≡◌, ◌<◌, ◌+◌, ℕ, IfOk, IfSome, OnErr};
 ghost use Rattle.bw_out.specs.Causes.{HasCause};
 ghost use Rattle.bw_out.specs.Doors.{Arrives, GivesBack};
-ghost use Rattle.bw_keeping.specs.Counts.{CountsOut};
+ghost use Rattle.bw_stable.specs.Counts.{CountsOut};
 
+use crate::outside::ReadyDoor;
 use bw_out::{Door, Failed, MemDoor, MemLink};
-use bw_stable::ReadyDoor;
 
 /// A door of which several links may be out at once: it says how many are, so that each of them can be given back.
 pub trait WideDoor: ReadyDoor {

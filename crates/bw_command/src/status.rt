@@ -1,6 +1,6 @@
 //! How the program ends.
 ghost use Rattle.std.specs.Prelude.{◌≡◌};
-ghost use Rattle.bw_questions.specs.Codes.{code_of, status_for};
+ghost use Rattle.bw_command.specs.Codes.{code_of, status_for};
 
 /// How the program ends. The numbers are its exit codes.
 #[derive(Clone, Copy, PartialEq, Eq)]

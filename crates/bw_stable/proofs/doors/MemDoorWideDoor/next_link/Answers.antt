@@ -1,5 +1,5 @@
-use Rattle.bw_keeping.proofs.Counting.{counts_next}
-use Rattle.bw_keeping.proofs.doors.MemDoorWideDoor.next_link.Goals as goal
+use Rattle.bw_stable.proofs.Counting.{counts_next}
+use Rattle.bw_stable.proofs.doors.MemDoorWideDoor.next_link.Goals as goal
 
 pub returns-clause-out : goal.returns-clause-out
 returns-clause-out c = counts_next c.args.self.now c.next.new.self c.next.result c.next.ensures.first

@@ -1,9 +1,9 @@
 -- The exit codes.
 use Rattle.std.specs.Prelude.{ℕ}
-use Rattle.bw_questions.specs.declared.status.Refusal.{Refusal}
-use Rattle.bw_questions.specs.declared.status.Refusal.TheVariants as refusals
-use Rattle.bw_questions.specs.declared.status.Status.{Status}
-use Rattle.bw_questions.specs.declared.status.Status.TheVariants.{
+use Rattle.bw_command.specs.declared.status.Refusal.{Refusal}
+use Rattle.bw_command.specs.declared.status.Refusal.TheVariants as refusals
+use Rattle.bw_command.specs.declared.status.Status.{Status}
+use Rattle.bw_command.specs.declared.status.Status.TheVariants.{
   Done,
   Usage,
   ServiceRefused,
