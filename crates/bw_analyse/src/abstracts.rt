@@ -1,15 +1,22 @@
 //! What is known of a value.
-ghost use Rattle.std.specs.Prelude.{◌≡◌, IfOk};
+ghost use Rattle.std.specs.Prelude.{◌≡◌, [], IfOk};
+ghost use Rattle.bw_solve.specs.Sets.{IsSet};
+ghost use Rattle.bw_sum.specs.Edges.{edge_cmp};
 ghost use Rattle.bw_analyse.specs.Abstracts.{both, least_of, plugged_by};
+ghost use Rattle.bw_analyse.specs.Apart as apart;
+ghost use Rattle.bw_analyse.specs.Facts.{summary_of};
 
-use bw_lang::{GapId, Kind, Memory};
-use bw_solve::Lattice;
+use bw_lang::{GapId, Kind, Memory, TemplateId};
+use bw_solve::{Lattice, Set};
 use bw_strings::StrSet;
 use bw_sum::Summary;
 use std::alloc::{AllocError, Global};
+use std::mem::replace;
+
+/// The edges of a summary.
+pub(crate) type Edges = Set<(TemplateId, GapId, TemplateId)>;
 
 /// What is known of a value.
-#[derive(Drop)]
 pub enum Abstract {
     /// Nothing, as of a number, a truth value or a list.
     Nothing,
@@ -17,6 +24,16 @@ pub enum Abstract {
     Str(StrSet),
     /// A summary of the documents that it may be.
     Html(Summary),
+}
+
+impl Drop for Abstract {
+    fn drop(self) {
+        match self {
+            Abstract::Nothing => {}
+            Abstract::Str(_) => {}
+            Abstract::Html(_) => {}
+        }
+    }
 }
 
 impl Abstract {
@@ -64,6 +81,50 @@ impl Abstract {
                 Ok(Abstract::Html(b.plug_text(alloc, gap, s)?))
             }
             _ => Ok(Abstract::Nothing),
+        }
+    }
+
+    /// A value without its edges, and these.
+    pub(crate) fn parted(self, alloc: Global) -> (Abstract, Edges)
+        ensures bare { result.0 ≡ apart.with_edges self [] }
+        ensures edges { result.1 ≡ apart.edges_of self }
+        ensures set { IsSet edge_cmp result.1 }
+    {
+        match self {
+            Abstract::Html(summary) => {
+                let mut bare = summary;
+                let edges = replace(&mut bare.edges, Set::new(alloc));
+                // This call tells that the edges are a set.
+                let _edges = edges.as_slice();
+                (Abstract::Html(bare), edges)
+            }
+            Abstract::Nothing => (Abstract::Nothing, Set::new(alloc)),
+            Abstract::Str(strings) => (Abstract::Str(strings), Set::new(alloc)),
+        }
+    }
+
+    /// A value with these edges in place of its own.
+    pub(crate) fn with_edges(self, edges: Edges) -> Abstract
+        ensures { result ≡ apart.with_edges self edges }
+    {
+        match self {
+            Abstract::Html(summary) => {
+                let mut whole = summary;
+                whole.edges = edges;
+                Abstract::Html(whole)
+            }
+            Abstract::Nothing => Abstract::Nothing,
+            Abstract::Str(strings) => Abstract::Str(strings),
+        }
+    }
+
+    /// The summary of a document. In a typed service each page is one.
+    pub(crate) fn into_summary(self, alloc: Global) -> Summary
+        ensures { result ≡ summary_of self }
+    {
+        match self {
+            Abstract::Html(summary) => summary,
+            Abstract::Nothing | Abstract::Str(_) => Summary::none(alloc),
         }
     }
 }

@@ -166,16 +166,6 @@ fn page_of(what: &What) -> Option<&Expr>
     }
 }
 
-/// The summary of a document. In a typed service each page is one.
-fn summary_of(alloc: Global, value: Abstract) -> Summary
-    ensures { result ≡ spec.summary_of value }
-{
-    match value {
-        Abstract::Html(summary) => summary,
-        Abstract::Nothing | Abstract::Str(_) => Summary::none(alloc),
-    }
-}
-
 impl Scene<'_, '_, '_> {
     /// The summary of the page of a point that does this, if it has a page.
     fn summary(&self, alloc: Global, what: &What) -> Result<Option<Summary>, Memory>
@@ -183,7 +173,7 @@ impl Scene<'_, '_, '_> {
             (look self.now.ground.now.typed.now.service self.now.scope.now self.now.locals.now self.now.shared.now) (page_of (act what.now))) }
     {
         match page_of(what) {
-            Some(page) => Ok(Some(summary_of(alloc, self.known(alloc, page)?))),
+            Some(page) => Ok(Some(self.known(alloc, page)?.into_summary(alloc))),
             None => Ok(None),
         }
     }

@@ -1,18 +1,15 @@
 //! What is known of a document while values are plugged into it, one after the other.
 ghost use Rattle.std.specs.Prelude.{◌≡◌, [], IfOk};
-ghost use Rattle.bw_solve.specs.Sets.{IsSet, merge};
+ghost use Rattle.bw_solve.specs.Sets.{merge};
 ghost use Rattle.bw_sum.specs.Edges.{edge_cmp};
 ghost use Rattle.bw_analyse.specs.Abstracts.{plugged_by};
 ghost use Rattle.bw_analyse.specs.Apart as spec;
 
-use crate::abstracts::Abstract;
-use bw_lang::{GapId, Memory, TemplateId};
+use crate::abstracts::{Abstract, Edges};
+use bw_lang::{GapId, Memory};
 use bw_solve::Set;
 use std::alloc::Global;
 use std::marker::Model;
-use std::mem::replace;
-
-type Edges = Set<(TemplateId, GapId, TemplateId)>;
 
 /// What is known of a document while values are plugged into it. Edges may be by far the most of its members, and where each
 /// plug put them together anew, many plugs would take the square of their number. So they stand apart from the other members,
@@ -35,40 +32,6 @@ impl Model for Plugging {
     ghost view = { λ f. with_edges f.bare (merge edge_cmp f.edges f.waiting) };
 
     ghost invariant = { λ f. AreApart f.bare f.edges f.waiting };
-}
-
-/// A value without its edges, and these.
-fn parted(alloc: Global, value: Abstract) -> (Abstract, Edges)
-    ensures bare { result.0 ≡ spec.with_edges value [] }
-    ensures edges { result.1 ≡ spec.edges_of value }
-    ensures set { IsSet edge_cmp result.1 }
-{
-    match value {
-        Abstract::Html(summary) => {
-            let mut bare = summary;
-            let edges = replace(&mut bare.edges, Set::new(alloc));
-            // This call tells that the edges are a set.
-            let _edges = edges.as_slice();
-            (Abstract::Html(bare), edges)
-        }
-        Abstract::Nothing => (Abstract::Nothing, Set::new(alloc)),
-        Abstract::Str(strings) => (Abstract::Str(strings), Set::new(alloc)),
-    }
-}
-
-/// A value with these edges in place of its own.
-fn with_edges(value: Abstract, edges: Edges) -> Abstract
-    ensures { result ≡ spec.with_edges value edges }
-{
-    match value {
-        Abstract::Html(summary) => {
-            let mut whole = summary;
-            whole.edges = edges;
-            Abstract::Html(whole)
-        }
-        Abstract::Nothing => Abstract::Nothing,
-        Abstract::Str(strings) => Abstract::Str(strings),
-    }
 }
 
 /// The edges of both. Where one side has none, nothing is copied.
@@ -94,7 +57,7 @@ impl Plugging {
     pub(crate) fn of(alloc: Global, value: Abstract) -> Plugging
         ensures { result ≡ value }
     {
-        let (bare, edges) = parted(alloc, value);
+        let (bare, edges) = value.parted(alloc);
         Plugging {
             bare,
             edges,
@@ -151,7 +114,7 @@ impl Plugging {
             drop(waiting);
             return Err(Memory);
         };
-        let (bare, new) = parted(alloc, plugged);
+        let (bare, new) = plugged.parted(alloc);
         let Ok(waiting) = joined(alloc, waiting, new) else {
             drop(bare);
             drop(edges);
@@ -173,6 +136,6 @@ impl Plugging {
             drop(bare);
             return Err(Memory);
         };
-        Ok(with_edges(bare, edges))
+        Ok(bare.with_edges(edges))
     }
 }
