@@ -12,8 +12,20 @@ first_in [] b e h = absurd (cc)
 first_in (f ∷ a) b e h = h
 
 -- the first of the faults here is the first of all
-first_of : (e : TypeFault) (here rest whole : List TypeFault) → IsFirst e here → whole ≡ here ++ rest → IsFirst e whole
+pub first_of : (e : TypeFault) (here rest whole : List TypeFault) → IsFirst e here → whole ≡ here ++ rest → IsFirst e whole
 first_of e here rest whole h w = record { why = elim h.why [ inl m ↦ inl m | inr f ↦ inr (ap first_member w ∙ first_in here rest e f) ] }
+
+-- a fault of what the list is
+pub first_is : (e : TypeFault) (all here : List TypeFault) → all ≡ here → first_member here ≡ Some e → IsFirst e all
+first_is e all here w h = record { why = inr (ap first_member w ∙ h) }
+
+-- the first fault of a list that is the same
+pub first_in_same : (e : TypeFault) (all here : List TypeFault) → all ≡ here → IsFirst e here → IsFirst e all
+first_in_same e all here w h = rw w h
+
+-- two places without a fault
+pub both : (a b : List TypeFault) → a ≡ [] → b ≡ [] → a ++ b ≡ []
+both a b h g = ap (λ l. l ++ b) h ∙ g
 
 -- the fault that is answered
 pub told : {X : Type 0} (r : Result X TypeFault) (e : TypeFault) (all : List TypeFault) → IsErrAnd r (λ y. y ≡ e) → IsFirst e all
