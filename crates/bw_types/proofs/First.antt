@@ -1,7 +1,7 @@
 -- The first of several faults.
 use Rattle.std.proofs.Common.{◌≡◌, ◌⊎◌, ℕ, suc, ◌+◌, ◌<◌, List, [], ◌∷◌, ◌++◌, length, get_or, drop, Some, Result, Ok, Err, ap, sym, ◌∙◌, inl, inr, add-one}
 use Rattle.std.proofs.Common.{drop-cons}
-use Rattle.std.specs.Result.{IsErrAnd, IfErr}
+use Rattle.std.specs.Result.{IsErrAnd, IfErr, OnOk}
 use Rattle.bw_types.specs.declared.fault.TypeFault.{TypeFault}
 use Rattle.bw_types.specs.declared.fault.TypeFault.TheVariants.{Memory}
 use Rattle.bw_types.specs.Faults.{first_member}
@@ -26,6 +26,17 @@ first_in_same e all here w h = rw w h
 -- two places without a fault
 pub both : (a b : List TypeFault) → a ≡ [] → b ≡ [] → a ++ b ≡ []
 both a b h g = ap (λ l. l ++ b) h ∙ g
+
+-- what a last call says, of values that are the same
+pub on_ok_same : {X Y : Type 0} {a b x y : Y} (r : Result X TypeFault) → x ≡ a → OnOk r (a ≡ b) → b ≡ y → OnOk r (x ≡ y)
+on_ok_same (Ok v) left h right = left ∙ h ∙ right
+on_ok_same (Err e) left h right = tt
+
+-- the same of the fault that it gives
+pub if_err_same : {X : Type 0} (r : Result X TypeFault) (all here : List TypeFault) → all ≡ here → IfErr r (λ e. IsFirst e here)
+    → IfErr r (λ e. IsFirst e all)
+if_err_same (Ok x) all here w h = tt
+if_err_same (Err y) all here w h = first_in_same y all here w h
 
 -- the fault that is answered
 pub told : {X : Type 0} (r : Result X TypeFault) (e : TypeFault) (all : List TypeFault) → IsErrAnd r (λ y. y ≡ e) → IsFirst e all

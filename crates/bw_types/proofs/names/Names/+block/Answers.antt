@@ -1,9 +1,11 @@
-use Rattle.std.proofs.Common.{◌+◌, length, drop, refl, ap, sym, ◌∙◌}
+use Rattle.std.proofs.Common.{◌+◌, length, drop, refl, ap, sym, ◌∙◌, append-nil}
 use Rattle.bw_lang.specs.Service.Code.{done}
 use Rattle.bw_lang.specs.Service.CodeView.{before, code}
 use Rattle.bw_types.specs.Faults.{code_faults}
 use Rattle.bw_types.specs.Places.{after, outside}
-use Rattle.bw_types.proofs.First.{exits, passed}
+use Rattle.bw_lang.specs.declared.stmt.Stmt.TheVariants.{If}
+use Rattle.bw_types.specs.Scopes.{scope_behind}
+use Rattle.bw_types.proofs.First.{exits, passed, both, on_ok_same, if_err_same}
 use Rattle.bw_types.proofs.Codes.{faults_here, after_here, outside-after}
 use Rattle.bw_types.proofs.names.Names.+block.Goals as goal
 
@@ -30,3 +32,27 @@ block-loop-stmt-preserved t c =
 
 pub block-loop-stmt-init : goal.block-loop-stmt-init
 block-loop-stmt-init t c = record { faults = refl; left = outside-after c.args.locals.now (code c.as_slice-stmt-items.result.now) }
+
+pub statement-returns-in-Some : goal.statement-returns-in-Some
+statement-returns-in-Some t c =
+    let s = c.args.self.now.service.now in let k = c.args.locals.now in
+    let is = c.in-If.is ∙ ap (If c.in-If.test c.in-If.yes) c.in-Some.is in
+    let here = passed _ _ _ (passed _ _ _ (ap (λ x. code_faults s k (before x done)) is) c.in_ok-wanted-in-If.ensures.none)
+        c.in_ok-block-in-If.ensures.none ∙ append-nil _ in
+    let seen = ap (λ m. code_faults s m c.in-Some.no) (sym c.in_ok-block-in-If.ensures.left) in
+    record {
+      none = on_ok_same c.block-in-Some.result (here ∙ seen) c.block-in-Some.ensures.none refl;
+      left = on_ok_same c.block-in-Some.result refl c.block-in-Some.ensures.left
+          (ap (λ m. scope_behind m c.in-Some.no) c.in_ok-block-in-If.ensures.left ∙ ap (λ x. after k (before x done)) (sym is));
+      first = if_err_same c.block-in-Some.result _ _ (here ∙ seen) c.block-in-Some.ensures.first;
+    }
+
+pub statement-returns-in-None : goal.statement-returns-in-None
+statement-returns-in-None t c =
+    let s = c.args.self.now.service.now in let k = c.args.locals.now in
+    let is = c.in-If.is ∙ ap (If c.in-If.test c.in-If.yes) c.in-None.is in
+    record {
+      none = ap (λ x. code_faults s k (before x done)) is ∙ both _ _ c.in_ok-wanted-in-If.ensures.none (both _ _ c.in_ok-block-in-If.ensures.none refl);
+      left = c.in_ok-block-in-If.ensures.left ∙ ap (λ x. after k (before x done)) (sym is);
+      first = tt;
+    }
