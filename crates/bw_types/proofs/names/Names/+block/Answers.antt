@@ -38,7 +38,7 @@ statement-returns-in-Some t c =
     let s = c.args.self.now.service.now in let k = c.args.locals.now in
     let is = c.in-If.is ∙ ap (If c.in-If.test c.in-If.yes) c.in-Some.is in
     let here = passed _ _ _ (passed _ _ _ (ap (λ x. code_faults s k (before x done)) is) c.in_ok-wanted-in-If.ensures.none)
-        c.in_ok-block-in-If.ensures.none ∙ append-nil _ in
+    c.in_ok-block-in-If.ensures.none ∙ append-nil _ in
     let seen = ap (λ m. code_faults s m c.in-Some.no) (sym c.in_ok-block-in-If.ensures.left) in
     record {
       none = on_ok_same c.block-in-Some.result (here ∙ seen) c.block-in-Some.ensures.none refl;
