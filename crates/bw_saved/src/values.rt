@@ -43,6 +43,19 @@ fn bit_at(bytes: &[u8]) -> Result<(bool, &[u8]), ReadError>
     }
 }
 
+/// The byte in front of a value of that kind.
+fn tag_of(kind: Kind) -> u8
+    ensures { result ≡ spec.tag_of kind }
+{
+    match kind {
+        Kind::Int => 0,
+        Kind::Bool => 1,
+        Kind::Str => 2,
+        Kind::Html => 3,
+        Kind::Strs => 4,
+    }
+}
+
 /// A value of that kind, and the bytes behind it.
 #[tactic(auto, unfolding(crate::specs::Values::Reading::value_at))]
 fn value_at<'a>(
@@ -53,29 +66,25 @@ fn value_at<'a>(
 ) -> Result<(Value, &'a [u8]), ReadError>
     ensures { Gives (λ x. (x.0, x.1.now)) result (spec.value_at typed.now.service kind bytes.now) }
 {
+    let rest = tag_at(tag_of(kind), bytes)?;
     match kind {
         Kind::Int => {
-            let rest = tag_at(0, bytes)?;
             let (n, rest) = integer_at(rest)?;
             Ok((Value::Int(n), rest))
         }
         Kind::Bool => {
-            let rest = tag_at(1, bytes)?;
             let (b, rest) = bit_at(rest)?;
             Ok((Value::Bool(b), rest))
         }
         Kind::Str => {
-            let rest = tag_at(2, bytes)?;
             let (text, rest) = text_at(alloc, rest)?;
             Ok((Value::Str(text), rest))
         }
         Kind::Html => {
-            let rest = tag_at(3, bytes)?;
             let (doc, rest) = document_at(alloc, typed, rest)?;
             Ok((Value::Html(doc), rest))
         }
         Kind::Strs => {
-            let rest = tag_at(4, bytes)?;
             let (strings, rest) = strings_at(alloc, rest)?;
             Ok((Value::Strs(strings), rest))
         }

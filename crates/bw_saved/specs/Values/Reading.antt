@@ -20,6 +20,14 @@ bit_at (zero ∷ bytes) = Some (false, bytes)
 bit_at (suc zero ∷ bytes) = Some (true, bytes)
 bit_at (suc (suc b) ∷ bytes) = None
 
+-- the byte in front of a value of a kind
+abbrev pub tag_of : Kind → ℕ
+tag_of kinds.Int = 0
+tag_of kinds.Bool = 1
+tag_of kinds.Str = 2
+tag_of kinds.Html = 3
+tag_of kinds.Strs = 4
+
 -- a value of a kind
 unfoldable pub value_at : Service → Kind → List ℕ → Option (Value × List ℕ)
 value_at service kinds.Int bytes = do
