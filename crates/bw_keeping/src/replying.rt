@@ -12,8 +12,8 @@ ghost use Rattle.bw_keeping.specs.Steps.{AreReplied, GivesBackAll, IsSent, Repli
 use crate::waiting::{Queue, Waiting};
 use bw_http::{Reply, write_reply};
 use bw_out::{Sink, Source, WriteFault};
-use bw_world::{Taken, World};
 use bw_stable::WideDoor;
+use bw_world::{Taken, World};
 
 /// Sends the reply that is due on a link, if one is, and gives the link. A fault ends this link alone.
 fn reply_to<C: Source + Sink>(world: &World, waiting: Waiting<C>) -> C

@@ -7,8 +7,8 @@ ghost use Rattle.bw_questions.specs.Questions.{IsAnswer};
 
 use crate::lines::format_line;
 use crate::loading::{fetch_bytes, refused};
-use bw_command::Refusal;
 use crate::stop::Stop;
+use bw_command::Refusal;
 use bw_format::{Formats, read_formats};
 use bw_lang::Text;
 use bw_out::Files;

@@ -11,8 +11,8 @@ ghost use Rattle.bw_command.specs.declared.status.Refusal.TheVariants as refusal
 use crate::formats::load_formats;
 use crate::lines::no_texts_line;
 use crate::loading::{fetch_bytes, refused};
-use bw_command::Refusal;
 use crate::stop::Stop;
+use bw_command::Refusal;
 use bw_format::Formats;
 use bw_lang::Memory;
 use bw_out::Files;

@@ -17,8 +17,8 @@ ghost use Rattle.bw_command.specs.declared.status.Refusal.TheVariants as refusal
 use crate::lines::{no_file_line, syntax_line, type_line};
 use crate::seen::{Aimed, Seen};
 use crate::sight::{aim_if, kept, push_behind_syntax, push_behind_type, seen_as};
-use bw_command::Refusal;
 use crate::stop::Stop;
+use bw_command::Refusal;
 use bw_diagnose::Paper;
 use bw_lang::limits::MAX_FILE_BYTES;
 use bw_lang::{Memory, Service};

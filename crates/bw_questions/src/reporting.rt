@@ -5,8 +5,8 @@ ghost use Rattle.bw_questions.specs.Reports.{Prints};
 ghost use Rattle.bw_questions.specs.Questions.{line};
 ghost use Rattle.bw_questions.specs.Reports.{IsReported};
 
-use bw_command::Status;
 use crate::stop::Stop;
+use bw_command::Status;
 use bw_out::{Sink, WriteFault, write_all, write_parts};
 
 /// Prints a line, to which its end is added, and gives the status.

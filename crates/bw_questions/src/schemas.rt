@@ -7,8 +7,8 @@ ghost use Rattle.bw_questions.specs.Questions.{IsAnswer};
 
 use crate::lines::schema_line;
 use crate::loading::{fetch_bytes, refused};
-use bw_command::Refusal;
 use crate::stop::Stop;
+use bw_command::Refusal;
 use bw_lang::{Memory, Text};
 use bw_out::Files;
 use bw_schema::{MAX_SCHEMA_BYTES, Schema, built_in, read_schema};

@@ -1,9 +1,9 @@
 //! What is said on standard error where standard output doesn't tell why the program ended.
 use crate::help::HELP;
 use crate::shown::ShownDoor;
+use bw_command::Status;
 use bw_door::{PortDoor, Settles};
 use bw_out::{DiskFiles, Writing};
-use bw_command::Status;
 use bw_stable::DiskJournals;
 use std::fmt::{Display, Formatter};
 use std::io::{Eprint, ErrorKind};
