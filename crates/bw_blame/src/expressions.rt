@@ -14,7 +14,7 @@ use bw_types::locals::Locals;
 use bw_types::names::Names;
 
 /// The kind of an expression without a fault, and the token behind it.
-#[derive(Clone, Copy, Drop)]
+#[derive(Clone, Copy)]
 pub struct Seen {
     pub kind: Kind,
     pub end: usize,

@@ -1,7 +1,7 @@
 //! What a test is about.
 
 /// What a test is about, in its declaration.
-#[derive(Clone, Copy, PartialEq, Eq, Drop)]
+#[derive(Clone, Copy, PartialEq, Eq)]
 pub enum Site {
     /// These tokens, from one on and in front of another, counted from the declaration's first.
     Tokens(usize, usize),
@@ -16,7 +16,7 @@ pub enum Site {
 }
 
 /// Why there is no place behind.
-#[derive(Clone, Copy, PartialEq, Eq, Drop)]
+#[derive(Clone, Copy, PartialEq, Eq)]
 pub enum Missed {
     /// A test fails, the first one, and this is what it is about.
     At(Site),
@@ -25,7 +25,7 @@ pub enum Missed {
 }
 
 /// The first declaration with a test that fails, counted from 0, and what its first one is about.
-#[derive(Clone, Copy, PartialEq, Eq, Drop)]
+#[derive(Clone, Copy, PartialEq, Eq)]
 pub struct Blamed {
     pub declaration: usize,
     pub site: Site,

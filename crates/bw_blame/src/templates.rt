@@ -13,7 +13,7 @@ use bw_types::names::Names;
 use bw_types::{GapKind, TypeFault};
 
 /// How many start tags and how many gaps stand in front.
-#[derive(Clone, Copy, Drop)]
+#[derive(Clone, Copy)]
 pub struct Passed {
     pub tags: usize,
     pub holes: usize,

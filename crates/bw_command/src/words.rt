@@ -9,7 +9,7 @@ use clap::{Arg, ArgAction, ArgMatches, Command};
 use std::alloc::{AllocError, Global};
 
 /// The parts of a command line, as they are written.
-#[derive(Clone, Copy, Drop)]
+#[derive(Clone, Copy)]
 pub struct Line<'a> {
     pub command: Option<&'a str>,
     pub first: Option<&'a str>,
@@ -29,7 +29,7 @@ pub struct Line<'a> {
 }
 
 /// Why words give no line or no command.
-#[derive(Clone, Copy, PartialEq, Eq, Drop)]
+#[derive(Clone, Copy, PartialEq, Eq)]
 pub enum WordsFault {
     /// They are refused.
     Refused,

@@ -22,7 +22,7 @@ use bw_types::TypeFault;
 use std::alloc::Global;
 
 /// The places that are shown: one, and perhaps another.
-#[derive(Clone, Copy, Drop)]
+#[derive(Clone, Copy)]
 struct Places {
     first: Place,
     second: Option<Place>,

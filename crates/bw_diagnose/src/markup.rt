@@ -227,7 +227,7 @@ fn may_end(stage: Stage) -> bool
 }
 
 /// A place of the inside of a template where no piece goes on, and what stands in front of it.
-#[derive(Clone, Copy, Drop)]
+#[derive(Clone, Copy)]
 pub struct Stuck {
     pub at: usize,
     pub stage: Stage,

@@ -12,7 +12,7 @@ use bw_tmpl::TmplFault;
 use std::alloc::Global;
 
 /// A tag that is refused, and one that it has to do with, each by the place of its `<`.
-#[derive(Clone, Copy, Drop)]
+#[derive(Clone, Copy)]
 pub struct Pair {
     pub first: usize,
     pub second: Option<usize>,

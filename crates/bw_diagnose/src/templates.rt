@@ -20,7 +20,7 @@ use bw_tmpl::TmplFault;
 use std::alloc::Global;
 
 /// The places that are shown: one, and perhaps another; and what is expected at the first, where that is known.
-#[derive(Clone, Copy, Drop)]
+#[derive(Clone, Copy)]
 pub struct Shown {
     pub first: Place,
     pub second: Option<Place>,

@@ -10,7 +10,7 @@ use bw_lang::{Lexeme, Limit};
 use bw_limits::{depth_behind, ends_stretch};
 
 /// How far a walk over tokens has come.
-#[derive(Clone, Copy, Drop)]
+#[derive(Clone, Copy)]
 pub struct Walk {
     /// The brackets that are open.
     pub depth: u64,

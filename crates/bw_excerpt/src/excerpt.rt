@@ -32,7 +32,7 @@ pub struct Paper<'a> {
 }
 
 /// Bytes of a text: from this one on, and in front of that one. They are counted from 0.
-#[derive(Clone, Copy, PartialEq, Eq, Drop)]
+#[derive(Clone, Copy, PartialEq, Eq)]
 pub struct Place {
     pub from: usize,
     pub to: usize,
