@@ -15,7 +15,9 @@ use std::time::Clock;
 pub struct ShownDoor<'a, D: Door, R: Eprint> {
     pub inner: D,
     rt: &'a R,
-    is_shown: bool,
+
+    /// Whether it is shown to somebody.
+    pub is_shown: bool,
 
     /// The port that was last asked for, and 0 where none was.
     pub port: u16,
@@ -24,7 +26,9 @@ pub struct ShownDoor<'a, D: Door, R: Eprint> {
 impl<'a, D: Door, R: Eprint> ShownDoor<'a, D, R> {
     /// This door, at no port yet.
     pub fn new(inner: D, rt: &'a R, is_shown: bool) -> Self
-        ensures { result.inner ≡ inner }
+        ensures inner { result.inner ≡ inner }
+        ensures shown { result.is_shown ≡ is_shown }
+        ensures port { result.port ≡ 0 }
     {
         ShownDoor {
             inner,
