@@ -6,7 +6,7 @@ use Rattle.bw_check.specs.Accepts.{Accepts}
 use Rattle.bw_format.specs.declared.format.Format.{Format}
 use Rattle.bw_journal.specs.Layout.{Entry}
 use Rattle.bw_journal.specs.Saved.{saved_head}
-use Rattle.bw_keeping.specs.Answered.{AreAnswered, Between as Stage, Exchange, IsAnswered, at_link, backs_of}
+use Rattle.bw_keeping.specs.Answered.{AreAnswered, Exchange, IsAnswered, backs_of}
 use Rattle.bw_keeping.specs.Served.{Serves, view}
 use Rattle.bw_keeping.specs.declared.ended.Ended.{Ended}
 use Rattle.bw_recall.specs.declared.recalling.Recalled.{Recalled}
@@ -41,7 +41,8 @@ use Rattle.bigwig.specs.Outcomes.{Comes}
 use Rattle.bigwig.specs.Outcomes.Comes.{done}
 use Rattle.bw_questions.specs.Questions.{Said, ◌>>=◌, line}
 use Rattle.bw_questions.specs.Reports.{IsReported}
-use Rattle.bigwig.specs.Works.{AreServed, Between, IsServed, Outside, serving_line}
+use Rattle.bw_world.specs.Streams.Courses.{Between, begins}
+use Rattle.bigwig.specs.Works.{AreServed, IsServed, Outside, serving_line}
 use Rattle.bw_questions.specs.Reports.{Prints}
 use Rattle.bw_command.specs.declared.command.Judging.{Judging}
 use Rattle.bigwig.specs.declared.bringing.Found.{Found}
@@ -59,16 +60,12 @@ use Rattle.bigwig.proofs.Replies.{found_accepted}
 
 -- ---- links
 
--- between two links, as serving without a journal has it
-abbrev plain : Stage → Between
-plain b = record { world = b.world; keys = b.keys; steps = b.steps }
-
 -- a link that was answered beside a journal was served as one without
-link_served : (ruled : Ruled) (from to : Stage) (bytes : List ℕ) (back : Returned) (entries : List Entry) → Accepts ruled.service ruled.schema
+link_served : (ruled : Ruled) (from to : Between) (bytes : List ℕ) (back : Returned) (entries : List Entry) → Accepts ruled.service ruled.schema
     → IsFitWorld ruled from.world → IsAnswered ruled.formats ruled.service from bytes back to entries
-    → IsServed ruled (plain from) bytes back (plain to) × IsFitWorld ruled to.world
+    → IsServed ruled from bytes back to × IsFitWorld ruled to.world
 link_served ruled from to bytes back entries accepts fit a =
-    let later = course_is_fit ruled 1 (at_link from bytes) (at_link to a.rest) (Some []) back.written a.taken a.cost a.end accepts a.course fit in (
+    let later = course_is_fit ruled 1 (begins from bytes) (begins to a.rest) (Some []) back.written a.taken a.cost a.end accepts a.course fit in (
       record {
         end = a.end;
         streamed = record {
@@ -78,7 +75,7 @@ link_served ruled from to bytes back entries accepts fit a =
           course = a.course;
           unhandled = a.unhandled;
           steps = a.steps;
-          pages = λ replies. runs_are_good ruled.formats ruled.service ruled.schema (at_link from bytes) replies accepts fit.0;
+          pages = λ replies. runs_are_good ruled.formats ruled.service ruled.schema (begins from bytes) replies accepts fit.0;
           within = later.1;
         };
         read_fault = a.read_fault;
@@ -87,13 +84,13 @@ link_served ruled from to bytes back entries accepts fit a =
       later,
     )
 
-all_served : (ruled : Ruled) (from to : Stage) (links rest : List (List ℕ)) (xs : List Exchange) → Accepts ruled.service ruled.schema
+all_served : (ruled : Ruled) (from to : Between) (links rest : List (List ℕ)) (xs : List Exchange) → Accepts ruled.service ruled.schema
     → IsFitWorld ruled from.world → AreAnswered ruled.formats ruled.service from links xs to rest
-    → AreServed ruled (plain from) links (backs_of xs) (plain to) rest
-all_served ruled from to links rest [] accepts fit a = (ap plain a.0, a.1)
+    → AreServed ruled from links (backs_of xs) to rest
+all_served ruled from to links rest [] accepts fit a = (a.0, a.1)
 all_served ruled from to links rest (x ∷ xs) accepts fit a =
     let one = link_served ruled from a.2 a.0 x.back x.entries accepts fit a.4 in
-    (a.0, a.1, plain a.2, a.3, one.0, all_served ruled a.2 to a.1 rest xs accepts one.1 a.5)
+    (a.0, a.1, a.2, a.3, one.0, all_served ruled a.2 to a.1 rest xs accepts one.1 a.5)
 
 same_links : (o : Outside) (asked printed : Option (List ℕ)) (coming : Option (List (List ℕ))) (returned : Option (List Returned)) → coming ≡ o.coming
     → returned ≡ o.returned
@@ -129,7 +126,7 @@ links_kept ruled m seen later formats port most sum next o after asked printed c
     let by : Serves ruled.formats ruled.service most here now end =
     subst (λ f. Serves f ruled.service most here now end) (sym is.2) (subst (λ t. Serves formats t most here now end) (sym is.0) serves) in
     let all : ServesKept ruled m sum most o after end = λ keys k links l given g deeds d.
-    let from : Stage = record { world = m; keys = keys; steps = o.steps } in
+    let from : Between = record { world = m; keys = keys; steps = o.steps } in
     let x = by from links given deeds (record { stands = stands; keys = k; coming = c ∙ l; returned = r ∙ g; deeds = d; steps = refl }) in
     record {
       world = later;
@@ -248,12 +245,12 @@ pub begun_told : (told : Option Disk) (service now : Service) (formats held : Li
     → ((ruled : Ruled) (content : List ℕ) (x : Task) → IsRuled now held ruled → P x → IsFoundIn ruled other content seen found
     → IsKept ruled other content x (record o { unread = u; steps = n }) after s)
     → IfSome told (λ disk. (ruled : Ruled) (x : Task) → IsRuled service formats ruled → P x → IsKept ruled text (content_of (disk name)) x o after s)
-begun_told None service now formats held name text given other P o after u n seen found s e f t v finds begins = tt
-begun_told (Some disk) service now formats held name text given other P o after u n seen found s e f t v finds begins = λ ruled x is p.
+begun_told None service now formats held name text given other P o after u n seen found s e f t v finds by_task = tt
+begun_told (Some disk) service now formats held name text given other P o after u n seen found s e f t v finds by_task = λ ruled x is p.
     let content = content_of (disk name) in
     of_reading ruled text content x o after u n s
     (subst (λ (y : List ℕ). IsKept ruled y content x (record o { unread = u; steps = n }) after s) v
-    (begins ruled content x (is.0 ∙ sym e, is.1, is.2 ∙ sym f) p
+    (by_task ruled content x (is.0 ∙ sym e, is.1, is.2 ∙ sym f) p
     (subst (λ (y : List ℕ). IsFoundIn ruled y content seen found) (t ∙ sym v) (finds ruled is))))
 
 -- the journal was closed again

@@ -19,13 +19,13 @@ use Rattle.bw_user.specs.Messages.{get}
 use Rattle.bw_visit.specs.Ends.{IsVisited, Prints, StandsAt, Visited, end_of}
 use Rattle.bw_visit.specs.Exchanges.{IsBetween, Standing}
 use Rattle.bw_visit.specs.Scripts.{IsScript, IsNoScript}
-use Rattle.bw_visit.specs.Visits.{Between, End, Visits, is_amiss}
+use Rattle.bw_visit.specs.Visits.{End, Visits, is_amiss}
 use Rattle.bw_visit.specs.declared.script.Script.{Script as CodeScript}
 use Rattle.bw_visit.specs.declared.visiting.VisitEnd.{VisitEnd}
 use Rattle.bw_visit.specs.declared.visiting.VisitEnd.TheVariants as code
 use Rattle.bw_visit.proofs.Visited.{visits_are_taken}
 use Rattle.bw_world.specs.Stands.{StandsFor}
-use Rattle.bw_world.specs.Streams.Courses.{IsBroken}
+use Rattle.bw_world.specs.Streams.Courses.{IsBroken, Between}
 use Rattle.bw_questions.specs.Asked.{Ruled, accepted_file, file}
 use Rattle.bigwig.specs.Asked.{followed, visited}
 use Rattle.bw_questions.specs.Asked.Work.{visits}

@@ -3,7 +3,7 @@ use Rattle.std.proofs.Common.{◌≡◌, ◌⊎◌, ◌<◌, ◌≤◌, ℕ, fal
 use Rattle.std.proofs.Common.{arith, append-nil, append_assoc, length-append}
 use Rattle.std.specs.Io.KnownBytes.{Appends}
 use Rattle.bw_format.specs.declared.format.Format.{Format}
-use Rattle.bw_world.specs.Streams.Courses.{Course, IsBroken, bytes_by}
+use Rattle.bw_world.specs.Streams.Courses.{Course, IsBroken, bytes_by, Between, begins}
 use Rattle.bw_world.specs.declared.ends.StreamEnd.{StreamEnd}
 use Rattle.bw_world.specs.declared.ends.StreamEnd.TheVariants as ends
 use Rattle.bw_world.proofs.Streams.Streams.{answer_then}
@@ -39,7 +39,7 @@ use Rattle.bigwig.specs.Headline.IsAnswered.{whole, broken, unread}
 use Rattle.bigwig.specs.Outcomes.{Comes, IsDone}
 use Rattle.bw_questions.specs.Asked.{Script}
 use Rattle.bigwig.specs.Visiting.{HasVisited, IsStatusOf, IsVisited}
-use Rattle.bigwig.specs.Works.{AreServed, Between, IsReplayed, IsSaid, IsServing, IsStreamed, Outside, begins, status_of}
+use Rattle.bigwig.specs.Works.{AreServed, IsReplayed, IsSaid, IsServing, IsStreamed, Outside, status_of}
 use Rattle.bigwig.specs.Outcomes.Comes.{said, done, read_fault, no_memory as no_room}
 use Rattle.bigwig.specs.Works.IsServing.{no_port, no_line, links_served}
 use Rattle.bw_command.specs.declared.command.Command.{Command}

@@ -2,7 +2,7 @@
 use Rattle.std.proofs.Common.{◌≡◌, ◌<◌, ◌+◌, ℕ, List, [], ◌∷◌, ◌++◌, length, Option, None, Some, IfSome, refl, sym, ap, ◌∙◌, subst, inl, inr, arith, append-nil}
 use Rattle.std.proofs.Common.{append_assoc, length-append}
 use Rattle.bw_world.specs.Streams.Answers.{Place, IsAt, Answers}
-use Rattle.bw_world.specs.Streams.Courses.{Course}
+use Rattle.bw_world.specs.Streams.Courses.{Course, Between, begins}
 use Rattle.bw_world.specs.Streams.Good.{RepliesAreGood}
 use Rattle.bw_world.specs.declared.ends.StreamEnd.{StreamEnd}
 use Rattle.bw_world.specs.declared.ends.StreamEnd.TheVariants as ends
@@ -18,7 +18,7 @@ use Rattle.bw_world.specs.Stands.{StandsFor}
 use Rattle.bw_questions.specs.Asked.{Ruled}
 use Rattle.bw_questions.specs.Checks.{IsRuled}
 use Rattle.bigwig.specs.Fits.{IsFitWorld}
-use Rattle.bigwig.specs.Works.{Between, Outside, AreServed, IsServed, AreGivenBack, ServesLinks, begins}
+use Rattle.bigwig.specs.Works.{Outside, AreServed, IsServed, AreGivenBack, ServesLinks}
 use Rattle.bw_command.specs.declared.status.Status.TheVariants.{Done, DoorFault}
 use Rattle.bigwig.proofs.Reaching.{course_is_fit}
 

@@ -25,7 +25,8 @@ use Rattle.bigwig.specs.Fits.{IsFitStart, IsFitWorld}
 use Rattle.bw_command.specs.Codes.{status_for}
 use Rattle.bw_questions.specs.Lines.{no_file_line}
 use Rattle.bigwig.specs.Outcomes.{Comes, Replies}
-use Rattle.bigwig.specs.Works.{Between, Outside, outside, IsReplayed, IsStreamed, ServesLinks, begins, serving_line, status_of}
+use Rattle.bw_world.specs.Streams.Courses.{Between, begins}
+use Rattle.bigwig.specs.Works.{Outside, outside, IsReplayed, IsStreamed, ServesLinks, serving_line, status_of}
 use Rattle.bigwig.specs.Outcomes.Comes.{done, read_fault, no_memory}
 use Rattle.bigwig.specs.Works.IsServing.{no_port, no_line, links_served}
 use Rattle.bw_questions.specs.Questions.{Said, Question, ◌>>=◌, IsStop, found, line}

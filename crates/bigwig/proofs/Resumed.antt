@@ -26,7 +26,8 @@ use Rattle.bigwig.specs.Outcomes.{Comes, IsDone}
 use Rattle.bigwig.specs.Outcomes.Comes.{said, done, read_fault, no_memory}
 use Rattle.bw_questions.specs.Questions.{Question, ◌>>=◌}
 use Rattle.bw_questions.specs.Reports.{IsReported, SaysLine}
-use Rattle.bigwig.specs.Works.{Between, IsServing, Outside, begins}
+use Rattle.bw_world.specs.Streams.Courses.{Between, begins}
+use Rattle.bigwig.specs.Works.{IsServing, Outside}
 use Rattle.bigwig.specs.Works.IsServing.{no_port, no_line, links_served}
 use Rattle.bw_command.specs.declared.command.Judging.{Judging}
 use Rattle.bw_command.specs.declared.status.Refusal.TheVariants as refusals

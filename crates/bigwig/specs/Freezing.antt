@@ -8,7 +8,7 @@ use Rattle.bw_model.specs.Sessions.{World}
 use Rattle.bw_out.specs.Told.{Coming}
 use Rattle.bw_save.specs.Saves.{told}
 use Rattle.bw_saved.specs.declared.limits.TheConstants.{MAX_SAVED_WEIGHT}
-use Rattle.bw_saved.specs.Sessions.Demands.{flow_of}
+use Rattle.bw_flow.specs.Layout.{flow_of}
 use Rattle.bw_saved.specs.Sessions.Layout.{file}
 use Rattle.bw_saved.specs.Sessions.Weights.{total_weight}
 use Rattle.bw_world.specs.Seen.{Seen}
@@ -17,7 +17,8 @@ use Rattle.bw_world.specs.declared.ends.StreamEnd.{StreamEnd}
 use Rattle.bw_world.specs.declared.ends.StreamEnd.TheVariants as ends
 use Rattle.bw_questions.specs.Asked.{Ruled}
 use Rattle.bw_questions.specs.Questions.{line}
-use Rattle.bigwig.specs.Works.{Between, IsStreamed, Outside}
+use Rattle.bw_world.specs.Streams.Courses.{Between}
+use Rattle.bigwig.specs.Works.{IsStreamed, Outside}
 use Rattle.bw_questions.specs.Reports.{Prints}
 use Rattle.bw_command.specs.declared.status.Status.{Status}
 use Rattle.bw_command.specs.declared.status.Status.TheVariants.{Done, SaveRefused, ReadFault, Memory}

@@ -33,7 +33,8 @@ use Rattle.bw_world.specs.Seen.{Seen}
 use Rattle.bw_world.specs.Stands.{StandsFor}
 use Rattle.bw_user.specs.Messages.{get}
 use Rattle.bw_visit.specs.Scripts.{IsScript}
-use Rattle.bw_visit.specs.Visits.{Between, End, Visits, is_amiss}
+use Rattle.bw_world.specs.Streams.Courses.{Between}
+use Rattle.bw_visit.specs.Visits.{End, Visits, is_amiss}
 use Rattle.bw_command.specs.Commands.{command_of}
 use Rattle.bigwig.specs.Freezing.{file_of}
 use Rattle.bigwig.specs.Loading.{Loads}

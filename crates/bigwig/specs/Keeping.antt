@@ -39,7 +39,8 @@ use Rattle.bigwig.specs.Freezing.{IsFrozen, file_of}
 use Rattle.bigwig.specs.JournalLines.{journal_line}
 use Rattle.bigwig.specs.Loading.{loads}
 use Rattle.bw_questions.specs.Questions.{Said, line}
-use Rattle.bigwig.specs.Works.{Between, Outside, AreServed, IsSaid, begins, serving_line}
+use Rattle.bw_world.specs.Streams.Courses.{Between, begins}
+use Rattle.bigwig.specs.Works.{Outside, AreServed, IsSaid, serving_line}
 use Rattle.bw_questions.specs.Reports.{Prints}
 use Rattle.bw_command.specs.declared.status.Status.{Status}
 use Rattle.bw_command.specs.declared.status.Status.TheVariants.{Done, ReadFault, WriteFault, DoorFault, Memory, JournalRefused, JournalFault}
@@ -170,9 +171,9 @@ pub record AreKeptLinks (ruled : Ruled) (most sum : ℕ) (from : Between) (links
     (after : Outside) (end : Ended) : Type 0 where
   pub world : Seen
   pub behind : ℕ
-  pub served : HasServed ruled.formats ruled.service most sum (record { world = from.world; keys = from.keys; steps = from.steps }) links given deeds
+  pub served : HasServed ruled.formats ruled.service most sum from links given deeds
       (view_of world behind after) end
-  pub good : AreServed ruled from links (backs_of served.exchanges) (record { world = served.to.world; keys = served.to.keys; steps = served.to.steps })
+  pub good : AreServed ruled from links (backs_of served.exchanges) served.to
       served.rest
 
 -- so it is where the keys, the door and the journal tell

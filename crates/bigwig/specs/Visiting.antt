@@ -10,9 +10,9 @@ use Rattle.bw_model.specs.Runs.{answer_of}
 use Rattle.bw_model.specs.Sessions.{empty}
 use Rattle.bw_out.specs.Told.{Coming}
 use Rattle.bw_user.specs.Messages.{get}
-use Rattle.bw_visit.specs.Visits.{Between, End, Visits, is_amiss}
+use Rattle.bw_visit.specs.Visits.{End, Visits, is_amiss}
 use Rattle.bw_visit.specs.declared.script.Script.{Script as CodeScript}
-use Rattle.bw_world.specs.Streams.Courses.{IsBroken}
+use Rattle.bw_world.specs.Streams.Courses.{IsBroken, Between}
 use Rattle.bw_questions.specs.Asked.{Ruled}
 use Rattle.bw_questions.specs.Questions.{line}
 use Rattle.bigwig.specs.Scripts.{unknown_line}

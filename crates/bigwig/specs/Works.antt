@@ -2,14 +2,13 @@
 use Rattle.std.specs.Prelude.{◌≡◌, ◌⊎◌, ◌<◌, ◌≤◌, ◌+◌, ℕ, List, [], ◌∷◌, ◌++◌, length, Option, Some, codes, decimal}
 use Rattle.std.specs.Io.KnownBytes.{Appends}
 use Rattle.bw_http.specs.declared.replies.Reply.{Reply}
-use Rattle.bw_model.specs.Runs.{At}
 use Rattle.bw_model.specs.Sessions.{World}
 use Rattle.bw_model.specs.Within.{AreWithin}
 use Rattle.bw_out.specs.Causes.{Shows}
 use Rattle.bw_out.specs.Doors.{Returned, Asks, MayAsk}
 use Rattle.bw_out.specs.Told.{Coming}
 use Rattle.bw_out.specs.Writes.{AppendsPart}
-use Rattle.bw_world.specs.Streams.Courses.{AreLeft, Course}
+use Rattle.bw_world.specs.Streams.Courses.{AreLeft, Course, Between, begins}
 use Rattle.bw_world.specs.declared.ends.StreamEnd.{StreamEnd}
 use Rattle.bw_world.specs.declared.ends.StreamEnd.TheVariants as ends
 use Rattle.bw_sound.specs.Good.{AreGood}
@@ -45,16 +44,6 @@ outside printed keys asked coming returned unread steps deeds = record {
   steps = steps;
   deeds = deeds;
 }
-
--- between two streams: the model world, the keys to come, and the steps so far
-pub record Between : Type 0 where
-  pub world : World
-  pub keys : Coming
-  pub steps : ℕ
-
--- a stream of these bytes begins there
-abbrev pub begins : Between → List ℕ → At
-begins from bytes = record { world = from.world; bytes = bytes; keys = from.keys }
 
 -- These bytes were answered by a run of at most so many messages, whose replies are appended to what was held. What follows
 -- them is `rest`, of which some bytes were taken, and `left` was not read. Each page among the replies is good: it is valid by

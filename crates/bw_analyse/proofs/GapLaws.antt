@@ -22,7 +22,7 @@ use Rattle.bw_analyse.specs.Abstracts.{plugged_by}
 use Rattle.bw_analyse.specs.Facts.{rows_of}
 use Rattle.bw_analyse.specs.GapFaults.{lacks, Misses, FillingMisses, term_of, gap_fault, IsFaultIn, IsFaultAt, IsGapFault}
 use Rattle.bw_analyse.specs.Known.{look, known}
-use Rattle.bw_analyse.specs.Least.{flow_of}
+use Rattle.bw_flow.specs.Layout.{flow_of}
 use Rattle.bw_analyse.specs.Noting.{noted_if, noted, noted_filled, noted_term, noted_all}
 use Rattle.bw_analyse.proofs.Points.{count_is}
 

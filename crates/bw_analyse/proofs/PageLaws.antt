@@ -8,7 +8,7 @@ use Rattle.bw_sum.specs.declared.summary.Summary.{Summary}
 use Rattle.bw_analyse.specs.declared.abstracts.Abstract.{Abstract}
 use Rattle.bw_analyse.specs.declared.facts.Facts.{Facts}
 use Rattle.bw_analyse.specs.Facts.{AreFacts, joined_option, names_at, page_of, rows_of, shown_fact, summary_at}
-use Rattle.bw_analyse.specs.Least.{flow_of}
+use Rattle.bw_flow.specs.Layout.{flow_of}
 use Rattle.bw_analyse.specs.Pages.{HasPage}
 use Rattle.bw_analyse.specs.Rounds.{Placed, placed}
 

@@ -12,7 +12,7 @@ use Rattle.bw_analyse.specs.declared.abstracts.Abstract.TheVariants.{Nothing, St
 use Rattle.bw_analyse.specs.declared.facts.Facts.{Facts}
 use Rattle.bw_analyse.specs.Abstracts.{no_document}
 use Rattle.bw_analyse.specs.Known.{of_name, of_local, look, known}
-use Rattle.bw_analyse.specs.Least.{flow_of}
+use Rattle.bw_flow.specs.Layout.{flow_of}
 use Rattle.bw_analyse.specs.Rounds.{Placed, placed}
 use Rattle.bw_analyse.specs.Solutions.{IsSolution}
 

@@ -9,7 +9,7 @@ use Rattle.bw_sum.specs.Small.{highest_rank}
 use Rattle.bw_sum.specs.Small as summaries
 use Rattle.bw_analyse.specs.declared.abstracts.Abstract.{Abstract}
 use Rattle.bw_analyse.specs.declared.abstracts.Abstract.TheVariants.{Nothing, Str, Html}
-use Rattle.bw_analyse.specs.Least.{flow_of}
+use Rattle.bw_flow.specs.Layout.{flow_of}
 
 -- a value of this kind
 abbrev pub Fits : Kind → Abstract → Type 0

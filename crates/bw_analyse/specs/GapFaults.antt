@@ -13,7 +13,7 @@ use Rattle.bw_analyse.specs.declared.facts.Facts.{Facts}
 use Rattle.bw_analyse.specs.Abstracts.{plugged_by}
 use Rattle.bw_analyse.specs.Facts.{rows_of}
 use Rattle.bw_analyse.specs.Known.{look, known}
-use Rattle.bw_analyse.specs.Least.{flow_of}
+use Rattle.bw_flow.specs.Layout.{flow_of}
 
 -- some document of these may have no open gap of that number
 abbrev pub lacks : Abstract → ℕ → Bool

@@ -1,8 +1,7 @@
 -- The least solution of a service, and when there is none.
 use Rattle.std.specs.Prelude.{ℕ, ◌+◌, ◌<◌, List, length}
 use Rattle.bw_lang.specs.declared.service.Service.{Service}
-use Rattle.bw_flow.specs.Layout.{plan_of}
-use Rattle.bw_flow.specs.Steps.{Step}
+use Rattle.bw_flow.specs.Layout.{flow_of}
 use Rattle.bw_solve.specs.System.{IsLeast, IsOver}
 use Rattle.bw_analyse.specs.declared.abstracts.Abstract.{Abstract}
 use Rattle.bw_analyse.specs.declared.fault.AnalyseFault.{AnalyseFault}
@@ -11,10 +10,6 @@ use Rattle.bw_analyse.specs.Abstracts.{is_below, size_of}
 use Rattle.bw_analyse.specs.Rounds.{empty, round}
 use Rattle.bw_analyse.specs.Rows.{each_below, all_sizes}
 use Rattle.bw_analyse.specs.declared.analysis.TheConstants.{MAX_MEMBERS}
-
--- the points of a service
-abbrev pub flow_of : Service → List Step
-flow_of service = (plan_of service).steps
 
 -- one row for each point, and one for the shared variables
 abbrev pub rows : Service → ℕ

@@ -13,7 +13,7 @@ use Rattle.bw_sum.specs.Templates.{template_items}
 use Rattle.bw_analyse.specs.declared.facts.Facts.{Facts}
 use Rattle.bw_analyse.specs.Abstracts.{no_document}
 use Rattle.bw_analyse.specs.Facts.{page_of, shown_fact}
-use Rattle.bw_analyse.specs.Least.{flow_of}
+use Rattle.bw_flow.specs.Layout.{flow_of}
 
 -- the summary of the wrapper of shown pages as it stands, and that of the wrapper of last pages
 abbrev pub show_constant : Service → Summary

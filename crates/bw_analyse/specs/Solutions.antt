@@ -4,7 +4,8 @@ use Rattle.bw_lang.specs.declared.service.Service.{Service}
 use Rattle.bw_solve.specs.System.{family, EachFits}
 use Rattle.bw_analyse.specs.declared.abstracts.Abstract.{Abstract}
 use Rattle.bw_analyse.specs.Fits.{FitsCell}
-use Rattle.bw_analyse.specs.Least.{flow_of, rows, IsLeastSolution}
+use Rattle.bw_flow.specs.Layout.{flow_of}
+use Rattle.bw_analyse.specs.Least.{rows, IsLeastSolution}
 use Rattle.bw_analyse.specs.Rounds.{empty}
 
 -- there is a row for each cell, each fits its cell, and together they are the least solution

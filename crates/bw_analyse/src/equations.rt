@@ -1,7 +1,7 @@
 //! The system of a service: one cell for each point, with what is known of the locals there, and one for the shared
 //! variables.
 ghost use Rattle.std.specs.Prelude.{◌≡◌, ℕ, ◌+◌, ◌<◌, length, IfOk, [], slice_index_or, vec_len};
-ghost use Rattle.bw_analyse.specs.Least.{flow_of};
+ghost use Rattle.bw_flow.specs.Layout.{flow_of};
 ghost use Rattle.bw_analyse.specs.Readers.{readers_of};
 ghost use Rattle.bw_analyse.specs.Rounds.{arrows_to};
 
@@ -55,8 +55,9 @@ impl<'a, 'b> Equations<'a, 'b> {
 impl System for Equations<'_, '_> {
     type Value = Row;
 
+    ghost use Rattle.bw_flow.specs.Layout.{flow_of};
     ghost use Rattle.bw_analyse.specs.Fits.{FitsCell, rank_bound};
-    ghost use Rattle.bw_analyse.specs.Least.{flow_of, rows};
+    ghost use Rattle.bw_analyse.specs.Least.{rows};
     ghost use Rattle.bw_analyse.specs.Readers.{readers_of};
     ghost use Rattle.bw_analyse.specs.Rounds.{empty, round};
     ghost use Rattle.bw_analyse.specs.Lawful.TypedSystem.{typed_system};

@@ -1,7 +1,7 @@
 //! The faults of plugs whose gap may be missing.
 ghost use Rattle.std.specs.Prelude.{◌≡◌, IfOk, OnOk, MatchOption, None, Some, [], length};
 ghost use Rattle.bw_faults.specs.Lists.{Lists};
-ghost use Rattle.bw_flow.specs.Layout.{plan_of};
+ghost use Rattle.bw_flow.specs.Layout.{plan_of, flow_of};
 ghost use Rattle.bw_flow.specs.View.{act};
 ghost use Rattle.bw_lang.specs.Service.TermView.{term};
 ghost use Rattle.bw_analyse.specs.Abstracts.{plugged_by};
@@ -9,7 +9,6 @@ ghost use Rattle.bw_lang.specs.Table.Names.{name_number};
 ghost use Rattle.bw_analyse.specs.Facts.{AreFacts, rows_of};
 ghost use Rattle.bw_analyse.specs.GapFaults.{lacks, term_of, gap_fault, IsGapFault};
 ghost use Rattle.bw_analyse.specs.Known.{look, known, known_filled};
-ghost use Rattle.bw_analyse.specs.Least.{flow_of};
 ghost use Rattle.bw_analyse.specs.Noting as spec;
 ghost use Rattle.bw_analyse.specs.Noting.{noted_if, noted, noted_filled, noted_term, noted_all};
 

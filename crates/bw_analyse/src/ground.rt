@@ -4,7 +4,7 @@ ghost use Rattle.std.specs.Coded.{Coded-set, codes};
 ghost use Rattle.bw_lang.specs.Encoding.TermEncoding.{encoded_term};
 ghost use Rattle.bw_flow.specs.View.{seen};
 ghost use Rattle.bw_strings.specs.Literals.{literals_of};
-ghost use Rattle.bw_analyse.specs.Least.{flow_of};
+ghost use Rattle.bw_flow.specs.Layout.{flow_of};
 ghost use Rattle.bw_analyse.specs.Constants.{first_constants};
 
 use crate::known::Scene;

@@ -3,7 +3,7 @@ ghost use Rattle.std.specs.Prelude.{◌≡◌, ℕ, ◌<◌, length, IfOk, map, 
 ghost use Rattle.bw_flow.specs.Steps.{Step};
 ghost use Rattle.bw_analyse.specs.Abstracts.{both, least_of};
 ghost use Rattle.bw_analyse.specs.Known.{of_literal};
-ghost use Rattle.bw_analyse.specs.Least.{flow_of};
+ghost use Rattle.bw_flow.specs.Layout.{flow_of};
 ghost use Rattle.bw_analyse.specs.Rounds.{next_local, next_shared, left_at, added_by, join_some};
 
 use crate::abstracts::Abstract;

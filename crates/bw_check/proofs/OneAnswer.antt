@@ -5,7 +5,7 @@ use Rattle.bw_analyse.specs.declared.abstracts.Abstract.{Abstract}
 use Rattle.bw_analyse.specs.declared.facts.Facts.{Facts}
 use Rattle.bw_analyse.specs.Facts.{AreFacts, page_of, joined_option}
 use Rattle.bw_analyse.specs.GapFaults.{IsFaultAt}
-use Rattle.bw_analyse.specs.Least.{flow_of}
+use Rattle.bw_flow.specs.Layout.{flow_of}
 use Rattle.bw_analyse.specs.Pages as pages
 use Rattle.bw_faults.specs.declared.fault.Fault.{Fault}
 use Rattle.bw_faults.proofs.Adding.{none_of}

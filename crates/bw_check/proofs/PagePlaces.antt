@@ -6,7 +6,7 @@ use Rattle.std.specs.List.{All, AllByRecursion, Contains}
 use Rattle.std.proofs.lemmas.Bool.{false≢true}
 use Rattle.std.proofs.lemmas.List.{drop_more, drop_all, append-nil}
 use Rattle.bw_analyse.specs.Facts.{page_of}
-use Rattle.bw_analyse.specs.Least.{flow_of}
+use Rattle.bw_flow.specs.Layout.{flow_of}
 use Rattle.bw_analyse.specs.Pages.{HasPage}
 use Rattle.bw_flow.specs.declared.point.Point.{Point}
 use Rattle.bw_flow.specs.Steps.{Step}

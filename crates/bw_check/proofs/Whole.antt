@@ -2,7 +2,7 @@
 use Rattle.std.proofs.Common.{◌≡◌, ℕ, List, inl, inr}
 use Rattle.bw_analyse.specs.declared.facts.Facts.{Facts}
 use Rattle.bw_analyse.specs.GapFaults.{IsGapFault}
-use Rattle.bw_analyse.specs.Least.{flow_of}
+use Rattle.bw_flow.specs.Layout.{flow_of}
 use Rattle.bw_faults.specs.declared.fault.Fault.{Fault}
 use Rattle.bw_faults.specs.Lists.{Lists}
 use Rattle.bw_faults.specs.Order.{fault_cmp}

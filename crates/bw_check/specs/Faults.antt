@@ -4,7 +4,7 @@ use Rattle.std.specs.List.{Contains}
 use Rattle.bw_analyse.specs.declared.facts.Facts.{Facts}
 use Rattle.bw_analyse.specs.Facts.{page_of}
 use Rattle.bw_analyse.specs.GapFaults.{IsGapFault}
-use Rattle.bw_analyse.specs.Least.{flow_of}
+use Rattle.bw_flow.specs.Layout.{flow_of}
 use Rattle.bw_analyse.specs.Pages.{page_graph}
 use Rattle.bw_faults.specs.declared.fault.Fault.{Fault}
 use Rattle.bw_fields.specs.Received.{IsFieldFault}

@@ -1,7 +1,7 @@
 -- The pieces of the check.
 use Rattle.std.specs.Prelude.{ℕ, ◌+◌, List, [], ◌∷◌, is_some, if◌then◌else◌}
 use Rattle.bw_analyse.specs.Facts.{page_of}
-use Rattle.bw_analyse.specs.Least.{flow_of}
+use Rattle.bw_flow.specs.Layout.{flow_of}
 use Rattle.bw_flow.specs.Steps.{Step}
 use Rattle.bw_lang.specs.declared.service.Service.{Service}
 

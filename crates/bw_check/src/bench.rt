@@ -1,11 +1,10 @@
 //! One piece of the check: the page of a show or an exit.
 ghost use Rattle.std.specs.Prelude.{◌≡◌, IfOk, slice_get, Some, length};
 ghost use Rattle.bw_analyse.specs.Facts.{AreFacts};
-ghost use Rattle.bw_analyse.specs.Least.{flow_of};
 ghost use Rattle.bw_analyse.specs.Pages.{HasPage, page_graph};
 ghost use Rattle.bw_faults.specs.Lists.{Lists};
 ghost use Rattle.bw_faults.specs.Order.{fault_cmp};
-ghost use Rattle.bw_flow.specs.Layout.{plan_of};
+ghost use Rattle.bw_flow.specs.Layout.{plan_of, flow_of};
 ghost use Rattle.bw_flow.specs.View.{seen};
 ghost use Rattle.bw_solve.specs.Sets.{merge};
 ghost use Rattle.bw_shape.specs.Outlines.{IsPageGraph, IsShape};

@@ -18,7 +18,8 @@ use Rattle.bw_shape.proofs.Nodes.Bools.{same_itself}
 use Rattle.bw_sum.specs.Graph.{Graph}
 use Rattle.bw_sum.specs.Unfolding.{FillsValue, kept, left_open, said_in, FillsAttrs, no_more, more}
 use Rattle.bw_explain.specs.declared.sizes.TheConstants.{PAST}
-use Rattle.bw_explain.specs.Ways.{Way, way_of, is_in, says, ways_at, graph}
+use Rattle.bw_shape.specs.Nodes.Nodes.{among}
+use Rattle.bw_explain.specs.Ways.{Way, way_of, says, ways_at, graph}
 use Rattle.bw_explain.specs.Sizes.{size, capped, least_of, some_word, is_said, may_fill, attrs_least}
 use Rattle.bw_explain.specs.Walks.{Aim, is_wordy, says_wordy}
 use Rattle.bw_explain.proofs.Numbers.{if_true, if_there}
@@ -93,14 +94,14 @@ wordy_there A w h =
 
 -- ---- templates
 
-pub led_low : (known : ℕ → ℕ) (ms : List ℕ) (m : ℕ) → is_in ms m ≡ true → least_of known ms ≤ known m
+pub led_low : (known : ℕ → ℕ) (ms : List ℕ) (m : ℕ) → among ms m ≡ true → least_of known ms ≤ known m
 led_low known [] m h = absurd (false≢true h)
-led_low known (k ∷ ms) m h = elim (or_cases (k == m) (is_in ms m) h) [
+led_low known (k ∷ ms) m h = elim (or_cases (k == m) (among ms m) h) [
   | inl here ↦ let e = ap known (eqb-true k m here) in omega (arith, e)
   | inr there ↦ let r = led_low known ms m there in omega (arith, r)
 ]
 
-pub led_there : (known : ℕ → ℕ) (ms : List ℕ) → least_of known ms ≤ PAST → (m : ℕ) × (is_in ms m ≡ true) × (known m ≤ least_of known ms)
+pub led_there : (known : ℕ → ℕ) (ms : List ℕ) → least_of known ms ≤ PAST → (m : ℕ) × (among ms m ≡ true) × (known m ≤ least_of known ms)
 led_there known [] h = absurd (omega arith)
 led_there known (m ∷ ms) h = elim (order (known m) (least_of known ms)) [
   | inl here ↦ (m, or_left _ _ (eq-eqb m m refl), omega arith)

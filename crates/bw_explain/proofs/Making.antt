@@ -10,7 +10,8 @@ use Rattle.bw_explain.specs.Sizes.{size, if_so, least_of, is_loose}
 use Rattle.bw_explain.specs.Tables.{Table, size_at, doc_at, Documents}
 use Rattle.bw_explain.specs.Walks.{Aim, takes, is_wordy, says_wordy, gap_cost, known_at, Runs, left, said, led, Adds, IsLoose, open_gap, one_text, Picks}
 use Rattle.bw_explain.specs.Walks.{loose, plug}
-use Rattle.bw_explain.specs.Ways.{Way, way_of, ways_at, is_in, says, graph}
+use Rattle.bw_shape.specs.Nodes.Nodes.{among}
+use Rattle.bw_explain.specs.Ways.{Way, way_of, ways_at, says, graph}
 use Rattle.bw_explain.proofs.Filling.{led_there, way_at}
 use Rattle.bw_explain.proofs.Given.{known_is}
 use Rattle.bw_explain.proofs.Numbers.{least_is, if_there}
@@ -18,7 +19,7 @@ use Rattle.bw_explain.proofs.Runs.{stay_takes, next_takes, taken}
 
 -- where no template has the least size, a string or the open gap does
 pub loose_for : (known : ℕ → ℕ) (ms : List ℕ) (b : Bool) (v : ℕ) → v ≡ min (if_so b 1) (least_of known ms) → v ≤ MAX_SIZE
-    → ((m : ℕ) → is_in ms m ≡ true → v < known m) → (b ≡ true) × (v ≡ 1)
+    → ((m : ℕ) → among ms m ≡ true → v < known m) → (b ≡ true) × (v ≡ 1)
 loose_for known ms b v e l h = elim (least_is (if_so b 1) (least_of known ms)) [
   | inl k ↦ let c = if_there b 1 (let q = e in omega (arith, q, k, l)) in (c.0, e ∙ k ∙ c.1)
   | inr k ↦
@@ -29,7 +30,7 @@ loose_for known ms b v e l h = elim (least_is (if_so b 1) (least_of known ms)) [
 ]
 
 pub none_picks : (w : Going) (way : Way) (x y : ℕ) (t : Table) (v : ℕ) → v ≡ gap_cost (walk_of w) way x y → v ≤ MAX_SIZE → t ≡ table_of w.known x y
-    → ((m : ℕ) → is_in way.led m ≡ true → v < size_at t m) → (takes x y (is_loose way) (says_wordy (aim_of w.aim) way) ≡ true) × (v ≡ 1)
+    → ((m : ℕ) → among way.led m ≡ true → v < size_at t m) → (takes x y (is_loose way) (says_wordy (aim_of w.aim) way) ≡ true) × (v ≡ 1)
 none_picks w way x y t v e l g h = loose_for (known_at (known_of w.known) x y) way.led (takes x y (is_loose way) (says_wordy (aim_of w.aim) way)) v e l
     (λ m i. subst (λ f. v < f m) (sym (known_is w.known x y)) (subst (λ z. v < size_at z m) g (h m i)))
 
@@ -53,7 +54,7 @@ module _ (templates : ℕ → Forest) (nodes : List (List Way)) (A : Aim) (n k g
       sized (one_text q o) h = omega (arith, h)
   picks_run w t old new e l docs (plug m i s f) =
       let d = docs m (omega (arith, s, l)) in
-      record { some = doc_at t m; behind = f; has = led (ap (λ z. is_in z.led m) e ∙ i) d.0; most = let h = d.1 in omega (arith, h, s) }
+      record { some = doc_at t m; behind = f; has = led (ap (λ z. among z.led m) e ∙ i) d.0; most = let h = d.1 in omega (arith, h, s) }
 
 -- a gap left open, or a text that may fill it
 pub next_says : (A : Aim) (w : Way) (x y : ℕ) → (x ≡ y → ⊥) → takes x y (is_loose w) (says_wordy A w) ≡ true → (x + 1 ≡ y) × (says_wordy A w ≡ true)

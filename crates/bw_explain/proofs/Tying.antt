@@ -28,15 +28,15 @@ use Rattle.bw_solve.specs.Tables.{found}
 use Rattle.std.specs.Prelude.{cond, slice_index_or}
 use Rattle.std.specs.Ordering.{nat_cmp, is_eq, ordering_then}
 use Rattle.bw_shape.specs.Nodes.Fits.{Fits, AreStrings}
-use Rattle.bw_explain.specs.Ways.{Way, no_way, way_of, ways_at, graph, is_in, says}
+use Rattle.bw_explain.specs.Ways.{Way, no_way, way_of, ways_at, graph, says}
 
 -- ---- the way that was made
 
-led_is : (g m : ℕ) (links : List (ℕ × ℕ)) → is_in (led_at g links) m ≡ list_any (λ l. (l.0 == g) && (l.1 == m)) links
+led_is : (g m : ℕ) (links : List (ℕ × ℕ)) → among (led_at g links) m ≡ list_any (λ l. (l.0 == g) && (l.1 == m)) links
 led_is g m [] = refl
 led_is g m (l ∷ ls) = list_any-append (λ k. k == m) (if l.0 == g then l.1 ∷ [] else []) (led_at g ls) ∙ by (l.0 == g) (led_is g m ls)
   where
-    by : (b : Bool) → is_in (led_at g ls) m ≡ list_any (λ l. (l.0 == g) && (l.1 == m)) ls
+    by : (b : Bool) → among (led_at g ls) m ≡ list_any (λ l. (l.0 == g) && (l.1 == m)) ls
         → (list_any (λ k. k == m) (if b then l.1 ∷ [] else []) || list_any (λ k. k == m) (led_at g ls))
         ≡ ((b && (l.1 == m)) || list_any (λ l. (l.0 == g) && (l.1 == m)) ls)
     by true h = ap (λ k. k || list_any (λ k. k == m) (led_at g ls)) (or-false (l.1 == m)) ∙ ap (λ k. (l.1 == m) || k) h
@@ -74,7 +74,7 @@ pub way_says : (literals : List (List ℕ)) (node : Node) (said : List (ℕ × S
     ≡ list_any (λ l. (l.0 == g) && has_string literals l.1 s) said
 way_says literals node said g s = says_is literals g s said
 
-pub way_leads : (literals : List (List ℕ)) (node : Node) (said : List (ℕ × StrSet)) (g m : ℕ) → is_in (way_for literals node said g).led m
+pub way_leads : (literals : List (List ℕ)) (node : Node) (said : List (ℕ × StrSet)) (g m : ℕ) → among (way_for literals node said g).led m
     ≡ list_any (λ l. (l.0 == g) && (l.1 == m)) node.links
 way_leads literals node said g m = led_is g m node.links
 
@@ -216,11 +216,11 @@ pub ways_tie : (literals : List (List ℕ)) (nodes : List Node) (said : List (Li
     → ((n g : ℕ) → list_any (of_label n g) page.texts ≡ true → has_way (ways_at list n) g ≡ true)
     → Ties (graph list) (summary_graph literals page)
 ways_tie literals nodes said page list fits strings made_is tracks edges labels = record {
-  edge = λ n g m. agrees (is_in (way_of (ways_at list n) g).led m) (list_any (λ l. (l.0 == g) && (l.1 == m)) (node_at nodes n).links)
+  edge = λ n g m. agrees (among (way_of (ways_at list n) g).led m) (list_any (λ l. (l.0 == g) && (l.1 == m)) (node_at nodes n).links)
       (has edge_cmp page.edges (n, g, m)) (has_way (ways_at list n) g)
-      (λ h. ap (λ w. is_in w.led m) (way_there (made literals nodes said n) (ways_at list n) g (made_is n) h)
+      (λ h. ap (λ w. among w.led m) (way_there (made literals nodes said n) (ways_at list n) g (made_is n) h)
       ∙ way_leads literals (node_at nodes n) (slice_index_or said n []) g m)
-      (λ h. ap (λ w. is_in w.led m) (way_missing (ways_at list n) g h)) (fits.edges n g m) (λ h. edges n g (edge_there n g m page.edges h));
+      (λ h. ap (λ w. among w.led m) (way_missing (ways_at list n) g h)) (fits.edges n g m) (λ h. edges n g (edge_there n g m page.edges h));
   label = λ n g s. agrees (says (way_of (ways_at list n) g) s) (list_any (λ l. (l.0 == g) && has_string literals l.1 s) (slice_index_or said n []))
       (has_string literals (found pair_cmp (Of []) page.texts (n, g)) s) (has_way (ways_at list n) g)
       (λ h. ap (λ w. says w s) (way_there (made literals nodes said n) (ways_at list n) g (made_is n) h)

@@ -12,7 +12,8 @@ use Rattle.bw_explain.specs.declared.sizes.TheConstants.{MAX_SIZE, PAST, NONE}
 use Rattle.bw_explain.specs.declared.reach.Reach.{Reach}
 use Rattle.bw_explain.specs.declared.reach.Moves.{Moves}
 use Rattle.bw_explain.specs.Tables.{Table, size_at, doc_at}
-use Rattle.bw_explain.specs.Ways.{Way, way_of, ways_at, says, is_in}
+use Rattle.bw_shape.specs.Nodes.Nodes.{among}
+use Rattle.bw_explain.specs.Ways.{Way, way_of, ways_at, says}
 use Rattle.bw_explain.specs.Sizes.{size, capped, plus, if_so, least_of, is_loose, attrs_least}
 
 -- what is looked for. A walk over items begins in a state, and comes to the next one at what is looked for there. deep: one element, at any depth, of
@@ -235,7 +236,7 @@ pub data IsLoose (A : Aim) (w : Way) (x y : ℕ) : Forest → Type 0 where
 -- to these, what may stand at a gap is put of at most that size: the gap, a text, or the document of a template
 pub data Picks (A : Aim) (w : Way) (t : Table) (x y v : ℕ) (old new : Forest) : Type 0 where
   loose : {d : Forest} → IsLoose A w x y d → 1 ≤ v → new ≡ append old d → Picks A w t x y v old new
-  plug : (m : ℕ) → is_in w.led m ≡ true → size_at t m ≤ v → new ≡ append old (doc_at t m) → Picks A w t x y v old new
+  plug : (m : ℕ) → among w.led m ≡ true → size_at t m ≤ v → new ≡ append old (doc_at t m) → Picks A w t x y v old new
 
 -- of three documents, that of a state
 abbrev pub doc_of : Forest → Forest → Forest → ℕ → Forest

@@ -2,7 +2,8 @@
 ghost use Rattle.std.specs.Prelude.{◌≡◌, ℕ, ◌≤◌, ◌<◌, [], true, MatchOption, IfOk, OnOk, length};
 ghost use Rattle.std.specs.List.{list_all};
 ghost use Rattle.bw_sum.specs.Unfolding.{FillsValue, FillsAttrs};
-ghost use Rattle.bw_explain.specs.Ways.{ways_at, is_in, graph};
+ghost use Rattle.bw_shape.specs.Nodes.Nodes.{among};
+ghost use Rattle.bw_explain.specs.Ways.{ways_at, graph};
 ghost use Rattle.bw_explain.specs.Sizes as spec;
 ghost use Rattle.bw_explain.specs.Tables.{size_at};
 
@@ -86,8 +87,8 @@ pub fn fill_attrs(alloc: Global, page: &Page, n: usize, attrs: &Attrs) -> Result
 
 /// Which of the templates has a document of at most that size.
 pub fn first_within(known: &Table, led: &[u32], most: u32) -> Option<u32>
-    ensures { MatchOption result ((m : ℕ) → is_in led.now m ≡ true → most < size_at known.now m)
-        (λ m. (is_in led.now m ≡ true) × (size_at known.now m ≤ most)) }
+    ensures { MatchOption result ((m : ℕ) → among led.now m ≡ true → most < size_at known.now m)
+        (λ m. (among led.now m ≡ true) × (size_at known.now m ≤ most)) }
 {
     for m in led {
         if known.size(*m as usize) <= most {

@@ -125,3 +125,7 @@ plan_of service = record {
   steps = session_steps service service.sessions 1 0 (points service.sessions);
   firsts = session_firsts service.sessions 0 (points service.sessions);
 }
+
+-- the points of a service
+abbrev pub flow_of : Service → List Step
+flow_of service = (plan_of service).steps

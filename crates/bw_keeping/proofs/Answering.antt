@@ -15,9 +15,9 @@ use Rattle.bw_world.specs.Streams.Taking.{Taking}
 use Rattle.bw_world.specs.declared.outcomes.Taken.{Taken}
 use Rattle.bw_world.specs.declared.outcomes.Taken.TheVariants as takens
 use Rattle.bw_world.specs.Streams.Answers.{Place}
-use Rattle.bw_world.specs.Streams.Courses.{AreLeft, bytes_by}
+use Rattle.bw_world.specs.Streams.Courses.{AreLeft, bytes_by, Between, begins}
 use Rattle.bw_world.specs.declared.ends.StreamEnd.TheVariants as ends
-use Rattle.bw_keeping.specs.Answered.{Between, IsAnswered, IsUnanswered, at_link}
+use Rattle.bw_keeping.specs.Answered.{IsAnswered, IsUnanswered}
 use Rattle.bw_keeping.specs.Steps.{Replies, Writes, back_of}
 
 -- A link waits: its message was handled between there and there, so many bytes of it were not used, nothing is written on
@@ -27,11 +27,11 @@ pub record IsTaken {Link : Type 0} (channel : Ghosts Link) (formats : List Forma
   pub old : Place
   pub new : Place
   pub rest : List ℕ
-  pub taking : Taking formats service (at_link from bytes) (at_link to rest) old new taken
+  pub taking : Taking formats service (begins from bytes) (begins to rest) old new taken
   pub began : old.steps ≡ from.steps
   pub ended : new.steps ≡ to.steps
   pub unhandled : AreLeft new.taken (channel.left link) rest
-  pub entered : IsEntered formats service (at_link from bytes) (at_link to rest) entries
+  pub entered : IsEntered formats service (begins from bytes) (begins to rest) entries
   pub read_fault : Shows (taken ≡ takens.ReadFault) 0 (channel.read_faults link)
   pub held : channel.held link ≡ Some []
   pub quiet : channel.write_faults link ≡ 0
@@ -72,7 +72,7 @@ module _ {Link : Type 0} (channel : Ghosts Link) (formats : List Format) (servic
     end = ends.Ended 0;
     course = (
       [],
-      stopped_run formats service (at_link from bytes) (at_link to t.rest) [] t.taking.0,
+      stopped_run formats service (begins from bytes) (begins to t.rest) [] t.taking.0,
       subst (λ (h : Option (List ℕ)). Appends (Some []) h []) (sym t.held) refl,
       refl,
     );
@@ -106,9 +106,9 @@ module _ {Link : Type 0} (channel : Ghosts Link) (formats : List Format) (servic
 
 -- a reply was due, and was sent, or a first part of it
 module _ {Link : Type 0} (channel : Ghosts Link) (formats : List Format) (service : Service) (from to : Between) (bytes rest taken : List ℕ) (reply : Reply)
-    (cost : ℕ) (link now : Link) (entries : List Entry) (run : Run formats service 1 (at_link from bytes) (reply ∷ []) cost (at_link to rest))
+    (cost : ℕ) (link now : Link) (entries : List Entry) (run : Run formats service 1 (begins from bytes) (reply ∷ []) cost (begins to rest))
     (unhandled : AreLeft taken (channel.left link) rest) (steps : to.steps ≡ from.steps + cost)
-    (entered : IsEntered formats service (at_link from bytes) (at_link to rest) entries) (read : channel.read_faults link ≡ 0)
+    (entered : IsEntered formats service (begins from bytes) (begins to rest) entries) (read : channel.read_faults link ≡ 0)
     (held : channel.held link ≡ Some []) (quiet : channel.write_faults link ≡ 0) (left : channel.left now ≡ channel.left link)
     (reads : channel.read_faults now ≡ channel.read_faults link) where
   abbrev IsGivenBack : Type 0
@@ -183,19 +183,19 @@ answered {Link} channel formats service from to bytes link now takens.ReadFault 
     (nothing_read channel formats service from to bytes link entries t)
 answered channel formats service from to bytes link now (takens.Refused reply) entries t s =
     sent channel formats service from to bytes t.rest t.new.taken reply 0 link now entries
-    (stopped_run formats service (at_link from bytes) (at_link to t.rest) (reply ∷ []) t.taking.0) t.unhandled
+    (stopped_run formats service (begins from bytes) (begins to t.rest) (reply ∷ []) t.taking.0) t.unhandled
     (omega (arith, t.began, t.ended, t.taking.1)) t.entered (t.read_fault.other (λ e. cc)) t.held t.quiet s.left s.read_faults s.writes
 answered channel formats service from to bytes link now (takens.Answered reply) entries t s =
     sent channel formats service from to bytes t.rest t.new.taken reply t.taking.0 link now entries
-    (one_run formats service (at_link from bytes) (at_link to t.rest) reply t.taking.0 t.taking.1) t.unhandled
+    (one_run formats service (begins from bytes) (begins to t.rest) reply t.taking.0 t.taking.1) t.unhandled
     (omega (arith, t.began, t.ended, t.taking.2)) t.entered (t.read_fault.other (λ e. cc)) t.held t.quiet s.left s.read_faults s.writes
 
 -- nothing is sent on a link that waits
 module _ {Link : Type 0} (channel : Ghosts Link) (formats : List Format) (service : Service) (from to : Between) (bytes : List ℕ) (link : Link)
     (entries : List Entry) where
   unsent : (taken : Taken) (t : IsTaken channel formats service from bytes link taken to entries) (replies : List Reply) (cost : ℕ)
-      → Run formats service 1 (at_link from bytes) replies cost (at_link to t.rest)
-      ⊎ ((at_link to t.rest ≡ at_link from bytes) × IsShort t.new.taken × (cost ≡ 0))
+      → Run formats service 1 (begins from bytes) replies cost (begins to t.rest)
+      ⊎ ((begins to t.rest ≡ begins from bytes) × IsShort t.new.taken × (cost ≡ 0))
       → to.steps ≡ from.steps + cost → IsUnanswered formats service from bytes (back_of channel link) to
   unsent taken t replies cost came steps = record {
     rest = t.rest;
@@ -211,15 +211,15 @@ module _ {Link : Type 0} (channel : Ghosts Link) (formats : List Format) (servic
   pub unanswered_so : (taken : Taken) → IsTaken channel formats service from bytes link taken to entries
       → IsUnanswered formats service from bytes (back_of channel link) to
   unanswered_so takens.End t =
-      unsent takens.End t [] 0 (inl (stopped_run formats service (at_link from bytes) (at_link to t.rest) [] t.taking.0))
+      unsent takens.End t [] 0 (inl (stopped_run formats service (begins from bytes) (begins to t.rest) [] t.taking.0))
       (omega (arith, t.began, t.ended, t.taking.1))
   unanswered_so takens.ReadFault t =
       unsent takens.ReadFault t [] 0 (inr (t.taking.0, t.taking.1, refl)) (omega (arith, t.began, t.ended, t.taking.2))
   unanswered_so (takens.Refused reply) t =
       unsent (takens.Refused reply) t (reply ∷ []) 0
-      (inl (stopped_run formats service (at_link from bytes) (at_link to t.rest) (reply ∷ []) t.taking.0))
+      (inl (stopped_run formats service (begins from bytes) (begins to t.rest) (reply ∷ []) t.taking.0))
       (omega (arith, t.began, t.ended, t.taking.1))
   unanswered_so (takens.Answered reply) t =
       unsent (takens.Answered reply) t (reply ∷ []) t.taking.0
-      (inl (one_run formats service (at_link from bytes) (at_link to t.rest) reply t.taking.0 t.taking.1))
+      (inl (one_run formats service (begins from bytes) (begins to t.rest) reply t.taking.0 t.taking.1))
       (omega (arith, t.began, t.ended, t.taking.2))

@@ -14,7 +14,8 @@ use Rattle.bw_keeping.specs.Taking.{Takes}
 use Rattle.bw_world.specs.declared.outcomes.Taken.TheVariants as takens
 use Rattle.bw_world.specs.Seen.{Seen}
 use Rattle.bw_world.specs.Streams.Answers.{IsAt, place}
-use Rattle.bw_keeping.specs.Answered.{Between, at_link, entries_of}
+use Rattle.bw_world.specs.Streams.Courses.{Between, begins}
+use Rattle.bw_keeping.specs.Answered.{entries_of}
 use Rattle.bw_keeping.specs.Served.{View}
 use Rattle.bw_keeping.specs.Steps.{Desk, desk}
 use Rattle.bw_keeping.specs.declared.waiting.Waiting.{Waiting}
@@ -25,15 +26,15 @@ use Rattle.bw_keeping.proofs.ServedSoFar.{HasTaken, Sight, sight}
 module _ {Link : Type 0} (channel : Ghosts Link) (formats : List Format) (service : Service) where
   -- a link came and its message was handled
   came_in : (w : Waiting Link) (link : Link) (world next : Seen) (intake : List ℕ) (keys later : Option Coming) (steps after : ℕ) (group grown : Grouped)
-      (bytes : List ℕ) (at : Between) → IsAt (place channel world [] link keys steps) (at_link at bytes)
+      (bytes : List ℕ) (at : Between) → IsAt (place channel world [] link keys steps) (begins at bytes)
       → steps ≡ at.steps → channel.held link ≡ Some [] → channel.read_faults link ≡ 0 → channel.write_faults link ≡ 0
       → sends.Takes channel link w.link (w.taken ≡ takens.ReadFault)
       → Takes formats service (place channel world [] link keys steps) (place channel next intake w.link later after) group grown w.taken
       → (to : Between) × (rest : List ℕ) × (entries : List Entry) × IsTaken channel formats service at bytes w.link w.taken to entries
-      × IsAt (place channel next intake w.link later after) (at_link to rest) × (after ≡ to.steps)
+      × IsAt (place channel next intake w.link later after) (begins to rest) × (after ≡ to.steps)
       × (grown.bytes ≡ group.bytes ++ entries_bytes group.sum entries) × (grown.sum ≡ last_sum group.sum entries)
   came_in w link world next intake keys later steps after group grown bytes at is began held reads writes takes t =
-      let f = t (at_link at bytes) is in
+      let f = t (begins at bytes) is in
       let to : Between = record { world = f.to.world; keys = f.to.keys; steps = after } in (
         to,
         f.to.bytes,
@@ -72,7 +73,7 @@ module _ {Link : Type 0} (channel : Ghosts Link) (formats : List Format) (servic
       let quiet = subst (λ (x : Option Link). IfSome x (λ l. (channel.read_faults l ≡ 0) × (channel.write_faults l ≡ 0))) some fresh in
       let a = subst (λ (c : Option (List (List ℕ))). Arrives channel.left channel.held c coming (Some link)) h.tells.coming
       (subst (λ (x : Option Link). Arrives channel.left channel.held s.coming coming x) some arrives) in
-      let at : IsAt (place channel s.world [] link s.keys s.steps) (at_link h.to a.0) =
+      let at : IsAt (place channel s.world [] link s.keys s.steps) (begins h.to a.0) =
       record { stands = h.tells.stands; bytes = (a.0, a.4, refl); keys = h.tells.keys } in
       let one = came_in w link s.world next intake s.keys later s.steps after group grown a.0 h.to at h.tells.steps a.5 quiet.0 quiet.1 takes
       (subst (λ (v : Service). Takes formats v (place channel s.world [] link s.keys s.steps) (place channel next intake w.link later after) group grown

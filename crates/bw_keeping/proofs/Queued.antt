@@ -5,7 +5,8 @@ use Rattle.bw_journal.specs.Layout.{Entry}
 use Rattle.bw_lang.specs.declared.service.Service.{Service}
 use Rattle.bw_out.specs.Doors.{Returned}
 use Rattle.bw_out.specs.declared.outside.Channel.{Ghosts}
-use Rattle.bw_keeping.specs.Answered.{AreAnswered, AreClosed, Between, Exchange, backs_of, entries_of}
+use Rattle.bw_world.specs.Streams.Courses.{Between}
+use Rattle.bw_keeping.specs.Answered.{AreAnswered, AreClosed, Exchange, backs_of, entries_of}
 use Rattle.bw_keeping.specs.Steps.{AreReplied, back_of, unanswered, written}
 use Rattle.bw_keeping.specs.Written.{both}
 use Rattle.bw_keeping.specs.declared.waiting.Waiting.{Waiting}

@@ -10,7 +10,8 @@ use Rattle.bw_out.specs.Told.{Coming}
 use Rattle.bw_out.specs.declared.outside.Channel.{Ghosts}
 use Rattle.bw_stable.specs.Deeds.{Deed, Does, kept}
 use Rattle.bw_world.specs.Seen.{Seen}
-use Rattle.bw_keeping.specs.Answered.{AreAnswered, Between, Exchange, backs_of, entries_of}
+use Rattle.bw_world.specs.Streams.Courses.{Between}
+use Rattle.bw_keeping.specs.Answered.{AreAnswered, Exchange, backs_of, entries_of}
 use Rattle.bw_keeping.specs.Kept.{AreKept}
 use Rattle.bw_keeping.specs.Served.{Tells, View, view}
 use Rattle.bw_keeping.specs.Steps.{Desk, Flushes, GivesBackAll, Keeps, desk, written}

@@ -5,25 +5,13 @@ use Rattle.bw_http.specs.Messages.{IsShort}
 use Rattle.bw_http.specs.declared.replies.Reply.{Reply}
 use Rattle.bw_journal.specs.Layout.{Entry}
 use Rattle.bw_lang.specs.declared.service.Service.{Service}
-use Rattle.bw_model.specs.Runs.{At, Run}
-use Rattle.bw_model.specs.Sessions.{World}
+use Rattle.bw_model.specs.Runs.{Run}
 use Rattle.bw_out.specs.Causes.{Shows}
 use Rattle.bw_out.specs.Doors.{Returned}
-use Rattle.bw_out.specs.Told.{Coming}
 use Rattle.bw_keeping.specs.Entering.{IsEntered}
-use Rattle.bw_world.specs.Streams.Courses.{AreLeft, Course}
+use Rattle.bw_world.specs.Streams.Courses.{AreLeft, Course, Between, begins}
 use Rattle.bw_world.specs.declared.ends.StreamEnd.{StreamEnd}
 use Rattle.bw_world.specs.declared.ends.StreamEnd.TheVariants.{ReadFault, WriteFault}
-
--- between two links: the model world, the keys to come, and the steps so far
-pub record Between : Type 0 where
-  pub world : World
-  pub keys : Coming
-  pub steps : ℕ
-
--- a link with these bytes begins there
-abbrev pub at_link : Between → List ℕ → At
-at_link from bytes = record { world = from.world; bytes = bytes; keys = from.keys }
 
 -- A link that had these bytes was answered and given back, by a run of at most one message. What follows the message is
 -- `rest`, of which some bytes were taken. A fault is what the counts of the link show. What is kept of it are these entries.
@@ -33,10 +21,10 @@ pub record IsAnswered (formats : List Format) (service : Service) (from : Betwee
   pub taken : List ℕ
   pub cost : ℕ
   pub end : StreamEnd
-  pub course : Course formats service 1 (at_link from bytes) (at_link to rest) (Some []) back.written taken cost end
+  pub course : Course formats service 1 (begins from bytes) (begins to rest) (Some []) back.written taken cost end
   pub unhandled : AreLeft taken back.unread rest
   pub steps : to.steps ≡ from.steps + cost
-  pub entered : IsEntered formats service (at_link from bytes) (at_link to rest) entries
+  pub entered : IsEntered formats service (begins from bytes) (begins to rest) entries
   pub read_fault : Shows (end ≡ ReadFault) 0 back.read_faults
   pub write_fault : Shows (end ≡ WriteFault) 0 back.write_faults
 
@@ -59,8 +47,8 @@ pub record IsUnanswered (formats : List Format) (service : Service) (from : Betw
   pub taken : List ℕ
   pub replies : List Reply
   pub cost : ℕ
-  pub came : Run formats service 1 (at_link from bytes) replies cost (at_link to rest)
-      ⊎ ((at_link to rest ≡ at_link from bytes) × IsShort taken × (cost ≡ 0))
+  pub came : Run formats service 1 (begins from bytes) replies cost (begins to rest)
+      ⊎ ((begins to rest ≡ begins from bytes) × IsShort taken × (cost ≡ 0))
   pub unhandled : AreLeft taken back.unread rest
   pub steps : to.steps ≡ from.steps + cost
   pub none : back.written ≡ Some []

@@ -8,7 +8,8 @@ use Rattle.bw_out.specs.Told.{Coming}
 use Rattle.bw_stable.specs.Deeds.{Deed}
 use Rattle.bw_world.specs.Seen.{Seen}
 use Rattle.bw_world.specs.Stands.{StandsFor}
-use Rattle.bw_keeping.specs.Answered.{AreAnswered, AreClosed, Between, Exchange, backs_of, entries_of}
+use Rattle.bw_world.specs.Streams.Courses.{Between}
+use Rattle.bw_keeping.specs.Answered.{AreAnswered, AreClosed, Exchange, backs_of, entries_of}
 use Rattle.bw_keeping.specs.Kept.{AreKept}
 use Rattle.bw_keeping.specs.declared.ended.Ended.{Ended}
 use Rattle.bw_keeping.specs.declared.ended.Ended.TheVariants.{Done, DoorFault, JournalFault}

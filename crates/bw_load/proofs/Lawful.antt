@@ -10,7 +10,7 @@ use Rattle.bw_analyse.specs.Known.{look, known}
 use Rattle.bw_analyse.specs.Lawful.KindLaws.{all_itself}
 use Rattle.bw_analyse.specs.Lawful.StepLaws.{HasFew, expression_up}
 use Rattle.bw_analyse.specs.Lawful.TypedSystem.{few_of}
-use Rattle.bw_analyse.specs.Least.{flow_of}
+use Rattle.bw_flow.specs.Layout.{flow_of}
 use Rattle.bw_cover.proofs.ContentGaps.{content_has_no_hole}
 use Rattle.bw_flow.specs.Flows.{is_show}
 use Rattle.bw_flow.specs.Steps.{Act, sets, tests, goes_over, shows, exits, joins, Step}

@@ -9,7 +9,6 @@ use Rattle.bw_analyse.specs.declared.facts.Facts.{Facts}
 use Rattle.bw_analyse.specs.Facts.{AreFacts, rows_of, local_in, local_fact, shared_fact, shown_fact}
 use Rattle.bw_analyse.specs.Fits.{AllFit}
 use Rattle.bw_analyse.specs.Known.{local_names, shared_names, of_name, of_local, of_shared}
-use Rattle.bw_analyse.specs.Least.{flow_of}
 use Rattle.bw_sound.specs.Found.Seen.{seen, scope_of, place_of, known_of}
 use Rattle.bw_sound.proofs.Found.Cells.{row_fits, last_fits}
 use Rattle.bw_sound.proofs.Found.Places.{show_placed}
@@ -26,7 +25,7 @@ use Rattle.bw_eval.specs.declared.value.Value.{Value}
 use Rattle.bw_eval.specs.View as view
 use Rattle.bw_flow.specs.declared.point.Local.{Local}
 use Rattle.bw_flow.specs.Flows.{is_statement}
-use Rattle.bw_flow.specs.Layout.{plan_of}
+use Rattle.bw_flow.specs.Layout.{plan_of, flow_of}
 use Rattle.bw_flow.specs.Steps.{Step}
 use Rattle.bw_run.specs.Follow.Kinds.{kinds_in}
 use Rattle.bw_flow.specs.Flows.{is_show}

@@ -11,7 +11,8 @@ use Rattle.bw_analyse.specs.declared.facts.Facts.{Facts}
 use Rattle.bw_analyse.specs.Facts.{AreFacts, rows_of, local_in, local_fact, shared_fact, shown_fact}
 use Rattle.bw_analyse.specs.Fits.{Fits, AllFit, FitsCell, kinds_of}
 use Rattle.bw_analyse.specs.Known.{local_names, shared_names, of_name, of_local, of_shared}
-use Rattle.bw_analyse.specs.Least.{flow_of, rows}
+use Rattle.bw_flow.specs.Layout.{flow_of}
+use Rattle.bw_analyse.specs.Least.{rows}
 use Rattle.bw_sound.specs.Found.Seen.{seen}
 use Rattle.bw_saved.proofs.Codecs.{some_is, bind_some, guarded}
 use Rattle.bw_saved.specs.Fields.Reading.{◌>>=◌}

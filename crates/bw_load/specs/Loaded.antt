@@ -3,7 +3,7 @@ use Rattle.std.specs.Prelude.{◌≡◌, ◌≤◌, ℕ, List, map, length, [], 
 use Rattle.bw_analyse.specs.declared.facts.Facts.{Facts}
 use Rattle.bw_analyse.specs.Facts.{AreFacts}
 use Rattle.bw_eval.specs.View.{document, values}
-use Rattle.bw_flow.specs.Layout.{plan_of}
+use Rattle.bw_flow.specs.Layout.{plan_of, flow_of}
 use Rattle.bw_lang.specs.declared.limits.TheConstants.{MAX_FILE_BYTES}
 use Rattle.bw_lang.specs.declared.service.Service.{Service}
 use Rattle.bw_load.specs.Loads.{uncovered, by_cells, loaded}
@@ -12,7 +12,7 @@ use Rattle.bw_run.specs.Walks.{number_at}
 use Rattle.bw_saved.specs.declared.saved.Record.{Record}
 use Rattle.bw_saved.specs.declared.saved.Saved.{Saved}
 use Rattle.bw_saved.specs.declared.limits.TheConstants.{MAX_SAVED_WEIGHT}
-use Rattle.bw_saved.specs.Sessions.Demands.{IsSaved, flow_of}
+use Rattle.bw_saved.specs.Sessions.Demands.{IsSaved}
 use Rattle.bw_saved.specs.Sessions.Layout.{file}
 use Rattle.bw_saved.specs.Sessions.Weights.{total_weight}
 use Rattle.bw_sound.specs.Worlds.{IsSoundWorld}

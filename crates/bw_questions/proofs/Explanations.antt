@@ -13,7 +13,7 @@ use Rattle.std.proofs.lemmas.Option.{get_or_from_slice_get, slice_get_within}
 use Rattle.bw_analyse.specs.declared.facts.Facts.{Facts}
 use Rattle.bw_analyse.specs.Facts.{AreFacts, page_of}
 use Rattle.bw_analyse.specs.GapFaults.{IsGapFault}
-use Rattle.bw_analyse.specs.Least.{flow_of}
+use Rattle.bw_flow.specs.Layout.{flow_of}
 use Rattle.bw_analyse.specs.Pages.{page_graph}
 use Rattle.bw_check.specs.Accepts.{HasNoList, IsCheckFault}
 use Rattle.bw_check.specs.Faults.{IsElementFault, IsPageFault, IsReceivedFault, IsServiceFault}

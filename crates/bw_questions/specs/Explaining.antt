@@ -2,7 +2,7 @@
 use Rattle.std.specs.Prelude.{◌≡◌, ℕ, Bool, ◌&&◌, nat_le, nat_lt, List, [], ◌++◌, find, slice_get, Option, None, Some, codes}
 use Rattle.bw_analyse.specs.declared.facts.Facts.{Facts}
 use Rattle.bw_analyse.specs.Facts.{AreFacts, page_of}
-use Rattle.bw_analyse.specs.Least.{flow_of}
+use Rattle.bw_flow.specs.Layout.{flow_of}
 use Rattle.bw_analyse.specs.Pages.{page_graph}
 use Rattle.bw_check.specs.Faults.{IsElementFault, page_at}
 use Rattle.bw_check.specs.declared.fault.CheckFault.{CheckFault}

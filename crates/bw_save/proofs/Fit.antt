@@ -23,7 +23,8 @@ use Rattle.bw_run.specs.Walks.{number_at}
 use Rattle.bw_save.specs.Saves.{FitSessions}
 use Rattle.bw_saved.specs.declared.saved.Record.{Record}
 use Rattle.bw_saved.specs.declared.saved.Saved.{Saved}
-use Rattle.bw_saved.specs.Sessions.Demands.{IsSession, IsSaved, flow_of}
+use Rattle.bw_flow.specs.Layout.{flow_of}
+use Rattle.bw_saved.specs.Sessions.Demands.{IsSession, IsSaved}
 use Rattle.bw_saved.specs.Sessions.Weights.{are_apart}
 use Rattle.bw_types.specs.declared.typed.Typed.{Typed}
 use Rattle.bw_world.specs.declared.suspended.Suspended.{Suspended}

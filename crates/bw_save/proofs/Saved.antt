@@ -1,14 +1,14 @@
 -- What was saved is the file, which is loaded again.
 use Rattle.std.proofs.Common.{◌≡◌, ◌≤◌, ℕ, List, [], ◌++◌, length, ap, ◌∙◌}
 use Rattle.bw_analyse.specs.declared.facts.Facts.{Facts}
-use Rattle.bw_flow.specs.Layout.{plan_of}
+use Rattle.bw_flow.specs.Layout.{plan_of, flow_of}
 use Rattle.bw_flow.specs.Steps.{Plan}
 use Rattle.bw_lang.specs.declared.limits.TheConstants.{MAX_FILE_BYTES}
 use Rattle.bw_load.specs.Loaded.{SavedIsLoaded}
 use Rattle.bw_load.specs.Loads.{loaded, by_cells, uncovered}
 use Rattle.bw_saved.specs.declared.limits.TheConstants.{MAX_SAVED_WEIGHT}
 use Rattle.bw_saved.specs.declared.saved.Saved.{Saved}
-use Rattle.bw_saved.specs.Sessions.Demands.{IsSaved, flow_of}
+use Rattle.bw_saved.specs.Sessions.Demands.{IsSaved}
 use Rattle.bw_saved.specs.Sessions.Layout.{file}
 use Rattle.bw_saved.specs.Sessions.Weights.{total_weight}
 use Rattle.bw_types.specs.declared.typed.Typed.{Typed}

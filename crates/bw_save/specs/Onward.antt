@@ -5,7 +5,7 @@ use Rattle.bw_load.specs.declared.loading.LoadFault.{LoadFault}
 use Rattle.bw_load.specs.declared.loading.LoadFault.TheVariants.{Memory}
 use Rattle.bw_save.specs.Freezes.{MayBeFrozen}
 use Rattle.bw_save.specs.Thawed.{Gives}
-use Rattle.bw_saved.specs.Sessions.Demands.{flow_of}
+use Rattle.bw_flow.specs.Layout.{flow_of}
 use Rattle.bw_saved.specs.Sessions.Layout.{file}
 use Rattle.bw_saved.specs.declared.limits.TheConstants.{MAX_SAVED_BYTES}
 use Rattle.bw_saved.specs.declared.saved.Saved.{Saved}

@@ -9,7 +9,8 @@ use Rattle.bw_load.specs.declared.loading.LoadFault.{LoadFault}
 use Rattle.bw_load.specs.Loads.{loaded, IsLoaded}
 use Rattle.bw_saved.specs.declared.saved.Saved.{Saved}
 use Rattle.bw_saved.specs.declared.limits.TheConstants.{MAX_SAVED_WEIGHT}
-use Rattle.bw_saved.specs.Sessions.Demands.{IsSaved, flow_of}
+use Rattle.bw_flow.specs.Layout.{flow_of}
+use Rattle.bw_saved.specs.Sessions.Demands.{IsSaved}
 use Rattle.bw_saved.specs.Sessions.Layout.{file}
 use Rattle.bw_saved.specs.Sessions.Weights.{total_weight}
 use Rattle.bw_sound.specs.Worlds.{IsSoundWorld}

@@ -5,7 +5,7 @@ ghost use Rattle.bw_save.specs.Frozen as spec;
 ghost use Rattle.bw_lang.specs.declared.limits.TheConstants.{MAX_FILE_BYTES};
 ghost use Rattle.bw_model.specs.declared.limits.TheConstants.{MAX_LIVE};
 ghost use Rattle.bw_save.specs.Saves.{FitSessions};
-ghost use Rattle.bw_saved.specs.Sessions.Demands.{flow_of};
+ghost use Rattle.bw_flow.specs.Layout.{flow_of};
 ghost use Rattle.bw_saved.specs.Sessions.Layout.{file};
 ghost use Rattle.bw_world.specs.Kept.{IsKept};
 ghost use Rattle.bw_world.specs.Restored.{seen_of};

@@ -6,7 +6,8 @@ ghost use Rattle.bw_load.specs.Loads.{loaded, by_cells, uncovered};
 ghost use Rattle.bw_save.specs.Fitting.{FitValues, FitsRecord};
 ghost use Rattle.bw_save.specs.Saves.{IsSaveFault, MayBeWritten};
 ghost use Rattle.bw_saved.specs.declared.limits.TheConstants.{MAX_SAVED_WEIGHT};
-ghost use Rattle.bw_saved.specs.Sessions.Demands.{IsSaved, flow_of};
+ghost use Rattle.bw_flow.specs.Layout.{flow_of};
+ghost use Rattle.bw_saved.specs.Sessions.Demands.{IsSaved};
 ghost use Rattle.bw_saved.specs.Sessions.Layout as layout;
 ghost use Rattle.bw_saved.specs.Sessions.Weights as weights;
 

@@ -12,7 +12,7 @@ use Rattle.bw_saved.proofs.Codecs.{IsBytes-rest, IsBytes-drop, bind_some, guarde
 use Rattle.bw_saved.proofs.FieldLaws.{u32_codec}
 use Rattle.bw_lang.proofs.SameNames.{same_self}
 use Rattle.bw_lang.proofs.SameNames.{same_is}
-use Rattle.bw_flow.specs.Layout.{plan_of}
+use Rattle.bw_flow.specs.Layout.{plan_of, flow_of}
 use Rattle.bw_lang.specs.declared.service.Service.{Service}
 use Rattle.bw_lang.specs.Table.Names.{same}
 use Rattle.bw_saved.specs.declared.file.FileFault.{FileFault}
@@ -23,7 +23,7 @@ use Rattle.bw_saved.specs.Files.{behind, digit_at, version_at, so_many, bytes_at
 use Rattle.bw_saved.specs.FileLaws.{IsFile}
 use Rattle.bw_saved.specs.Sessions.Layout.{waiting, file}
 use Rattle.bw_saved.specs.Sessions.Reading.{waiting_at, ended}
-use Rattle.bw_saved.specs.Sessions.Demands.{IsSaved, flow_of}
+use Rattle.bw_saved.specs.Sessions.Demands.{IsSaved}
 use Rattle.bw_saved.proofs.Waiting.{waiting_codec}
 use Rattle.bw_saved.specs.Documents.Demands.{IsSmall}
 

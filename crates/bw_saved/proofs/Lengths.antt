@@ -30,7 +30,8 @@ use Rattle.bw_saved.specs.declared.saved.Saved.{Saved}
 use Rattle.bw_saved.specs.Documents.Demands.{IsBuilt, IsDocument}
 use Rattle.bw_saved.specs.Documents.Layout.{operation, document}
 use Rattle.bw_saved.specs.Fields.Spelling.{integer, text, strings}
-use Rattle.bw_saved.specs.Sessions.Demands.{IsSession, IsSaved, flow_of}
+use Rattle.bw_flow.specs.Layout.{flow_of}
+use Rattle.bw_saved.specs.Sessions.Demands.{IsSession, IsSaved}
 use Rattle.bw_saved.specs.Sessions.Layout.{session, waiting, file}
 use Rattle.bw_saved.specs.Sessions.Weights.{session_weight, total_weight}
 use Rattle.bw_saved.specs.Values.Demands.{IsValue, AreVariables}

@@ -13,7 +13,7 @@ use Rattle.bw_saved.proofs.FieldLaws.{u32_codec, u64_codec}
 use Rattle.bw_saved.proofs.Loop.{repeated_codec}
 use Rattle.bw_eval.specs.declared.value.Value.{Value}
 use Rattle.bw_eval.specs.View.{values}
-use Rattle.bw_flow.specs.Layout.{plan_of}
+use Rattle.bw_flow.specs.Layout.{plan_of, flow_of}
 use Rattle.bw_flow.specs.Steps.{Plan}
 use Rattle.bw_lang.specs.declared.service.Service.{Service}
 use Rattle.bw_lang.specs.declared.turn.TheConstants.{MAX_SHARED_WEIGHT}
@@ -24,7 +24,7 @@ use Rattle.bw_saved.specs.declared.saved.Saved.{Saved}
 use Rattle.bw_saved.specs.Sessions.Weights.{are_apart}
 use Rattle.bw_saved.specs.Sessions.Layout.{session, waiting}
 use Rattle.bw_saved.specs.Sessions.Reading.{begins_well, if_apart, only_if, session_at, sessions_at, waiting_at}
-use Rattle.bw_saved.specs.Sessions.Demands.{IsSession, IsSaved, flow_of}
+use Rattle.bw_saved.specs.Sessions.Demands.{IsSession, IsSaved}
 use Rattle.bw_saved.proofs.SessionLaws.{session_codec}
 use Rattle.bw_saved.specs.Documents.Demands.{IsSmall}
 use Rattle.bw_saved.specs.Values.Demands.{AreVariables}

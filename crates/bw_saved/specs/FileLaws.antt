@@ -1,6 +1,6 @@
 -- Laws of files of saved sessions.
 use Rattle.std.specs.Prelude.{◌≡◌, ◌<◌, ◌≤◌, ◌^◌, ℕ, List, length, Ok}
-use Rattle.bw_flow.specs.Layout.{plan_of}
+use Rattle.bw_flow.specs.Layout.{plan_of, flow_of}
 use Rattle.bw_lang.specs.declared.limits.TheConstants.{MAX_FILE_BYTES}
 use Rattle.bw_lang.specs.declared.service.Service.{Service}
 use Rattle.bw_saved.specs.declared.limits.TheConstants.{MAX_SAVED_BYTES, MAX_SAVED_WEIGHT}
@@ -8,7 +8,7 @@ use Rattle.bw_saved.specs.declared.saved.Saved.{Saved}
 use Rattle.bw_saved.specs.Codec.{IsBytes}
 use Rattle.bw_saved.specs.Documents.Demands.{IsSmall}
 use Rattle.bw_saved.specs.Files.{decided}
-use Rattle.bw_saved.specs.Sessions.Demands.{IsSaved, flow_of}
+use Rattle.bw_saved.specs.Sessions.Demands.{IsSaved}
 use Rattle.bw_saved.specs.Sessions.Layout.{file}
 use Rattle.bw_saved.specs.Sessions.Weights.{total_weight}
 

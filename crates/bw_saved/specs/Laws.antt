@@ -1,13 +1,13 @@
 -- What is read is spelled so, and what is spelled so is read.
 use Rattle.std.specs.Prelude.{ℕ, List}
-use Rattle.bw_flow.specs.Layout.{plan_of}
+use Rattle.bw_flow.specs.Layout.{plan_of, flow_of}
 use Rattle.bw_lang.specs.declared.service.Service.{Service}
 use Rattle.bw_lang.specs.declared.stmt.Kind.{Kind}
 use Rattle.bw_saved.specs.Codec.{IsCodec}
 use Rattle.bw_saved.specs.Documents.Demands.{IsDocument, IsSmall}
 use Rattle.bw_saved.specs.Documents.Layout.{document}
 use Rattle.bw_saved.specs.Documents.Reading.{document_at}
-use Rattle.bw_saved.specs.Sessions.Demands.{IsSession, IsSaved, flow_of}
+use Rattle.bw_saved.specs.Sessions.Demands.{IsSession, IsSaved}
 use Rattle.bw_saved.specs.Sessions.Layout.{session, waiting}
 use Rattle.bw_saved.specs.Sessions.Reading.{session_at, waiting_at}
 use Rattle.bw_saved.specs.Values.Demands.{AreVariables}

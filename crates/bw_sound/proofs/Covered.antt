@@ -5,7 +5,7 @@ use Rattle.std.specs.List.{All}
 use Rattle.std.proofs.lemmas.Bool.{false≢true}
 use Rattle.std.proofs.lemmas.List.Elements.{All-nil}
 use Rattle.bw_fields.specs.Received.{HasField}
-use Rattle.bw_flow.specs.Layout.{receives}
+use Rattle.bw_flow.specs.Layout.{receives, flow_of}
 use Rattle.bw_lang.specs.declared.service.Service.{Service}
 use Rattle.bw_lang.specs.Document.Forest.{Forest}
 use Rattle.bw_lang.specs.Service.Code.{numbered}
@@ -24,7 +24,6 @@ use Rattle.bw_cover.proofs.Received.{inside_or_not, receives_outside, shows_rece
 use Rattle.bw_cover.proofs.Shows.{IsOutside}
 use Rattle.bw_analyse.specs.declared.facts.Facts.{Facts}
 use Rattle.bw_analyse.specs.Facts.{shown_fact}
-use Rattle.bw_analyse.specs.Least.{flow_of}
 use Rattle.bw_analyse.proofs.PageLaws.{has_page}
 use Rattle.bw_sound.specs.Found.Seen.{graph_of, known_of}
 use Rattle.bw_sound.proofs.Found.Accepted.{facts_are_accepted}

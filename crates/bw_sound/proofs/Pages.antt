@@ -37,7 +37,7 @@ use Rattle.bw_analyse.specs.Facts.{AreFacts, summary_of, page_of, summary_at, na
 use Rattle.bw_analyse.specs.Fits.{Fits}
 use Rattle.bw_analyse.specs.Lawful.KindLaws.{all_itself}
 use Rattle.bw_analyse.specs.Known.{look, known}
-use Rattle.bw_analyse.specs.Least.{flow_of}
+use Rattle.bw_flow.specs.Layout.{flow_of}
 use Rattle.bw_analyse.specs.Pages.{shown_page, exited_page, name_of, page_by, page_graph, page_at as page_in}
 use Rattle.bw_analyse.specs.Lawful.StepLaws.{HasFew, expression_up}
 use Rattle.bw_analyse.specs.Lawful.TypedSystem.{few_of}

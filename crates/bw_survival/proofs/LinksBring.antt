@@ -10,7 +10,8 @@ use Rattle.bw_model.specs.Sessions.{World}
 use Rattle.bw_bringing.specs.Bringing.{Brings}
 use Rattle.bw_keeping.specs.Entering.{IsEntered}
 use Rattle.bw_keeping.specs.Entering.IsEntered.{nothing, kept}
-use Rattle.bw_keeping.specs.Answered.{Between, entries_of}
+use Rattle.bw_world.specs.Streams.Courses.{Between}
+use Rattle.bw_keeping.specs.Answered.{entries_of}
 use Rattle.bw_survival.specs.Laws.{AnsweredBring, AnsweredFit}
 
 -- what is kept of a message brings about the world behind it, and others go on from there

@@ -8,7 +8,8 @@ use Rattle.bw_out.specs.Doors.{Returned}
 use Rattle.bw_bringing.specs.Bringing.{Brings}
 use Rattle.bw_survival.specs.Restarts.{Keeps, joined}
 use Rattle.bw_stable.specs.Deeds.{Deed}
-use Rattle.bw_keeping.specs.Answered.{AreAnswered, Between, Exchange, backs_of, entries_of}
+use Rattle.bw_world.specs.Streams.Courses.{Between}
+use Rattle.bw_keeping.specs.Answered.{AreAnswered, Exchange, backs_of, entries_of}
 use Rattle.bw_keeping.specs.Kept.{AreKept}
 
 -- what is kept of links that were answered one after another brings about the world that they left

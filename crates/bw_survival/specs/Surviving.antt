@@ -10,7 +10,8 @@ use Rattle.bw_out.specs.Doors.{Returned}
 use Rattle.bw_bringing.specs.Bringing.{Brings}
 use Rattle.bw_survival.specs.Restarts.{IsFileOf, file_of}
 use Rattle.bw_stable.specs.Deeds.{Deed, MayLeave}
-use Rattle.bw_keeping.specs.Answered.{AreAnswered, Between, Exchange, entries_of}
+use Rattle.bw_world.specs.Streams.Courses.{Between}
+use Rattle.bw_keeping.specs.Answered.{AreAnswered, Exchange, entries_of}
 use Rattle.bw_keeping.specs.Kept.{AreKept}
 use Rattle.bw_survival.specs.Laws.{AreParted}
 

@@ -6,10 +6,9 @@ use Rattle.bw_http.specs.declared.replies.Reply.{Reply}
 use Rattle.bw_lang.specs.declared.service.Service.{Service}
 use Rattle.bw_model.specs.Runs.{At, Turns, Stops, ended, refused, Run, answer_of}
 use Rattle.bw_world.specs.Streams.Answers.{between, IsAt, Answers}
-use Rattle.bw_world.specs.Streams.Courses.{Course, bytes_by}
+use Rattle.bw_world.specs.Streams.Courses.{Course, bytes_by, Between, begins}
 use Rattle.bw_world.specs.declared.ends.StreamEnd.TheVariants.{Ended}
 use Rattle.bw_visit.specs.Exchanges.{Standing, IsBetween, IsExchanged, Exchanges}
-use Rattle.bw_visit.specs.Visits.{Between, begins}
 
 -- a run over a message that isn't empty has one reply
 one_reply : (formats : List Format) (service : Service) (at to : At) (replies : List Reply) (cost : ℕ) → at.bytes ≢ []

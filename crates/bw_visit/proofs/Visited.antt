@@ -54,10 +54,10 @@ use Rattle.bw_waiting.proofs.NumbersKept.{numbers_stay}
 use Rattle.bw_visit.proofs.Posted as posted
 use Rattle.bw_visit.proofs.Replies.{starts_quiet}
 use Rattle.bw_visit.specs.Laws.{VisitsAreTaken}
-use Rattle.bw_visit.specs.Visits.{Between, begins, Exchange, Next, Over, Sends, Asks, Does, no_line, by_line, End, Visits, last, quiet, no_room}
+use Rattle.bw_visit.specs.Visits.{Exchange, Next, Over, Sends, Asks, Does, no_line, by_line, End, Visits, last, quiet, no_room}
 use Rattle.bw_visit.specs.Visits.{broken, more, is_amiss}
 use Rattle.bw_waiting.specs.Worlds.{IsKindedWorld, IsNumberedWorld}
-use Rattle.bw_world.specs.Streams.Courses.{bytes_by}
+use Rattle.bw_world.specs.Streams.Courses.{bytes_by, Between, begins}
 
 post_longer : (target body : List ℕ) → length body ≤ length (post target body)
 post_longer target body =

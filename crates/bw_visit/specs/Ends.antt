@@ -5,10 +5,10 @@ use Rattle.bw_format.specs.declared.format.Format.{Format}
 use Rattle.bw_http.specs.declared.replies.Reply.{Reply}
 use Rattle.bw_lang.specs.declared.service.Service.{Service}
 use Rattle.bw_model.specs.Runs.{answer_of}
-use Rattle.bw_world.specs.Streams.Courses.{IsBroken}
+use Rattle.bw_world.specs.Streams.Courses.{IsBroken, Between}
 use Rattle.bw_visit.specs.Exchanges.{Standing, IsBetween}
 use Rattle.bw_visit.specs.Scripts.{AreLines}
-use Rattle.bw_visit.specs.Visits.{Between, End, Done, Unknown, Wanted, Broken, Visits}
+use Rattle.bw_visit.specs.Visits.{End, Done, Unknown, Wanted, Broken, Visits}
 use Rattle.bw_visit.specs.declared.visiting.Turned.{Turned}
 use Rattle.bw_visit.specs.declared.visiting.Turned.TheVariants as turns
 use Rattle.bw_visit.specs.declared.visiting.VisitEnd.{VisitEnd}

@@ -6,8 +6,8 @@ use Rattle.bw_out.specs.Told.{Coming}
 use Rattle.bw_out.specs.declared.outside.Keys as keys
 use Rattle.bw_world.specs.Seen.{Seen}
 use Rattle.bw_world.specs.Stands.{StandsFor}
-use Rattle.bw_world.specs.Streams.Courses.{bytes_by}
-use Rattle.bw_visit.specs.Visits.{Between, Exchange}
+use Rattle.bw_world.specs.Streams.Courses.{bytes_by, Between}
+use Rattle.bw_visit.specs.Visits.{Exchange}
 use Rattle.bw_visit.specs.declared.lent.Host.{Host}
 
 -- what the code has between two messages: the formats of fields, a world, the keys to come where told, and the steps so far

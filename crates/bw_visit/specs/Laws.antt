@@ -20,7 +20,8 @@ use Rattle.bw_run.specs.Missing.{first_missing}
 use Rattle.bw_schema.specs.declared.schema.Schema.{Schema}
 use Rattle.bw_types.specs.declared.typed.Typed.{Typed}
 use Rattle.bw_user.specs.Messages.{get}
-use Rattle.bw_visit.specs.Visits.{Between, End, Visits, is_amiss}
+use Rattle.bw_world.specs.Streams.Courses.{Between}
+use Rattle.bw_visit.specs.Visits.{End, Visits, is_amiss}
 use Rattle.bw_waiting.specs.Worlds.{IsKindedTalk}
 use Rattle.bw_world.specs.Changes.{refused}
 

@@ -10,21 +10,9 @@ use Rattle.bw_http.specs.Paths.{IsCutAt}
 use Rattle.bw_http.specs.declared.replies.Reply.{Reply}
 use Rattle.bw_http.specs.declared.replies.Reply.TheVariants as replies
 use Rattle.bw_lang.specs.declared.service.Service.{Service}
-use Rattle.bw_model.specs.Runs.{At, Run}
-use Rattle.bw_model.specs.Sessions.{World}
-use Rattle.bw_out.specs.Told.{Coming}
+use Rattle.bw_model.specs.Runs.{Run}
 use Rattle.bw_user.specs.Messages.{post, body_in}
-use Rattle.bw_world.specs.Streams.Courses.{bytes_by}
-
--- between two messages: the world, the keys to come, and the steps so far
-pub record Between : Type 0 where
-  pub world : World
-  pub keys : Coming
-  pub steps : ℕ
-
--- a stream of these bytes begins there
-abbrev pub begins : Between → List ℕ → At
-begins from bytes = record { world = from.world; bytes = bytes; keys = from.keys }
+use Rattle.bw_world.specs.Streams.Courses.{bytes_by, Between, begins}
 
 -- a message is answered by this reply, in a run of one message. Both fit in memory
 pub record Exchange (formats : List Format) (service : Service) (from : Between) (message : List ℕ) (reply : Reply) (to : Between) : Type 0 where

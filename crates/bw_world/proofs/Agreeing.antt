@@ -6,7 +6,7 @@ use Rattle.std.specs.Option.{option_map}
 use Rattle.std.proofs.lemmas.List.Elements.{All-head, All-tail}
 use Rattle.bw_eval.specs.View.{values}
 use Rattle.bw_flow.specs.declared.point.Local.{Local}
-use Rattle.bw_flow.specs.Layout.{receives}
+use Rattle.bw_flow.specs.Layout.{receives, flow_of}
 use Rattle.bw_flow.specs.Steps.{Step}
 use Rattle.bw_format.specs.declared.format.Format.{Format}
 use Rattle.bw_model.specs.Guards.{fields_of, unless_refused, stored_at, stored_by}
@@ -28,7 +28,7 @@ use Rattle.bw_types.specs.declared.typed.Typed.{Typed}
 use Rattle.bw_world.specs.declared.suspended.Suspended.{Suspended}
 use Rattle.bw_world.specs.Changes.{refused}
 use Rattle.bw_world.specs.Kept.{AreApart, IsSuspended, IsKept}
-use Rattle.bw_world.specs.Seen.{Seen, flow_of, found}
+use Rattle.bw_world.specs.Seen.{Seen, found}
 use Rattle.bw_world.specs.Stands as world
 use Rattle.bw_world.specs.Stands.{StandsFor}
 use Rattle.bw_world.proofs.Live.{Taken, taken, not_taken}

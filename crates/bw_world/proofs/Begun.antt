@@ -17,7 +17,8 @@ use Rattle.bw_run.specs.declared.turn.Turn.{Turn}
 use Rattle.bw_run.specs.declared.turn.Turn.TheVariants as turns
 use Rattle.bw_run.specs.Turns.{IsTurn}
 use Rattle.bw_world.specs.Changes.{shown_page, last_page, begun, with_new, Either, failure}
-use Rattle.bw_world.specs.Seen.{Seen, flow_of}
+use Rattle.bw_flow.specs.Layout.{flow_of}
+use Rattle.bw_world.specs.Seen.{Seen}
 use Rattle.bw_world.specs.Stands.{AllStand, StandsFor, Takes, Ends, Rises, model}
 use Rattle.bw_world.proofs.Standing.{take_stands, fault_cases, itself, wanted}
 

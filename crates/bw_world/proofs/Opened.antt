@@ -7,7 +7,7 @@ use Rattle.bw_doc.specs.Made.{Made}
 use Rattle.bw_eval.specs.declared.value.Value.{Value}
 use Rattle.bw_eval.specs.Evaluations.{HasMemory}
 use Rattle.bw_eval.specs.View.{values}
-use Rattle.bw_flow.specs.Layout.{plan_of}
+use Rattle.bw_flow.specs.Layout.{plan_of, flow_of}
 use Rattle.bw_flow.specs.Steps.{Plan}
 use Rattle.bw_meaning.specs.GoOn.{turn, go_on}
 use Rattle.bw_meaning.specs.States.{Form, units_left}
@@ -19,7 +19,7 @@ use Rattle.bw_run.specs.Turns.{IsTurn, answered_frame}
 use Rattle.bw_world.specs.declared.suspended.Suspended.{Suspended}
 use Rattle.bw_world.specs.Changes.{begun, went_on}
 use Rattle.bw_world.specs.Kept.{IsOwn, IsSuspended}
-use Rattle.bw_world.specs.Seen.{Seen, flow_of}
+use Rattle.bw_world.specs.Seen.{Seen}
 use Rattle.bw_world.proofs.Own.{first_own, later_own}
 
 module _ (w : Seen) (typed : Typed) (flow : Plan) (shared : List (List ℕ × Value)) (is : typed.service ≡ w.service)

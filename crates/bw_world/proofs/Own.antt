@@ -6,7 +6,7 @@ use Rattle.bw_types.specs.declared.typed.Typed.{Typed}
 use Rattle.bw_doc.specs.Made.{Made}
 use Rattle.bw_eval.specs.declared.value.Value.{Value}
 use Rattle.bw_eval.specs.View.{document, values}
-use Rattle.bw_flow.specs.Layout.{plan_of}
+use Rattle.bw_flow.specs.Layout.{plan_of, flow_of}
 use Rattle.bw_run.specs.Follow.Laws.{IsOf}
 use Rattle.bw_run.proofs.Follow.Fit.{shown_is_fit, shown_again_is_fit}
 use Rattle.bw_run.proofs.Follow.Kept.{typed_is_ready}
@@ -19,7 +19,6 @@ use Rattle.bw_run.specs.Fit.{IsFrame}
 use Rattle.bw_run.specs.Turns.{turned, answered_frame}
 use Rattle.bw_run.specs.Walks.{number_of, number_at}
 use Rattle.bw_run.proofs.Fits.{has_first, names_from}
-use Rattle.bw_world.specs.Seen.{flow_of}
 
 no_input : Input
 no_input = record { form = []; shared = [] }

@@ -33,7 +33,8 @@ use Rattle.bw_run.specs.Walks.{number_at}
 use Rattle.bw_world.specs.declared.suspended.Suspended.{Suspended}
 use Rattle.bw_world.specs.Changes.{shown_page, last_page, went_on, with_first, without, Either, failure, refused}
 use Rattle.bw_world.specs.Kept.{AreApart, IsSuspended}
-use Rattle.bw_world.specs.Seen.{Seen, flow_of, found}
+use Rattle.bw_flow.specs.Layout.{flow_of}
+use Rattle.bw_world.specs.Seen.{Seen, found}
 use Rattle.bw_world.specs.Stands.{LiveStands, AllStand, StandsFor, Takes, Ends, Rises, model}
 use Rattle.bw_world.proofs.GoesOn.{result_goes_on}
 use Rattle.bw_world.proofs.Live.{Taken, taken, is_found}

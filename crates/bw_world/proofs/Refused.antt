@@ -6,7 +6,7 @@ use Rattle.bw_lang.specs.declared.service.Service.{Service}
 use Rattle.bw_lang.specs.Service.Numbers.{first_number}
 use Rattle.bw_types.specs.declared.typed.Typed.{Typed}
 use Rattle.bw_typed.proofs.Services.{shared_are_no_lists}
-use Rattle.bw_flow.specs.Layout.{receives}
+use Rattle.bw_flow.specs.Layout.{receives, flow_of}
 use Rattle.bw_flow.specs.Steps.{Step}
 use Rattle.bw_run.specs.Follow.Laws.{IsOf}
 use Rattle.bw_flow.specs.Flows.{fields_of}
@@ -21,7 +21,6 @@ use Rattle.bw_run.specs.Missing.{first_missing}
 use Rattle.bw_run.specs.Turns as run
 use Rattle.bw_run.specs.Walks.{number_of, number_at}
 use Rattle.bw_world.specs.Changes.{refused}
-use Rattle.bw_world.specs.Seen.{flow_of}
 use Rattle.bw_world.specs.Stands.{fields_of as names}
 use Rattle.bw_world.proofs.Named.{Names, missing_names, shows_are_there}
 use Rattle.bw_world.proofs.Refusals.{refusals_agree}

@@ -10,7 +10,8 @@ use Rattle.bw_run.specs.declared.turn.Turn.TheVariants as turns
 use Rattle.bw_run.specs.Fit.{IsFrame, AreShared}
 use Rattle.bw_run.specs.Walks.{number_at}
 use Rattle.bw_world.specs.declared.suspended.Suspended.{Suspended}
-use Rattle.bw_world.specs.Seen.{Seen, flow_of}
+use Rattle.bw_flow.specs.Layout.{flow_of}
+use Rattle.bw_world.specs.Seen.{Seen}
 use Rattle.bw_model.specs.declared.limits.TheConstants.{MAX_LIVE}
 
 -- a session waits at a show of its own, with a frame that is fit and a document of the service

@@ -12,7 +12,8 @@ use Rattle.bw_run.specs.declared.fields.FieldFault.{FieldFault}
 use Rattle.bw_run.specs.Missing.{first_missing}
 use Rattle.bw_run.specs.Turns.{receives_of}
 use Rattle.bw_world.specs.declared.suspended.Suspended.{Suspended}
-use Rattle.bw_world.specs.Seen.{Seen, flow_of, found}
+use Rattle.bw_flow.specs.Layout.{flow_of}
+use Rattle.bw_world.specs.Seen.{Seen, found}
 use Rattle.bw_model.specs.declared.limits.TheConstants.{MAX_NUMBER}
 
 -- a form that is refused, or one for a session that has had all its turns

@@ -7,7 +7,8 @@ use Rattle.bw_model.specs.Sessions.{Loaded, Live, World}
 use Rattle.bw_run.specs.Walks.{number_at}
 use Rattle.bw_world.specs.declared.restoring.Parts.{Parts}
 use Rattle.bw_world.specs.declared.suspended.Suspended.{Suspended}
-use Rattle.bw_world.specs.Seen.{Seen, flow_of}
+use Rattle.bw_flow.specs.Layout.{flow_of}
+use Rattle.bw_world.specs.Seen.{Seen}
 
 -- sessions by their numbers
 abbrev pub by_number : List Suspended → List (ℕ × Suspended)

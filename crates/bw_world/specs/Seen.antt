@@ -2,8 +2,6 @@
 use Rattle.std.specs.Prelude.{ℕ, List, [], ◌∷◌, ◌==◌, ◌&&◌, if◌then◌else◌, Option, Some, None}
 use Rattle.bw_eval.specs.declared.value.Value.{Value}
 use Rattle.bw_lang.specs.declared.service.Service.{Service}
-use Rattle.bw_flow.specs.Layout.{plan_of}
-use Rattle.bw_flow.specs.Steps.{Step}
 use Rattle.bw_world.specs.declared.suspended.Suspended.{Suspended}
 
 -- the service, the shared variables, the next session's number, the number of a first turn, and the live sessions by their
@@ -14,10 +12,6 @@ pub record Seen : Type 0 where
   pub next : ℕ
   pub first : ℕ
   pub live : List (ℕ × Suspended)
-
--- the points of a service
-abbrev pub flow_of : Service → List Step
-flow_of service = (plan_of service).steps
 
 -- the live session of this number and key
 abbrev pub found : ℕ → ℕ → List (ℕ × Suspended) → Option Suspended

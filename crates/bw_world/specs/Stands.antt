@@ -13,7 +13,8 @@ use Rattle.bw_model.specs.Steps.{Step}
 use Rattle.bw_run.specs.Walks.{number_at}
 use Rattle.bw_types.specs.Fields.{field_names}
 use Rattle.bw_world.specs.declared.suspended.Suspended.{Suspended}
-use Rattle.bw_world.specs.Seen.{Seen, flow_of}
+use Rattle.bw_flow.specs.Layout.{flow_of}
+use Rattle.bw_world.specs.Seen.{Seen}
 use Rattle.bw_lang.specs.declared.turn.TheConstants.{BUDGET}
 
 -- the session waits where the frame says, with its locals and rests, and its document is the page's

@@ -4,7 +4,7 @@ ghost use Rattle.bw_model.specs.Guards.{IsInside};
 ghost use Rattle.bw_world.specs.Away as spec;
 ghost use Rattle.bw_run.specs.Turns.{receives_of};
 ghost use Rattle.bw_world.specs.Kept.{IsKept, IsSuspended};
-ghost use Rattle.bw_world.specs.Seen.{flow_of};
+ghost use Rattle.bw_flow.specs.Layout.{flow_of};
 ghost use Rattle.bw_world.specs.Stands.{fields_of};
 
 use crate::suspended::Suspended;

@@ -10,7 +10,8 @@ ghost use Rattle.bw_world.specs.Changes.{failure, refused};
 ghost use Rattle.bw_run.specs.Missing.{first_missing};
 ghost use Rattle.bw_run.specs.Turns.{receives_of};
 ghost use Rattle.bw_world.specs.Plain.{is_plain, is_plain_start, is_plain_visit, takes_no_turn};
-ghost use Rattle.bw_world.specs.Seen.{flow_of, found};
+ghost use Rattle.bw_flow.specs.Layout.{flow_of};
+ghost use Rattle.bw_world.specs.Seen.{found};
 ghost use Rattle.bw_world.specs.Stands.{Steps, Stays};
 
 use crate::pages::index;

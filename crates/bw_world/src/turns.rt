@@ -10,7 +10,8 @@ ghost use Rattle.bw_run.specs.Turns.{IsTurn, receives_of, answered_frame};
 ghost use Rattle.bw_types.specs.Scopes.{session_of};
 ghost use Rattle.bw_world.specs.declared.suspended.Suspended.{Suspended};
 ghost use Rattle.bw_world.specs.Kept.{IsKept, IsOwn, IsSuspended};
-ghost use Rattle.bw_world.specs.Seen.{flow_of, found};
+ghost use Rattle.bw_flow.specs.Layout.{flow_of};
+ghost use Rattle.bw_world.specs.Seen.{found};
 ghost use Rattle.bw_world.specs.Stands.{Rises};
 ghost use Rattle.bw_model.specs.declared.limits.TheConstants.{MAX_NUMBER};
 

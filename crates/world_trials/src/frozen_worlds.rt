@@ -3,7 +3,7 @@ ghost use Rattle.std.specs.Prelude.{◌≡◌, ◌≤◌, length, IfOk};
 ghost use Rattle.bw_lang.specs.declared.limits.TheConstants.{MAX_FILE_BYTES};
 ghost use Rattle.bw_save.specs.Filled as filled;
 ghost use Rattle.bw_save.specs.Saves.{MayBeWritten};
-ghost use Rattle.bw_saved.specs.Sessions.Demands.{flow_of};
+ghost use Rattle.bw_flow.specs.Layout.{flow_of};
 ghost use Rattle.bw_saved.specs.Sessions.Layout as layout;
 
 use bw_check::Checked;

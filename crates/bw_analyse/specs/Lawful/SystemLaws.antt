@@ -26,7 +26,8 @@ use Rattle.bw_analyse.specs.Fits.{AllFit, kinds_of, FitsCell, rank_bound}
 use Rattle.bw_analyse.specs.Lawful.KindLaws.{Up, up_itself, up_both, least_fits, least_below, AllUp, all_alike, all_few, all_up, all_itself, up_fits, up_below}
 use Rattle.bw_analyse.specs.Lawful.KnownLaws.{string_up, nothing_up}
 use Rattle.bw_analyse.specs.Known.{of_literal}
-use Rattle.bw_analyse.specs.Least.{flow_of, rows}
+use Rattle.bw_flow.specs.Layout.{flow_of}
+use Rattle.bw_analyse.specs.Least.{rows}
 use Rattle.bw_analyse.specs.Readers.{all_below, readers_at, readers_of}
 use Rattle.bw_analyse.specs.Rounds.{left_at, added_by, next_local, next_shared, Placed, placed, arrows_to, empty_row, next_row, empty, round}
 use Rattle.bw_analyse.specs.Rows.{EachAlike, each_below, all_sizes}

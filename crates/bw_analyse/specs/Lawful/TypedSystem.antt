@@ -12,7 +12,8 @@ use Rattle.bw_flow.proofs.OfTyped.{points_are_typed}
 use Rattle.bw_analyse.specs.declared.abstracts.Abstract.{Abstract}
 use Rattle.bw_analyse.specs.Abstracts.{AreAlike, is_below, rank_of}
 use Rattle.bw_analyse.specs.Fits.{FitsCell, rank_bound}
-use Rattle.bw_analyse.specs.Least.{flow_of, rows}
+use Rattle.bw_flow.specs.Layout.{flow_of}
+use Rattle.bw_analyse.specs.Least.{rows}
 use Rattle.bw_analyse.specs.Readers.{readers_of}
 use Rattle.bw_analyse.specs.Rounds.{empty, round}
 use Rattle.bw_analyse.specs.Rows.{EachAlike, each_below, all_sizes}

@@ -8,11 +8,10 @@ use Rattle.bw_lang.specs.declared.service.Session.{Session}
 use Rattle.bw_lang.specs.declared.stmt.Kind.TheVariants as kinds
 use Rattle.bw_lang.specs.Service.Code.{Code, done, declare, assign, if_then, if_else, while_loop, block, for_each, show, exit, numbered}
 use Rattle.bw_flow.specs.declared.point.Local.{Local}
-use Rattle.bw_flow.specs.Layout.{count, enter, points, receives, step, steps, session_steps}
+use Rattle.bw_flow.specs.Layout.{count, enter, points, receives, step, steps, session_steps, flow_of}
 use Rattle.bw_flow.specs.Scopes.{with_local}
 use Rattle.bw_flow.specs.Steps.{Act, sets, tests, goes_over, shows, exits, joins, Step}
 use Rattle.bw_analyse.specs.Lawful.ArrowLaws.{all_both}
-use Rattle.bw_analyse.specs.Least.{flow_of}
 use Rattle.bw_analyse.specs.Lawful.SystemLaws.{all_at}
 
 -- what holds of one after the other holds of all

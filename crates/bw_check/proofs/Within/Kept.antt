@@ -34,7 +34,7 @@ use Rattle.bw_analyse.specs.declared.abstracts.Abstract.TheVariants.{Nothing, St
 use Rattle.bw_analyse.specs.declared.arrows.Arrow.{Arrow}
 use Rattle.bw_analyse.specs.Abstracts.{both, plugged_by, least_of}
 use Rattle.bw_analyse.specs.Known.{any, of_name, of_local, of_shared, constant_at, look, of_literal, summed_by, combined_by, called_by, known, known_filled}
-use Rattle.bw_analyse.specs.Least.{flow_of}
+use Rattle.bw_flow.specs.Layout.{flow_of}
 use Rattle.bw_analyse.specs.Rounds.{received_by, receives, left_by, is_local, added_by, join_some, joined, left_at, next_local, next_shared}
 use Rattle.bw_analyse.specs.Rounds.{Placed, placed, arrows_to, empty_row, next_row}
 use Rattle.bw_analyse.specs.Lawful.SystemLaws.{IsPlaced, all_placed}

@@ -23,10 +23,9 @@ use Rattle.bw_strings.specs.Literals.{literals_of, term_strings, code_strings, l
 use Rattle.bw_types.specs.declared.typed.Typed.{Typed}
 use Rattle.bw_types.specs.Fields.{field_names}
 use Rattle.bw_flow.specs.declared.point.Local.{Local}
-use Rattle.bw_flow.specs.Layout.{received, receives}
+use Rattle.bw_flow.specs.Layout.{received, receives, flow_of}
 use Rattle.bw_flow.specs.Steps.{Act, sets, tests, goes_over, shows, exits, joins, Step}
 use Rattle.bw_fields.specs.Received.{names_of, IsReceived}
-use Rattle.bw_analyse.specs.Least.{flow_of}
 use Rattle.bw_check.proofs.Within.Acts.{OfEach, flow_acts}
 use Rattle.bw_check.specs.Within.Laws.{ReceivedHaveNumbers}
 

@@ -11,7 +11,8 @@ use Rattle.bw_analyse.specs.Lawful.AbstractLaws.{abstracts_lattice}
 use Rattle.bw_analyse.specs.Abstracts.{is_below}
 use Rattle.bw_analyse.specs.Facts.{pages_of}
 use Rattle.bw_analyse.specs.Fits.{FitsCell}
-use Rattle.bw_analyse.specs.Least.{flow_of, rows, IsLeastSolution}
+use Rattle.bw_flow.specs.Layout.{flow_of}
+use Rattle.bw_analyse.specs.Least.{rows, IsLeastSolution}
 use Rattle.bw_analyse.specs.Rounds.{empty, round}
 use Rattle.bw_analyse.specs.Lawful.RowLaws.{rows_lattice}
 use Rattle.bw_analyse.specs.Rows.{each_below}

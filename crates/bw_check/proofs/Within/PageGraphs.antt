@@ -20,7 +20,8 @@ use Rattle.bw_analyse.specs.declared.facts.Facts.{Facts}
 use Rattle.bw_analyse.specs.Abstracts.{no_document}
 use Rattle.bw_analyse.specs.Facts.{AreFacts, summary_of, page_of, summary_at, names_at, rows_of, joined_option, shown_fact}
 use Rattle.bw_analyse.specs.Known.{known}
-use Rattle.bw_analyse.specs.Least.{flow_of, rows}
+use Rattle.bw_flow.specs.Layout.{flow_of}
+use Rattle.bw_analyse.specs.Least.{rows}
 use Rattle.bw_analyse.specs.Pages.{show_constant, exit_constant, shown_page, exited_page, name_of, page_by, page_at, page_graph}
 use Rattle.bw_analyse.specs.Rounds.{Placed, empty}
 use Rattle.bw_analyse.specs.Lawful.SystemLaws.{get_below}

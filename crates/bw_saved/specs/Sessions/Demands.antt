@@ -1,9 +1,9 @@
 -- Which sessions may stand in a file.
-use Rattle.std.specs.Prelude.{◌≡◌, ◌<◌, ◌≤◌, ◌+◌, ◌^◌, ℕ, true, List, length, Some}
+use Rattle.std.specs.Prelude.{◌≡◌, ◌<◌, ◌≤◌, ◌+◌, ◌^◌, ℕ, true, length, Some}
 use Rattle.std.specs.List.{AllByRecursion}
 use Rattle.bw_doc.specs.Made.{tree}
 use Rattle.bw_eval.specs.View.{values}
-use Rattle.bw_flow.specs.Layout.{plan_of}
+use Rattle.bw_flow.specs.Layout.{plan_of, flow_of}
 use Rattle.bw_flow.specs.Stands.{IsAt}
 use Rattle.bw_flow.specs.Steps.{Step}
 use Rattle.bw_lang.specs.declared.service.Service.{Service}
@@ -21,10 +21,6 @@ use Rattle.bw_saved.specs.Sessions.Reading.{show_at}
 use Rattle.bw_saved.specs.Sessions.Weights.{session_weight, are_apart}
 use Rattle.bw_saved.specs.Values.Demands.{AreVariables}
 use Rattle.bw_types.specs.Scopes.{shared_kinds}
-
--- the points of a service
-abbrev pub flow_of : Service → List Step
-flow_of service = (plan_of service).steps
 
 -- the session waits at this show of its own, with a value for each local in scope and a rest for each foreach around it
 pub record WaitsAt (service : Service) (r : Record) (x : Step) : Type 0 where

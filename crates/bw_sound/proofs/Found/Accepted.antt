@@ -37,7 +37,7 @@ use Rattle.bw_analyse.specs.Fits.{Fits}
 use Rattle.bw_analyse.specs.GapFaults.{lacks, Misses, FillingMisses, term_of, gap_fault}
 use Rattle.bw_analyse.specs.Lawful.KindLaws.{all_itself}
 use Rattle.bw_analyse.specs.Known.{local_names, of_local, of_shared, look, known}
-use Rattle.bw_analyse.specs.Least.{flow_of}
+use Rattle.bw_flow.specs.Layout.{flow_of}
 use Rattle.bw_analyse.specs.Rounds.{empty}
 use Rattle.bw_analyse.specs.Lawful.StepLaws.{local_up, shared_up, expression_up}
 use Rattle.bw_sound.specs.Found.Laws.{HasNoGapFault, NoneIsListed, FactsSolve, FactsAreAccepted, FactsCoverWorlds}

@@ -41,7 +41,8 @@ use Rattle.bw_analyse.specs.Abstracts.{is_below, both, least_of}
 use Rattle.bw_analyse.specs.Fits.{Fits, AllFit, kinds_of, FitsCell}
 use Rattle.bw_analyse.specs.Lawful.KindLaws.{AllUp, all_itself, all_up, least_fits, both_fits}
 use Rattle.bw_analyse.specs.Known.{local_names, of_local, of_shared, of_literal, constant_at, look, known}
-use Rattle.bw_analyse.specs.Least.{flow_of, rows, IsLeastSolution}
+use Rattle.bw_flow.specs.Layout.{flow_of}
+use Rattle.bw_analyse.specs.Least.{rows, IsLeastSolution}
 use Rattle.bw_analyse.specs.Rounds.{left_at, left_by, added_by, next_local, next_shared, next_row, Placed, arrows_to, empty_row, empty, round}
 use Rattle.bw_analyse.specs.Rows.{each_below}
 use Rattle.bw_analyse.specs.Lawful.StepLaws.{HasFew, TwoUp, OptionUp, expression_up, left_up, added_up, local_up, shared_up}

@@ -12,7 +12,7 @@ use Rattle.bw_flow.specs.Steps.{Act, sets, tests, goes_over, shows, exits, joins
 use Rattle.bw_flow.proofs.Numbered.{no_join, all_have_numbers}
 use Rattle.bw_lang.specs.declared.service.Service.{Service}
 use Rattle.bw_lang.specs.Service.Term.{Term}
-use Rattle.bw_analyse.specs.Least.{flow_of}
+use Rattle.bw_flow.specs.Layout.{flow_of}
 use Rattle.bw_sound.specs.Found.Seen.{is_show_of, place_of, ends, ends_at}
 
 -- ---- the first place

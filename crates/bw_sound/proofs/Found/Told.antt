@@ -14,7 +14,8 @@ use Rattle.bw_analyse.specs.Abstracts.{is_below}
 use Rattle.bw_analyse.specs.Facts.{AreFacts, rows_of, local_in, local_fact, shared_fact, shown_fact, joined_option, page_of, summary_at, names_at}
 use Rattle.bw_analyse.specs.Fits.{FitsCell}
 use Rattle.bw_analyse.specs.Known.{local_names, of_name, of_local, of_shared}
-use Rattle.bw_analyse.specs.Least.{flow_of, rows, IsLeastSolution}
+use Rattle.bw_flow.specs.Layout.{flow_of}
+use Rattle.bw_analyse.specs.Least.{rows, IsLeastSolution}
 use Rattle.bw_analyse.specs.Rounds.{empty, round}
 use Rattle.bw_analyse.specs.Rows.{each_below}
 use Rattle.bw_analyse.proofs.PageLaws.{placed_get}

@@ -21,7 +21,8 @@ use Rattle.bw_analyse.specs.declared.facts.Facts.{Facts}
 use Rattle.bw_analyse.specs.Facts.{AreFacts, local_fact, shared_fact, shown_fact, page_of}
 use Rattle.bw_analyse.specs.Fits.{FitsCell}
 use Rattle.bw_analyse.specs.GapFaults.{IsGapFault}
-use Rattle.bw_analyse.specs.Least.{flow_of, rows, IsLeastSolution}
+use Rattle.bw_flow.specs.Layout.{flow_of}
+use Rattle.bw_analyse.specs.Least.{rows, IsLeastSolution}
 use Rattle.bw_analyse.specs.Rounds.{empty}
 use Rattle.bw_sound.specs.Found.Seen.{seen, cells_of, facts_of, known_of}
 

@@ -18,7 +18,7 @@ use Rattle.bw_analyse.specs.declared.facts.Facts as own
 use Rattle.bw_analyse.specs.Abstracts.{no_document}
 use Rattle.bw_analyse.specs.Facts.{rows_of, shown_fact}
 use Rattle.bw_analyse.specs.Known.{local_names, of_local, of_shared}
-use Rattle.bw_analyse.specs.Least.{flow_of}
+use Rattle.bw_flow.specs.Layout.{flow_of}
 
 -- what is known, by its members: the strings, and the graph of a summary
 abbrev pub seen : Service → Abstract → cover.Abstract

@@ -8,9 +8,21 @@ use Rattle.bw_http.specs.declared.replies.Reply.{Reply}
 use Rattle.bw_lang.specs.Table.Names.{with_names}
 use Rattle.bw_lang.specs.declared.service.Service.{Service}
 use Rattle.bw_model.specs.Runs.{At, Turns, Run, wants, answer_of}
+use Rattle.bw_model.specs.Sessions.{World}
+use Rattle.bw_out.specs.Told.{Coming}
 use Rattle.bw_types.specs.Fields.{field_names}
 use Rattle.bw_world.specs.declared.ends.StreamEnd.{StreamEnd}
 use Rattle.bw_world.specs.declared.ends.StreamEnd.TheVariants.{Ended, ReadFault, WriteFault}
+
+-- between two streams: the world, the keys to come, and the steps so far
+pub record Between : Type 0 where
+  pub world : World
+  pub keys : Coming
+  pub steps : ℕ
+
+-- a stream of these bytes begins there
+abbrev pub begins : Between → List ℕ → At
+begins from bytes = record { world = from.world; bytes = bytes; keys = from.keys }
 
 -- these bytes are those that were taken and not used, and then those that are left to read
 abbrev pub AreLeft : List ℕ → Option (List ℕ) → List ℕ → Type 0

@@ -4,7 +4,7 @@ use Rattle.bw_flow.specs.View.{act, seen}
 use Rattle.bw_sum.specs.declared.summary.Summary.{Summary}
 use Rattle.bw_analyse.specs.Facts.{names_at, summary_at, page_of}
 use Rattle.bw_analyse.specs.Known.{look}
-use Rattle.bw_analyse.specs.Least.{flow_of}
+use Rattle.bw_flow.specs.Layout.{flow_of}
 use Rattle.bw_analyse.specs.Rounds.{Placed, placed}
 use Rattle.bw_analyse.proofs.Points.{placed_more, placed_end}
 use Rattle.bw_analyse.proofs.facts.pages_of.Goals as goal

@@ -4,7 +4,7 @@ use Rattle.bw_flow.specs.View.{act}
 use Rattle.bw_analyse.specs.Facts.{rows_of}
 use Rattle.bw_analyse.specs.GapFaults.{term_of}
 use Rattle.bw_analyse.specs.Known.{look}
-use Rattle.bw_analyse.specs.Least.{flow_of}
+use Rattle.bw_flow.specs.Layout.{flow_of}
 use Rattle.bw_analyse.specs.Noting.{noted_term}
 use Rattle.bw_analyse.proofs.GapLaws.{noted_more, noted_end}
 use Rattle.bw_analyse.proofs.Points.{count_is}

@@ -1,18 +1,15 @@
-use Rattle.std.proofs.Common.{◌≡◌, ℕ, zero, suc, ◌<◌, List, [], length, get_or, replicate, refl, ap, sym, ◌∙◌, subst}
+use Rattle.std.proofs.Common.{◌≡◌, ℕ, zero, suc, List, [], length, get_or, replicate, refl, ap, sym, ◌∙◌, subst}
 use Rattle.std.specs.List.{list_any, All}
 use Rattle.std.proofs.lemmas.List.{length-replicate}
 use Rattle.std.proofs.lemmas.List.Elements.{All-nil}
 use Rattle.bw_shape.specs.Nodes.Nodes.{Node}
+use Rattle.bw_shape.proofs.Filled.{stay_below}
 use Rattle.bw_strings.specs.declared.strings.StrSet.{StrSet}
 use Rattle.bw_explain.specs.Ways.{Way, ways_at}
 use Rattle.bw_explain.specs.Building.{AreMade, made, has_way, of_track, of_edge, of_label}
 use Rattle.bw_explain.proofs.Tying.{ways_tie}
 use Rattle.std.proofs.lemmas.Bool.{or_left, or_right}
 use Rattle.bw_explain.proofs.building.ways_of.Goals as goal
-
--- what is below one bound is below an equal one, in an equal list
-low : {A : Type 0} {rows k : ℕ} {xs ys : List A} (f : A → ℕ) → k ≡ rows → ys ≡ xs → All (λ x. f x < rows) xs → All (λ x. f x < k) ys
-low {rows = rows} {ys = ys} f e h all = subst (λ n. All (λ x. f x < n) ys) (sym e) (subst (All (λ x. f x < rows)) (sym h) all)
 
 -- as many templates as there are nodes
 begun_len : {rows : ℕ} {list : List (List Way)} (k : ℕ) → list ≡ replicate k [] → k ≡ rows → length list ≡ rows
@@ -32,7 +29,7 @@ made_none literals nodes said list rows e n =
 
 pub add_tracks-requires-clause-rows : goal.add_tracks-requires-clause-rows
 add_tracks-requires-clause-rows c =
-    low (λ t. t.1) (begun_len c.len.result c.in_ok-list.ensures (c.len.ensures ∙ c.args.graphed.now.nodes.ok.0)) c.as_slice.ensures.value
+    stay_below (λ t. t.1) (begun_len c.len.result c.in_ok-list.ensures (c.len.ensures ∙ c.args.graphed.now.nodes.ok.0)) c.as_slice.ensures.value
     c.requires.tracks
 
 pub add_tracks-requires-clause-nodes : goal.add_tracks-requires-clause-nodes
@@ -47,7 +44,7 @@ add_tracks-requires-clause-made c = made_none _ _ _ _ c.len.result c.in_ok-list.
 
 pub add_edges-requires-clause-rows : goal.add_edges-requires-clause-rows
 add_edges-requires-clause-rows c =
-    low (λ t. t.0)
+    stay_below (λ t. t.0)
     (c.in_ok-add_tracks.ensures.more.len ∙ begun_len c.len.result c.in_ok-list.ensures (c.len.ensures ∙ c.args.graphed.now.nodes.ok.0))
     c.as_slice-2.ensures.value c.requires.edges
 
@@ -65,7 +62,7 @@ add_edges-requires-clause-made c = c.in_ok-add_tracks.ensures.made
 
 pub add_labels-requires-clause-rows : goal.add_labels-requires-clause-rows
 add_labels-requires-clause-rows c =
-    low (λ t. t.0.0)
+    stay_below (λ t. t.0.0)
     (c.in_ok-add_edges.ensures.more.len ∙ c.in_ok-add_tracks.ensures.more.len
     ∙ begun_len c.len.result c.in_ok-list.ensures (c.len.ensures ∙ c.args.graphed.now.nodes.ok.0))
     c.as_slice-3.ensures.value c.requires.labels

@@ -1,6 +1,6 @@
 use Rattle.std.proofs.Common.{◌≡◌, IfOk, subst}
 use Rattle.bw_save.specs.Frozen.{saved_of}
-use Rattle.bw_saved.specs.Sessions.Demands.{flow_of}
+use Rattle.bw_flow.specs.Layout.{flow_of}
 use Rattle.bw_saved.specs.Sessions.Layout.{file}
 use Rattle.bw_world.specs.Seen.{Seen}
 use Rattle.bw_save.proofs.freezing.freeze.Goals as goal

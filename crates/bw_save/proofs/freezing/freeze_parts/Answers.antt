@@ -4,7 +4,7 @@ use Rattle.bw_save.proofs.Again.{saved_of_parts}
 use Rattle.bw_save.proofs.Fit.{fit_sessions}
 use Rattle.bw_save.specs.Saves.{FitSessions}
 use Rattle.bw_saved.specs.declared.saved.Saved.{Saved}
-use Rattle.bw_saved.specs.Sessions.Demands.{flow_of}
+use Rattle.bw_flow.specs.Layout.{flow_of}
 use Rattle.bw_saved.specs.Sessions.Layout.{file}
 use Rattle.bw_save.proofs.freezing.freeze_parts.Goals as goal
 

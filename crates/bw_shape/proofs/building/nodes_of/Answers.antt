@@ -1,4 +1,4 @@
-use Rattle.std.proofs.Common.{◌≡◌, ◌∙◌, ℕ, ◌<◌, List, [], length, refl, ap, sym, subst}
+use Rattle.std.proofs.Common.{◌≡◌, ◌∙◌, ℕ, List, [], length, refl, ap, sym, subst}
 use Rattle.std.specs.List.{All}
 use Rattle.std.proofs.lemmas.List.{length-replicate}
 use Rattle.std.proofs.lemmas.List.Elements.{All-replicate}
@@ -8,16 +8,13 @@ use Rattle.bw_strings.specs.declared.strings.StrSet.{StrSet}
 use Rattle.bw_sum.specs.Edges.{edge_cmp}
 use Rattle.bw_shape.specs.Nodes.Nodes.{no_node}
 use Rattle.bw_shape.specs.Nodes.Parts.{GrowsNodes, GrowsSaid, link_part, open_part, said_part, sayings_of}
+use Rattle.bw_shape.proofs.Filled.{stay_below}
 use Rattle.bw_shape.proofs.Nodes.PastRows.{fits, small_links, strings}
 use Rattle.bw_shape.proofs.building.nodes_of.Goals as goal
 
--- what is below one bound is below an equal one, in an equal list
-low : {A : Type 0} {rows k : ℕ} {xs ys : List A} (f : A → ℕ) → k ≡ rows → ys ≡ xs → All (λ x. f x < rows) xs → All (λ x. f x < k) ys
-low {rows = rows} {ys = ys} f e h all = subst (λ n. All (λ x. f x < n) ys) (sym e) (subst (All (λ x. f x < rows)) (sym h) all)
-
 pub add_edges-requires-clause-rows : goal.add_edges-requires-clause-rows
 add_edges-requires-clause-rows c =
-    low (λ e. e.0) (ap length c.in_ok-nodes.ensures ∙ length-replicate c.args.rows no_node) c.as_slice.ensures.value c.requires.edges
+    stay_below (λ e. e.0) (ap length c.in_ok-nodes.ensures ∙ length-replicate c.args.rows no_node) c.as_slice.ensures.value c.requires.edges
 
 pub add_edges-requires-clause-set : goal.add_edges-requires-clause-set
 add_edges-requires-clause-set c = subst (IsSet edge_cmp) (sym c.as_slice.ensures.value) c.as_slice.ensures.set
@@ -28,12 +25,12 @@ add_edges-requires-clause-fresh c =
 
 pub add_tracks-requires : goal.add_tracks-requires
 add_tracks-requires c =
-    low (λ t. t.1) (c.in_ok-add_edges.ensures.len ∙ ap length c.in_ok-nodes.ensures ∙ length-replicate c.args.rows no_node)
+    stay_below (λ t. t.1) (c.in_ok-add_edges.ensures.len ∙ ap length c.in_ok-nodes.ensures ∙ length-replicate c.args.rows no_node)
     c.as_slice-2.ensures.value c.requires.tracks
 
 pub add_labels-requires-clause-nodes : goal.add_labels-requires-clause-nodes
 add_labels-requires-clause-nodes c =
-    low (λ l. l.0.0)
+    stay_below (λ l. l.0.0)
     (c.in_ok-add_tracks.ensures.len ∙ c.in_ok-add_edges.ensures.len ∙ ap length c.in_ok-nodes.ensures ∙ length-replicate c.args.rows no_node)
     c.as_slice-3.ensures.value c.requires.labels
 

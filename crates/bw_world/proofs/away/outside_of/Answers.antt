@@ -1,6 +1,6 @@
 use Rattle.std.proofs.Common.{◌≡◌, List, sym, ap, ◌∙◌, subst}
 use Rattle.bw_flow.specs.Steps.{Step, Plan}
-use Rattle.bw_world.specs.Seen.{flow_of}
+use Rattle.bw_flow.specs.Layout.{flow_of}
 use Rattle.bw_world.specs.Away.{FirstOutside, received_by}
 use Rattle.bw_world.proofs.Agreeing.{away_from, away_from_none, away_there}
 use Rattle.bw_world.proofs.away.outside_of.Goals as goal

@@ -2,7 +2,7 @@ use Rattle.std.proofs.Common.{◌+◌, ◌<◌, [], length, sym, subst, ◌∙�
 use Rattle.std.specs.Prelude.{slice_get}
 use Rattle.std.specs.List.{All}
 use Rattle.std.proofs.lemmas.List.{get_or_read}
-use Rattle.bw_analyse.specs.Least.{flow_of}
+use Rattle.bw_flow.specs.Layout.{flow_of}
 use Rattle.bw_analyse.proofs.Points.{count_is}
 use Rattle.bw_analyse.proofs.Walks.{readers_small}
 use Rattle.bw_analyse.proofs.equations.EquationsSystem.readers.Goals as goal

@@ -1,7 +1,7 @@
 use Rattle.std.proofs.Common.{◌≡◌, ◌<◌, ◌≤◌, [], length, get_or, ◌∙◌, arith}
 use Rattle.std.proofs.lemmas.List.{get_or_read}
 use Rattle.bw_flow.specs.View.{seen}
-use Rattle.bw_analyse.specs.Least.{flow_of}
+use Rattle.bw_flow.specs.Layout.{flow_of}
 use Rattle.bw_analyse.proofs.Points.{get_is, get_none, point_at, no_point}
 use Rattle.bw_analyse.proofs.RoundLaws.{local_round, shared_round}
 use Rattle.bw_analyse.proofs.equations.EquationsSystem.transfer.Goals as goal

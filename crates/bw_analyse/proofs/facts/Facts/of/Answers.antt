@@ -4,7 +4,7 @@ use Rattle.bw_lang.specs.declared.service.Service.{Service}
 use Rattle.bw_lang.specs.declared.service.Shared.{Shared}
 use Rattle.bw_lang.specs.Table.Names.{name_number}
 use Rattle.bw_analyse.specs.Facts.{pages_of}
-use Rattle.bw_analyse.specs.Least.{flow_of}
+use Rattle.bw_flow.specs.Layout.{flow_of}
 use Rattle.bw_analyse.proofs.Points.{scopes_are}
 use Rattle.bw_analyse.proofs.facts.Facts.of.Goals as goal
 

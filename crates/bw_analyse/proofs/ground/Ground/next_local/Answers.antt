@@ -2,7 +2,7 @@ use Rattle.std.proofs.Common.{◌-◌, ◌<◌, [], length, arith}
 use Rattle.std.specs.Prelude.{slice_get, slice_index_or}
 use Rattle.std.proofs.lemmas.List.{get_or_default}
 use Rattle.bw_analyse.specs.Abstracts.{least_of}
-use Rattle.bw_analyse.specs.Least.{flow_of}
+use Rattle.bw_flow.specs.Layout.{flow_of}
 use Rattle.bw_analyse.specs.Rounds.{left_at}
 use Rattle.bw_analyse.specs.declared.arrows.Arrow.{Arrow}
 use Rattle.bw_analyse.proofs.Points.{joined_more}

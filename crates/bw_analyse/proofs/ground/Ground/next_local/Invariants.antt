@@ -1,7 +1,7 @@
 use Rattle.std.proofs.Common.{◌≡◌, [], drop, slice_index_or}
 use Rattle.std.specs.Prelude.{slice_get}
 use Rattle.bw_analyse.specs.Abstracts.{least_of}
-use Rattle.bw_analyse.specs.Least.{flow_of}
+use Rattle.bw_flow.specs.Layout.{flow_of}
 use Rattle.bw_analyse.specs.Rounds.{joined, left_at}
 use Rattle.bw_analyse.specs.declared.arrows.Arrow.{Arrow}
 use Rattle.bw_analyse.proofs.ground.Ground.next_local.Given as goal

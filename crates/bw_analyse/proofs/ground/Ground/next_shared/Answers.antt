@@ -2,7 +2,7 @@ use Rattle.std.proofs.Common.{◌-◌, ◌<◌, [], length, arith}
 use Rattle.std.specs.Prelude.{slice_index_or}
 use Rattle.bw_analyse.specs.Abstracts.{both, least_of}
 use Rattle.bw_analyse.specs.Known.{of_literal}
-use Rattle.bw_analyse.specs.Least.{flow_of}
+use Rattle.bw_flow.specs.Layout.{flow_of}
 use Rattle.bw_analyse.specs.Rounds.{added_by, Placed}
 use Rattle.bw_analyse.proofs.Points.{added_more, count_is}
 use Rattle.bw_analyse.proofs.ground.Ground.next_shared.Goals as goal

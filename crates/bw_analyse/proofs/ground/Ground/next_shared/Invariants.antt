@@ -1,7 +1,7 @@
 use Rattle.std.proofs.Common.{◌≡◌, [], drop, length, slice_index_or}
 use Rattle.bw_analyse.specs.Abstracts.{both, least_of}
 use Rattle.bw_analyse.specs.Known.{of_literal}
-use Rattle.bw_analyse.specs.Least.{flow_of}
+use Rattle.bw_flow.specs.Layout.{flow_of}
 use Rattle.bw_analyse.specs.Rounds.{joined, added_by, Placed, placed}
 use Rattle.bw_analyse.proofs.ground.Ground.next_shared.Given as goal
 

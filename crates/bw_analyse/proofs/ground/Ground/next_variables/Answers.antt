@@ -1,6 +1,6 @@
 use Rattle.std.proofs.Common.{[]}
 use Rattle.std.specs.Prelude.{slice_index_or}
-use Rattle.bw_analyse.specs.Least.{flow_of}
+use Rattle.bw_flow.specs.Layout.{flow_of}
 use Rattle.bw_analyse.specs.Rounds.{next_shared}
 use Rattle.bw_analyse.proofs.Points.{map_next}
 use Rattle.bw_analyse.proofs.ground.Ground.next_variables.Goals as goal

@@ -1,5 +1,5 @@
 use Rattle.std.proofs.Common.{◌≡◌, [], take, map, slice_index_or}
-use Rattle.bw_analyse.specs.Least.{flow_of}
+use Rattle.bw_flow.specs.Layout.{flow_of}
 use Rattle.bw_analyse.specs.Rounds.{next_shared}
 use Rattle.bw_analyse.proofs.ground.Ground.next_variables.Given as goal
 

@@ -1,15 +1,9 @@
-use Rattle.std.proofs.Common.{◌≡◌, ℕ, zero, suc, ◌+◌, ◌≤◌, List, [], ◌∷◌, ◌++◌, length, get_or, replicate, ap, sym, ◌∙◌, subst, arith}
-use Rattle.std.proofs.lemmas.List.{replicate_more, length-replicate}
+use Rattle.std.proofs.Common.{ℕ, zero, suc, ◌≤◌, length, get_or, replicate, ap, sym, ◌∙◌, subst, arith}
+use Rattle.std.proofs.lemmas.List.{length-replicate}
 use Rattle.bw_lang.specs.Document.Forest.{none}
 use Rattle.bw_explain.specs.declared.sizes.TheConstants.{NONE}
+use Rattle.bw_shape.proofs.Filled.{one_more, as_many}
 use Rattle.bw_explain.proofs.table.Table.new.Goals as goal
-
--- a filled list with one more, and one with as many as were asked
-one_more : {X : Type 0} (n : ℕ) (y : X) {ys zs : List X} {x : X} → zs ≡ ys ++ x ∷ [] → ys ≡ replicate n y → x ≡ y → zs ≡ replicate (n + 1) y
-one_more n y {x = x} e h k = e ∙ ap (λ xs. xs ++ x ∷ []) h ∙ ap (λ z. replicate n y ++ z ∷ []) k ∙ replicate_more n y
-
-as_many : {X : Type 0} (n m : ℕ) (y : X) {ys : List X} → ys ≡ replicate n y → m ≤ n → n ≤ m → ys ≡ replicate m y
-as_many n m y h low high = h ∙ ap (λ k. replicate k y) (omega (arith, low, high))
 
 most_at : (count n past : ℕ) → past ≤ NONE → get_or (replicate count NONE) n past ≤ NONE
 most_at zero n past h = h

@@ -6,7 +6,7 @@ use Rattle.bw_meaning.specs.GoOn.{turn}
 use Rattle.bw_run.specs.Fit.{IsFitTurn}
 use Rattle.bw_run.specs.Turns.{IsTurn}
 use Rattle.bw_world.specs.Changes.{shown_page, last_page, begun, with_new}
-use Rattle.bw_world.specs.Seen.{flow_of}
+use Rattle.bw_flow.specs.Layout.{flow_of}
 use Rattle.bw_world.specs.Stands.{fields_of}
 use Rattle.bw_world.proofs.Begun.{begun_exit, begun_show, begun_failed}
 use Rattle.bw_world.proofs.Opened.{begun_fit}

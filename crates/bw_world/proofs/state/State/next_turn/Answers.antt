@@ -1,10 +1,10 @@
 use Rattle.std.proofs.Common.{ap, sym, ◌∙◌, subst}
-use Rattle.bw_flow.specs.Layout.{plan_of}
+use Rattle.bw_flow.specs.Layout.{plan_of, flow_of}
 use Rattle.bw_flow.specs.Steps.{Plan}
 use Rattle.bw_run.specs.Follow.Laws.{IsOf}
 use Rattle.bw_run.specs.Walks.{number_at}
 use Rattle.bw_types.specs.declared.typed.Typed.{Typed}
-use Rattle.bw_world.specs.Seen.{Seen, flow_of}
+use Rattle.bw_world.specs.Seen.{Seen}
 use Rattle.bw_world.proofs.Opened.{next_is, next_owns}
 use Rattle.bw_world.proofs.state.State.next_turn.Goals as goal
 

@@ -10,7 +10,7 @@ use Rattle.bw_run.specs.Turns.{IsTurn, answered_frame}
 use Rattle.bw_world.specs.declared.suspended.Suspended.{Suspended}
 use Rattle.bw_world.specs.Changes.{shown_page, last_page, went_on, with_first, without}
 use Rattle.bw_world.specs.Kept.{IsSuspended}
-use Rattle.bw_world.specs.Seen.{flow_of}
+use Rattle.bw_flow.specs.Layout.{flow_of}
 use Rattle.bw_world.specs.Stands.{Ends, fields_of, model}
 use Rattle.bw_world.proofs.Asked.{refused_differs, turn_taken}
 use Rattle.bw_world.proofs.Opened.{went_fit}
