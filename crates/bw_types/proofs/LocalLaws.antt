@@ -2,9 +2,8 @@
 use Rattle.std.proofs.Common.{◌≡◌, ℕ, ◌-◌, Bool, true, false, cond, List, [], ◌∷◌, ◌++◌, map, length, take, drop, Option, Some, refl, ap, sym, ◌∙◌, arith}
 use Rattle.std.proofs.Common.{length-drop}
 use Rattle.std.specs.Prelude.{reverse, find, option_map}
-use Rattle.std.proofs.lemmas.List.{reverse-append, length-reverse, take-append-drop, take-map}
+use Rattle.std.proofs.lemmas.List.{reverse-append, length-reverse, take-append-drop, take-map, map-append}
 use Rattle.std.proofs.Math.Seq.{drop-append_seam}
-use Rattle.indexmap.proofs.ReorderLemmas.{map-reverse}
 use Rattle.bw_lang.specs.declared.stmt.Kind.{Kind}
 use Rattle.bw_lang.specs.Table.Names.{same}
 use Rattle.bw_types.specs.declared.locals.Local.{Local}
@@ -23,6 +22,12 @@ beside-named w (x ∷ xs) = by_test (same w x.name) (beside-named w xs)
         (cond b (Some x) (find (λ x. same w x.name) xs))
     by_test true ih = refl
     by_test false ih = ih
+
+map-reverse : {A B : Type 0} (f : A → B) (xs : List A) → map f (reverse xs) ≡ reverse (map f xs)
+map-reverse f [] = refl
+map-reverse f (x ∷ xs) =
+    ap (map f) (reverse-append (x ∷ []) xs) ∙ map-append f (reverse xs) (x ∷ []) ∙ ap (λ l. l ++ f x ∷ []) (map-reverse f xs)
+    ∙ sym (reverse-append (f x ∷ []) (map f xs))
 
 -- the kind of the newest local of that name
 pub newest : (w : List ℕ) (xs : List Local) (scope : Scope) (found : Option Local) → found ≡ find (λ x. same w x.name) (reverse xs)

@@ -1,69 +1,91 @@
 -- Tables of kinds.
-use Rattle.std.proofs.Common.{◌≡◌, ℕ, Bool, true, false, cond, nat_eq, List, [], ◌∷◌, ◌++◌, map, Option, Some, None, refl, ap, sym, ◌∙◌, arith}
-use Rattle.std.specs.Prelude.{String, string_bytes, ◌==◌, is_some, if◌then◌else◌, option_map, find}
-use Rattle.std.specs.Map.{lookup}
+use Rattle.std.proofs.Common.{◌≡◌, ◌≤◌, ◌+◌, ℕ, suc, Bool, true, false, cond, nat_eq, List, [], ◌∷◌, ◌++◌, length, Option, Some, None, refl, ap, sym, ◌∙◌, arith}
+use Rattle.std.specs.Prelude.{◌==◌, not, is_some, if◌then◌else◌, option_map, find, slice_get}
+use Rattle.std.specs.List.{zip}
 use Rattle.std.proofs.lemmas.Bool.Decides.{nat_tests}
-use Rattle.std.proofs.lemmas.List.{map-append}
-use Rattle.indexmap.specs.IndexMap.{insert_entry}
-use Rattle.bw_lang.specs.Table.Names.{same}
+use Rattle.std.proofs.lemmas.List.{length-append}
+use Rattle.bw_lang.specs.Table.Names.{same, beside, name_number, with_name}
+use Rattle.bw_lang.proofs.TableLaws.{with_new}
 use Rattle.bw_types.specs.declared.fault.GapKind.{GapKind}
 use Rattle.bw_types.specs.Gaps.{gap_kind}
-use Rattle.bw_lang.specs.Table.Names.{beside}
 use Rattle.bw_types.specs.Tables.{with_kind, with_use}
-use Rattle.bw_lang.proofs.TableLaws.{alike}
 
-nat_eq_flips : (a b : ℕ) → nat_eq a b ≡ nat_eq b a
-nat_eq_flips a b = grind (arith, nat_tests)
+one_more : (n : ℕ) → 1 + n ≡ suc n
+one_more n = omega arith
 
-found_or : {A B : Type 0} (f : A → B) (b : Bool) (x : A) (r : Option A) (s : Option B) → s ≡ option_map f r
-    → cond b (Some (f x)) s ≡ option_map f (if b then Some x else r)
-found_or f true x r s h = refl
-found_or f false x r s h = h
-
--- a gap's kind is what a look-up finds
-pub gap_kind-lookup : (g : ℕ) (es : List (ℕ × GapKind)) → lookup (nat_eq g) es ≡ gap_kind es g
-gap_kind-lookup g [] = refl
-gap_kind-lookup g (e ∷ es) =
-    ap (λ (b : Bool). cond b (Some e.1) (lookup (nat_eq g) es)) (nat_eq_flips g e.0)
-    ∙ found_or (λ (x : ℕ × GapKind). x.1) (e.0 == g) e (find (λ x. x.0 == g) es) (lookup (nat_eq g) es) (gap_kind-lookup g es)
-
--- the kind of a name is what a look-up finds
-pub beside-lookup : {A Z : Type 0} (w : List ℕ) (es : List (String Z × A))
-    → lookup (λ k. same w (string_bytes k)) es ≡ beside w (map (λ e. (string_bytes e.0, e.1)) es)
-beside-lookup w [] = refl
-beside-lookup {A = A} w (e ∷ es) =
-    found_or (λ (x : List ℕ × A). x.1) (same w (string_bytes e.0)) (string_bytes e.0, e.1)
-    (find (λ x. same w x.0) (map (λ e. (string_bytes e.0, e.1)) es)) (lookup (λ k. same w (string_bytes k)) es) (beside-lookup w es)
-
--- a key that isn't there goes last
-insert_last : {K V : Type 0} (eq : K → K → Bool) (k : K) (v : V) (es : List (K × V)) → lookup (eq k) es ≡ None → insert_entry eq es k v ≡ es ++ (k, v) ∷ []
-insert_last eq k v [] h = refl
-insert_last eq k v (e ∷ es) h = by_test (eq k e.0) h (insert_last eq k v es)
+-- the kind of a name stands at the name's number
+pub kind_at : {A : Type 0} (w : List ℕ) (names : List (List ℕ)) (kinds : List A) → length names ≡ length kinds
+    → slice_get kinds (name_number names w) ≡ beside w (zip names kinds)
+kind_at w [] [] h = refl
+kind_at w [] (k ∷ kinds) h = absurd (omega (arith, h))
+kind_at w (m ∷ names) [] h = absurd (omega (arith, h))
+kind_at {A = A} w (m ∷ names) (k ∷ kinds) h = by_test (same w m) (kind_at w names kinds (omega (arith, h)))
   where
-    by_test : (b : Bool) → cond b (Some e.1) (lookup (eq k) es) ≡ None → (lookup (eq k) es ≡ None → insert_entry eq es k v ≡ es ++ (k, v) ∷ [])
-        → (if b then (e.0, v) ∷ es else e ∷ insert_entry eq es k v) ≡ e ∷ (es ++ (k, v) ∷ [])
-    by_test true h ih = absurd (cc)
-    by_test false h ih = ap (λ l. e ∷ l) (ih h)
+    by_test : (b : Bool) → slice_get kinds (name_number names w) ≡ beside w (zip names kinds)
+        → slice_get (k ∷ kinds) (cond (not b) (1 + name_number names w) 0)
+        ≡ option_map (λ (x : List ℕ × A). x.1) (if b then Some (m, k) else find (λ x. same w x.0) (zip names kinds))
+    by_test true ih = refl
+    by_test false ih = ap (slice_get (k ∷ kinds)) (one_more (name_number names w)) ∙ ih
 
-absent : {A : Type 0} (o : Option A) → is_some o ≡ false → o ≡ None
+-- a name without a kind isn't there
+pub no_kind : {A : Type 0} (w : List ℕ) (names : List (List ℕ)) (kinds : List A) → length names ≡ length kinds → beside w (zip names kinds) ≡ None
+    → length names ≤ name_number names w
+no_kind w [] kinds h e = omega arith
+no_kind w (m ∷ names) [] h e = absurd (omega (arith, h))
+no_kind {A = A} w (m ∷ names) (k ∷ kinds) h e = by_test (same w m) e (no_kind w names kinds (omega (arith, h)))
+  where
+    by_test : (b : Bool) → option_map (λ (x : List ℕ × A). x.1) (if b then Some (m, k) else find (λ x. same w x.0) (zip names kinds)) ≡ None
+        → (beside w (zip names kinds) ≡ None → length names ≤ name_number names w)
+        → length (m ∷ names) ≤ cond (not b) (1 + name_number names w) 0
+    by_test true e ih = absurd (cc)
+    by_test false e ih = let l = ih e in omega (arith, l)
+
+zip_more : {A : Type 0} (names : List (List ℕ)) (kinds : List A) (w : List ℕ) (k : A) → length names ≡ length kinds
+    → zip (names ++ w ∷ []) (kinds ++ k ∷ []) ≡ zip names kinds ++ (w, k) ∷ []
+zip_more [] [] w k h = refl
+zip_more [] (y ∷ kinds) w k h = absurd (omega (arith, h))
+zip_more (m ∷ names) [] w k h = absurd (omega (arith, h))
+zip_more (m ∷ names) (y ∷ kinds) w k h = ap (λ l. (m, y) ∷ l) (zip_more names kinds w k (omega (arith, h)))
+
+pub absent : {A : Type 0} (o : Option A) → is_some o ≡ false → o ≡ None
 absent None h = refl
 absent (Some x) h = absurd (cc)
 
 -- a gap that isn't there is taken in last
-pub insert_use : (g n : ℕ) (k : GapKind) (t es : List (ℕ × GapKind)) (o : Option GapKind) → es ≡ t → n ≡ g → o ≡ gap_kind t g → is_some o ≡ false
-    → insert_entry nat_eq es n k ≡ with_use t (g, k)
-insert_use g n k t es o e q p h =
-    ap (λ x. insert_entry nat_eq x n k) e ∙ ap (λ x. insert_entry nat_eq t x k) q ∙ insert_last nat_eq g k t (gap_kind-lookup g t ∙ sym p ∙ absent o h)
-    ∙ ap (λ (b : Bool). if b then t else t ++ (g, k) ∷ []) (sym (ap is_some (sym p) ∙ h))
+pub use_last : (t : List (ℕ × GapKind)) (g : ℕ) (k : GapKind) (o : Option GapKind) → o ≡ gap_kind t g → is_some o ≡ false → with_use t (g, k) ≡ t ++ (g, k) ∷ []
+use_last t g k o p h = ap (λ (b : Bool). if b then t else t ++ (g, k) ∷ []) (ap is_some (sym p) ∙ h)
+
+-- the kinds of a list with one more gap at its end
+pub kinds_more : (t : List (ℕ × GapKind)) (g n : ℕ) (k : GapKind) → gap_kind t g ≡ None
+    → gap_kind (t ++ (g, k) ∷ []) n ≡ cond (nat_eq g n) (Some k) (gap_kind t n)
+kinds_more [] g n k h = alone (nat_eq g n)
+  where
+    alone : (b : Bool) → option_map (λ (x : ℕ × GapKind). x.1) (if b then Some (g, k) else None) ≡ cond b (Some k) None
+    alone true = refl
+    alone false = refl
+kinds_more (e ∷ t) g n k h = by_test (nat_eq e.0 g) (nat_eq e.0 n) (nat_eq g n) refl refl refl h (kinds_more t g n k)
+  where
+    by_test : (a b c : Bool) → nat_eq e.0 g ≡ a → nat_eq e.0 n ≡ b → nat_eq g n ≡ c
+        → option_map (λ (x : ℕ × GapKind). x.1) (if a then Some e else find (λ x. x.0 == g) t) ≡ None
+        → (gap_kind t g ≡ None → gap_kind (t ++ (g, k) ∷ []) n ≡ cond c (Some k) (gap_kind t n))
+        → option_map (λ (x : ℕ × GapKind). x.1) (if b then Some e else find (λ x. x.0 == n) (t ++ (g, k) ∷ []))
+        ≡ cond c (Some k) (option_map (λ (x : ℕ × GapKind). x.1) (if b then Some e else find (λ x. x.0 == n) t))
+    by_test true b c p q r h ih = absurd (cc)
+    by_test false true true p q r h ih = absurd (grind (arith, nat_tests))
+    by_test false true false p q r h ih = refl
+    by_test false false true p q r h ih = ih h
+    by_test false false false p q r h ih = ih h
+
+-- both lists are longer by one
+pub both_longer : {A : Type 0} (names : List (List ℕ)) (kinds : List A) (w : List ℕ) (k : A) (o : Option A) → length names ≡ length kinds
+    → o ≡ beside w (zip names kinds) → is_some o ≡ false → length (with_name names w) ≡ length (kinds ++ k ∷ [])
+both_longer names kinds w k o l p h =
+    ap length (with_new names w (no_kind w names kinds l (sym p ∙ absent o h))) ∙ omega (arith, l, length-append names (w ∷ []), length-append kinds (k ∷ []))
 
 -- a name that isn't there is taken in last
-pub insert_kind : {A Z : Type 0} (s : String Z) (w : List ℕ) (k : A) (es : List (String Z × A)) (t : List (List ℕ × A)) (o : Option A)
-    → map (λ e. (string_bytes e.0, e.1)) es ≡ t → string_bytes s ≡ w → o ≡ beside w t → is_some o ≡ false
-    → map (λ e. (string_bytes e.0, e.1)) (insert_entry alike es s k) ≡ with_kind t (w, k)
-insert_kind {A = A} {Z = Z} s w k es t o e q p h =
-    let v : List (String Z × A) → List (List ℕ × A) = map (λ e. (string_bytes e.0, e.1)) in
-    let there : beside (string_bytes s) (v es) ≡ beside w t = ap (λ x. beside x (v es)) q ∙ ap (beside w) e in
-    ap v (insert_last alike s k es (beside-lookup (string_bytes s) es ∙ there ∙ sym p ∙ absent o h))
-    ∙ map-append (λ e. (string_bytes e.0, e.1)) es ((s, k) ∷ [])
-    ∙ ap (λ x. x ++ (string_bytes s, k) ∷ []) e ∙ ap (λ x. t ++ (x, k) ∷ []) q
-    ∙ ap (λ (b : Bool). if b then t else t ++ (w, k) ∷ []) (sym (ap is_some (sym p) ∙ h))
+pub kind_last : {A : Type 0} (names : List (List ℕ)) (kinds : List A) (w : List ℕ) (k : A) (o : Option A) → length names ≡ length kinds
+    → o ≡ beside w (zip names kinds) → is_some o ≡ false → zip (with_name names w) (kinds ++ k ∷ []) ≡ with_kind (zip names kinds) (w, k)
+kind_last {A = A} names kinds w k o l p h =
+    ap (λ t. zip t (kinds ++ k ∷ [])) (with_new names w (no_kind w names kinds l (sym p ∙ absent o h)))
+    ∙ zip_more names kinds w k l
+    ∙ ap (λ (b : Bool). if b then zip names kinds else zip names kinds ++ (w, k) ∷ []) (sym (ap is_some (sym p) ∙ h))

@@ -14,26 +14,28 @@ use bw_lang::{
     AttrValue, Attrs, Element, FieldKind, GapId, Item, Items, Kind, Memory, NameTable, Service,
     Session, Shared, Template,
 };
-use indexmap::IndexMap;
 use std::alloc::Global;
+use std::collections::HashMap;
 use std::marker::Model;
 
-/// Names with a kind each, which is the kind that the name was first given. Contracts see the names with their kinds
-/// in the order in which they came.
+/// Names with a kind each, which is the kind that the name was first given and stands at the name's number. Contracts
+/// see the names with their kinds in the order in which they came.
 #[derive(Drop)]
 pub struct Kinds<K> {
-    kinds: IndexMap<String, K>,
+    names: NameTable,
+    kinds: Vec<K>,
 }
 
 /// Gaps with a kind each, which is the kind that the gap was first given. Contracts see the gaps with their kinds in
-/// the order in which they came.
+/// the order in which they came, which is that of the list.
 pub struct GapKinds {
-    kinds: IndexMap<u32, GapKind>,
+    list: Vec<(u32, GapKind)>,
+    kinds: HashMap<u32, GapKind>,
 }
 
 impl Drop for GapKinds {
     fn drop(self) {
-        let GapKinds { kinds: _ } = self;
+        let GapKinds { list: _, kinds: _ } = self;
     }
 }
 
@@ -49,20 +51,26 @@ pub struct Tables {
 }
 
 impl<K> Model for Kinds<K> {
-    ghost use Rattle.std.specs.Prelude.{ℕ, List, map, string_bytes};
+    ghost use Rattle.std.specs.Prelude.{◌≡◌, ℕ, List, length};
+    ghost use Rattle.std.specs.List.{zip};
 
     ghost Value = { List (List ℕ × K) };
 
-    ghost view = { λ t. map (λ e. (string_bytes e.0, e.1)) t.kinds.entries };
+    ghost view = { λ t. zip t.names t.kinds.items };
+
+    ghost invariant = { λ t. length t.names ≡ length t.kinds.items };
 }
 
 impl Model for GapKinds {
     ghost use Rattle.std.specs.Prelude.{ℕ, List};
+    ghost use Rattle.bw_types.specs.Tables.{AreKinds};
     ghost use Rattle.bw_types.specs.declared.fault.GapKind.{GapKind};
 
     ghost Value = { List (ℕ × GapKind) };
 
-    ghost view = { λ t. t.kinds.entries };
+    ghost view = { λ t. t.list.items };
+
+    ghost invariant = { λ t. AreKinds t.list.items t.kinds };
 }
 
 impl<K: Copy> Kinds<K> {
@@ -71,7 +79,8 @@ impl<K: Copy> Kinds<K> {
         ensures { result ≡ [] }
     {
         Kinds {
-            kinds: IndexMap::new(alloc),
+            names: NameTable::new(alloc),
+            kinds: Vec::new(alloc),
         }
     }
 
@@ -79,7 +88,10 @@ impl<K: Copy> Kinds<K> {
     pub fn get(&self, name: &str) -> Option<K>
         ensures { result ≡ beside name.now self.now }
     {
-        self.kinds.get(name).copied()
+        match self.kinds.get(self.names.number(name)) {
+            Some(kind) => Some(*kind),
+            None => None,
+        }
     }
 
     /// Takes a name in with its kind, unless it is there.
@@ -87,8 +99,11 @@ impl<K: Copy> Kinds<K> {
         ensures { OnOk result (self.new ≡ with_kind self.old (name.now, kind)) }
     {
         if self.get(name).is_none() {
-            let alloc = *self.kinds.allocator();
-            self.kinds.insert(String::from_str(alloc, name)?, kind)?;
+            self.kinds.push(kind)?;
+            let Ok(_) = self.names.add(name) else {
+                self.kinds.pop();
+                return Err(Memory);
+            };
         }
         Ok(())
     }
@@ -100,7 +115,8 @@ impl GapKinds {
         ensures { result ≡ [] }
     {
         GapKinds {
-            kinds: IndexMap::new(alloc),
+            list: Vec::new(alloc),
+            kinds: HashMap::new(alloc),
         }
     }
 
@@ -116,7 +132,11 @@ impl GapKinds {
         ensures { OnOk result (self.new ≡ with_use self.old (gap, kind)) }
     {
         if self.get(gap).is_none() {
-            self.kinds.insert(gap.number(), kind)?;
+            self.list.push((gap.number(), kind))?;
+            let Ok(_) = self.kinds.insert(gap.number(), kind) else {
+                self.list.pop();
+                return Err(Memory);
+            };
         }
         Ok(())
     }

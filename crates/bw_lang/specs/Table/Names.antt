@@ -1,6 +1,7 @@
 -- Tables of names: each name once, in the order in which the names were first seen.
-use Rattle.std.specs.Prelude.{◌≡◌, ◌<◌, ℕ, Bool, nat_eq, if◌then◌else◌, List, [], ◌∷◌, ◌++◌, length, fold, find, option_map, Option}
+use Rattle.std.specs.Prelude.{◌≡◌, ◌<◌, ℕ, Bool, nat_eq, if◌then◌else◌, List, [], ◌∷◌, ◌++◌, length, fold, find, option_map, position, Option, String}
 use Rattle.std.specs.List.{list_any, position_or_len, All}
+use Rattle.std.specs.HashMap.{HashMap, get_by_text}
 use lib.Pointwise.{pointwise}
 
 -- the two names have the same bytes
@@ -10,6 +11,10 @@ same a b = pointwise nat_eq a b
 -- the place of a name in the table, counted from 0; of a name that isn't there, the place that it would get
 abbrev pub name_number : List (List ℕ) → List ℕ → ℕ
 name_number names n = position_or_len (same n) names
+
+-- each name of the table has its place as its number, and no other text has a number
+abbrev pub AreNumbered : {A S : Type 0} → List (List ℕ) → HashMap (String A) ℕ S → Type 0
+AreNumbered names numbers = (n : List ℕ) → get_by_text numbers n ≡ position (same n) names
 
 -- the table with the name in it: behind the others, unless it is there
 abbrev pub with_name : List (List ℕ) → List ℕ → List (List ℕ)
