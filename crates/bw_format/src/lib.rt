@@ -5,6 +5,7 @@ pub mod file;
 pub mod format;
 mod frame;
 pub mod laws;
+mod laying;
 pub mod light;
 pub mod limits;
 mod line;

@@ -6,6 +6,7 @@ ghost use Rattle.bw_format.specs.Pattern.{places, repeats};
 ghost use Rattle.bw_format.specs.declared.light.Light.TheVariants as light;
 ghost use Rattle.bw_format.specs.declared.limits.TheConstants.{MAX_PATTERN_CHARS};
 
+use crate::laying::lay_out;
 use crate::limits::MAX_PATTERN_CHARS;
 use crate::pattern::{Node, Pattern};
 use crate::steps::{At, Step};
@@ -256,7 +257,7 @@ impl Pattern {
             return self.light_by_tree(text);
         }
         let mut steps = ArrayVec::new();
-        match self.lay_out(At::start(), &mut steps) {
+        match lay_out(self, At::start(), &mut steps) {
             Some(skips) => self.light_by_steps(&steps, skips, text),
             None => self.light_by_tree(text),
         }

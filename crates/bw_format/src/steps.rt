@@ -1,13 +1,11 @@
-//! A pattern laid out as steps.
-ghost use Rattle.std.specs.Prelude.{◌≡◌, ◌≤◌, ◌<◌, ◌++◌, ◌∷◌, ◌+◌, [], map, IfSome, OnSome};
-ghost use Rattle.bw_format.specs.Marks.{skips};
+//! The steps that a pattern is laid out as.
+ghost use Rattle.std.specs.Prelude.{◌≡◌, ◌≤◌, ◌<◌, ◌+◌};
 ghost use Rattle.bw_format.specs.Pattern.{places, repeats};
 ghost use Rattle.bw_format.specs.Steps as spec;
 ghost use Rattle.bw_format.specs.declared.limits.TheConstants.{MAX_PATTERN_CHARS};
 
-use crate::limits::{MAX_PATTERN_CHARS, MAX_STEPS};
-use crate::pattern::{Class, Node, Pattern};
-use arrayvec::ArrayVec;
+use crate::limits::MAX_PATTERN_CHARS;
+use crate::pattern::{Class, Pattern};
 
 /// A step, with the numbers of the place, the repetition or the kept ends that it is about.
 #[derive(Clone, Copy)]
@@ -34,29 +32,12 @@ impl Default for Step<'_> {
     }
 }
 
-/// The steps of patterns.
-pub type Steps<'a> = ArrayVec<Step<'a>, MAX_STEPS>;
-
 /// The numbers of the next place and of the next repetition, and that under which ends are kept next.
 #[derive(Clone, Copy)]
 pub struct At {
     pub place: usize,
     pub own: usize,
     pub depth: usize,
-}
-
-/// One step more, if there is room for it and for what is kept at its depth.
-fn push<'a>(steps: &mut Steps<'a>, step: Step<'a>, depth: usize) -> Option<()>
-    ensures steps { OnSome result (map spec.op steps.new.items ≡ map spec.op steps.old.items ++ spec.op step.entry ∷ []) }
-    ensures room { OnSome result (depth < MAX_PATTERN_CHARS) }
-{
-    if depth >= MAX_PATTERN_CHARS {
-        return None;
-    }
-    match steps.try_push(step) {
-        Ok(()) => Some(()),
-        Err(_) => None,
-    }
 }
 
 impl At {
@@ -72,7 +53,7 @@ impl At {
     }
 
     /// Past a pattern.
-    fn past(self, pattern: &Pattern) -> At
+    pub fn past(self, pattern: &Pattern) -> At
         requires place { self.place + places pattern.now ≤ MAX_PATTERN_CHARS }
         requires own { self.own + repeats pattern.now ≤ MAX_PATTERN_CHARS }
         ensures { result ≡ spec.past pattern.now self }
@@ -85,7 +66,7 @@ impl At {
     }
 
     /// Inside of a part, whose ends in front are kept.
-    fn inside(self) -> At
+    pub fn inside(self) -> At
         requires { self.depth < MAX_PATTERN_CHARS }
         ensures { result ≡ spec.inside self }
     {
@@ -97,7 +78,7 @@ impl At {
     }
 
     /// Inside of a repetition.
-    fn again(self) -> At
+    pub fn again(self) -> At
         requires depth { self.depth < MAX_PATTERN_CHARS }
         requires own { self.own < MAX_PATTERN_CHARS }
         ensures { result ≡ spec.again self }
@@ -106,58 +87,6 @@ impl At {
             place: self.place,
             own: self.own + 1,
             depth: self.depth + 1,
-        }
-    }
-}
-
-impl Pattern {
-    /// Lays it out behind the steps that are there, if there is room, and says whether it takes the empty text. A pattern
-    /// that was read has room behind no steps.
-    pub fn lay_out<'a>(&'a self, at: At, steps: &mut Steps<'a>) -> Option<bool>
-        requires place { at.place + places self.now ≤ MAX_PATTERN_CHARS }
-        requires own { at.own + repeats self.now ≤ MAX_PATTERN_CHARS }
-        ensures skips { IfSome result (λ s. s ≡ skips self.now) }
-        ensures steps { OnSome result (map spec.op steps.new.items ≡ map spec.op steps.old.items ++ spec.code self.now at) }
-        ensures fits { OnSome result (spec.Fits self.now at.depth MAX_PATTERN_CHARS) }
-    {
-        match self.node() {
-            Node::Nothing => Some(true),
-            Node::One(class) => {
-                push(steps, Step::Take(class, at.place), at.depth)?;
-                Some(false)
-            }
-            Node::Sequence(left, right) => {
-                let one = left.lay_out(at, steps)?;
-                let other = right.lay_out(at.past(left), steps)?;
-                Some(one && other)
-            }
-            Node::Either(left, right) => {
-                push(steps, Step::Keep(at.depth), at.depth)?;
-                let one = left.lay_out(at.inside(), steps)?;
-                push(steps, Step::Turn(at.depth), at.depth)?;
-                let other = right.lay_out(at.past(left).inside(), steps)?;
-                push(steps, Step::Join(at.depth), at.depth)?;
-                Some(one || other)
-            }
-            Node::Star(inner) => {
-                push(steps, Step::Begin(at.depth, at.own), at.depth)?;
-                inner.lay_out(at.again(), steps)?;
-                push(steps, Step::Star(at.depth, at.own), at.depth)?;
-                Some(true)
-            }
-            Node::Plus(inner) => {
-                push(steps, Step::Begin(at.depth, at.own), at.depth)?;
-                let skips = inner.lay_out(at.again(), steps)?;
-                push(steps, Step::Plus(at.depth, at.own, skips), at.depth)?;
-                Some(skips)
-            }
-            Node::Optional(inner) => {
-                push(steps, Step::Keep(at.depth), at.depth)?;
-                inner.lay_out(at.inside(), steps)?;
-                push(steps, Step::Join(at.depth), at.depth)?;
-                Some(true)
-            }
-            Node::Group(inner) => inner.lay_out(at, steps),
         }
     }
 }
