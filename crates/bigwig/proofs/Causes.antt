@@ -63,6 +63,17 @@ fault_causes r before after written told links kept now is same write rose = rec
   journal = open_fails r kept now is rose;
 }
 
+-- a file couldn't be read, and nothing was told
+pub unread_causes : (before after written links kept : ℕ) → Rose before after
+    → HasCauses status.ReadFault (record { reads = before; writes = written; links = links; kept = kept })
+    (record { reads = after; writes = written; links = links; kept = kept })
+unread_causes before after written links kept rose = record {
+  read = record { only = λ e. rose; other = λ n. absurd (n refl) };
+  write = record { only = λ e. (let f : status.ReadFault ≡ status.WriteFault = e in cc); other = λ n. refl };
+  door = record { only = λ e. (let f : status.ReadFault ≡ status.DoorFault = e in cc); other = λ n. refl };
+  journal = record { only = λ e. (let f : status.ReadFault ≡ status.JournalFault = e in cc); other = λ n m. refl };
+}
+
 -- the questions went well, and it was told what came of them
 pub preserved_causes : {T : Type 0} (asked : Result T Stop) (b : T) (r : Status) (before after written told links kept : ℕ) → asked ≡ Ok b
     → Shows (IsErrOf asked stop.ReadFault) before after → r ≢ status.ReadFault → Shows (r ≡ status.WriteFault) written told

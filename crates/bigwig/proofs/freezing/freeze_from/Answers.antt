@@ -2,7 +2,7 @@ use Rattle.std.proofs.Common.{◌≡◌, IfSome, refl, inl, subst}
 use Rattle.bw_save.specs.Frozen.{loaded_of}
 use Rattle.bigwig.specs.Asked.{frozen}
 use Rattle.bigwig.proofs.Saving.{nothing_frozen, absent_frozen, requests_frozen}
-use Rattle.bigwig.proofs.Causes.{frozen_causes}
+use Rattle.bigwig.proofs.Causes.{frozen_causes, unread_causes}
 use Rattle.bigwig.proofs.freezing.freeze_from.Goals as goal
 
 pub returns-in-Err-clause-comes : goal.returns-in-Err-clause-comes
@@ -10,6 +10,9 @@ returns-in-Err-clause-comes g c =
     let from = loaded_of c.args.server.world in
     nothing_frozen _ c.args.text.now c.args.server.world.service c.args.server.formats
     (λ disk service ruled. frozen disk service c.args.name.now c.args.most ruled from) _ _ _ _ _ (inl refl)
+
+pub returns-in-Err-clause-causes : goal.returns-in-Err-clause-causes
+returns-in-Err-clause-causes g c = unread_causes _ _ _ _ _ c.in-Err.ensures.cause.failed
 
 pub returns-in-Ok-None-clause-comes : goal.returns-in-Ok-None-clause-comes
 returns-in-Ok-None-clause-comes g c =
