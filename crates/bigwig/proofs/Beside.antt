@@ -22,9 +22,7 @@ use Rattle.bw_stable.specs.Deeds.{Deed, DoesAll, cut, kept}
 use Rattle.bw_stable.specs.Replacing.{replacing}
 use Rattle.bw_world.specs.Seen.{Seen}
 use Rattle.bw_world.specs.Stands.{StandsFor}
-use Rattle.bw_questions.specs.Asked.{Ruled, Task, accepted_file}
-use Rattle.bigwig.specs.Asked.{beside}
-use Rattle.bw_questions.specs.Asked.Work.{keeps}
+use Rattle.bw_questions.specs.Asked.{Ruled, Task}
 use Rattle.bw_questions.specs.Behind.{content_of}
 use Rattle.bw_questions.specs.Checks.{IsRuled}
 use Rattle.bigwig.specs.Fits.{IsFitWorld}
@@ -37,14 +35,11 @@ use Rattle.bigwig.specs.Keeping.IsKept.{stopped, refused, failed, half_begun, be
 use Rattle.bigwig.specs.Keeping.Keeps.{no_port, no_line, links_served}
 use Rattle.bigwig.specs.Lent.{ShowsJournal}
 use Rattle.bigwig.specs.JournalLines.{journal_line}
-use Rattle.bigwig.specs.Outcomes.{Comes}
-use Rattle.bigwig.specs.Outcomes.Comes.{done}
-use Rattle.bw_questions.specs.Questions.{Said, ◌>>=◌, line}
+use Rattle.bw_questions.specs.Questions.{Said, line}
 use Rattle.bw_questions.specs.Reports.{IsReported}
 use Rattle.bw_world.specs.Streams.Courses.{Between, begins}
 use Rattle.bigwig.specs.Works.{AreServed, IsServed, Outside, serving_line}
 use Rattle.bw_questions.specs.Reports.{Prints}
-use Rattle.bw_command.specs.declared.command.Judging.{Judging}
 use Rattle.bigwig.specs.declared.bringing.Found.{Found}
 use Rattle.bigwig.specs.declared.readying.Opening.{Opening}
 use Rattle.bigwig.specs.declared.readying.Opening.TheVariants.{Head, Cut, Anew}
@@ -54,9 +49,7 @@ use Rattle.bw_command.specs.declared.status.Status.{Status}
 use Rattle.bw_command.specs.declared.status.Status.TheVariants as status
 use Rattle.bw_questions.specs.declared.stop.Stop.{Stop}
 use Rattle.bw_questions.specs.declared.stop.Stop.TheVariants as stop
-use Rattle.bigwig.proofs.Endings.{comes_then}
 use Rattle.bigwig.proofs.Reaching.{course_is_fit}
-use Rattle.bigwig.proofs.Replies.{found_accepted}
 
 -- ---- links
 
@@ -280,20 +273,3 @@ open_fails s x y told rose = record {
   only = λ e. rose;
   other = λ f g. absurd (elim told [ inl e ↦ f e | inr e ↦ g e ]);
 }
-
--- the service was found, and then the task was done beside the journal
-pub keep_comes : (told later : Option Disk) (name : List ℕ) (judging : Judging) (form : Option (List ℕ)) (journal other text : List ℕ) (task : Task)
-    (P : Task → Type 0) (ruled : Ruled) (before after : Outside) (u : Option (List ℕ)) (s : Status) → P task → later ≡ told → other ≡ journal
-    → IfSome told (λ d. d name ≡ Some text) → IfSome told (λ d. (accepted_file d name judging form).gives ruled)
-    → IfSome later (λ d. (by : Ruled) (x : Task) → IsRuled ruled.service ruled.formats by → P x
-    → IsKept by text (content_of (d other)) x (record before { unread = u }) after s)
-    → IfSome told (λ d. Comes (accepted_file d name judging form >>= beside d name journal task) before after s)
-keep_comes None later name judging form journal other text task P ruled before after u s is e n there g h = tt
-keep_comes (Some d) later name judging form journal other text task P ruled before after u s is e n there g h =
-    let all = subst (λ o. IfSome o (λ d. (by : Ruled) (x : Task) → IsRuled ruled.service ruled.formats by → P x
-    → IsKept by text (content_of (d other)) x (record before { unread = u }) after s)) e h in
-    let kept = subst (λ m. IsKept ruled text (content_of (d m)) task (record before { unread = u }) after s) n
-    (all ruled task (found_accepted d name judging form ruled g) is) in
-    comes_then (accepted_file d name judging form) (beside d name journal task) ruled before after s g
-    (done (keeps ruled text (content_of (d journal)) task) (text, there, refl)
-    (of_reading ruled text (content_of (d journal)) task before after u before.steps s kept))

@@ -1,11 +1,11 @@
 -- What comes of the work, and of the questions before it.
 use Rattle.std.proofs.Common.{ℕ, List, Option, None, Some, IfSome, ◌≡◌, refl, sym, ap, subst, inl, inr}
-use Rattle.bw_out.specs.Told.{Coming, Disk}
+use Rattle.bw_out.specs.Told.{Disk}
 use Rattle.bw_questions.specs.Asked.{Work, command, usage_line}
 use Rattle.bigwig.specs.Asked.{work, asked}
 use Rattle.bw_questions.specs.Asked.Work.{prints}
 use Rattle.bw_command.specs.Commands.{command_of}
-use Rattle.bigwig.specs.Outcomes.{Comes, Speaks, Replies}
+use Rattle.bigwig.specs.Outcomes.{Comes, Speaks}
 use Rattle.bigwig.specs.Works.{Outside}
 use Rattle.bw_questions.specs.Reports.{Prints}
 use Rattle.bigwig.specs.Outcomes.Comes.{said, done, read_fault, no_memory}
@@ -51,28 +51,14 @@ pub text_speaks : (told : Option Disk) (q : Disk → Question Work) (text : List
 text_speaks None q text held now r g p = tt
 text_speaks (Some d) q text held now r g p = text_so (q d) text held now r g p
 
--- code that only prints also replies so
-pub speaks_replies : (told : Option Disk) (q : Disk → Question Work) (held now : Option (List ℕ)) (keys : Option Coming) (unread : Option (List ℕ))
-    (steps : ℕ) (r : Status) → IfSome told (λ d. Speaks (q d) held now r) → IfSome told (λ d. Replies (q d) held now keys keys unread steps steps r)
-speaks_replies None q held now keys unread steps r s = tt
-speaks_replies (Some d) q held now keys unread steps r s = λ o. s (record o { keys = keys; steps = steps }) unread
-
 -- ---- the words
 
--- what was only printed, or answered on `out`, is all that comes
+-- what was only printed is all that comes
 pub speaks_comes : (told : Option Disk) (q : Disk → Question Work) (held now : Option (List ℕ)) (r : Status) (o : Outside) (unread : Option (List ℕ))
     → IfSome told (λ d. Speaks (q d) held now r)
     → IfSome told (λ d. Comes (q d) (record o { printed = held }) (record o { printed = now; unread = unread }) r)
 speaks_comes None q held now r o unread s = tt
 speaks_comes (Some d) q held now r o unread s = s o unread
-
-pub replies_comes : (told : Option Disk) (q : Disk → Question Work) (held now : Option (List ℕ)) (keys later : Option Coming)
-    (unread : Option (List ℕ)) (steps after : ℕ) (r : Status) (o : Outside)
-    → IfSome told (λ d. Replies (q d) held now keys later unread steps after r)
-    → IfSome told (λ d. Comes (q d) (record o { printed = held; keys = keys; steps = steps })
-    (record o { printed = now; keys = later; unread = unread; steps = after }) r)
-replies_comes None q held now keys later unread steps after r o s = tt
-replies_comes (Some d) q held now keys later unread steps after r o s = s o
 
 -- the work is that of this command
 pub of_command : (told : Option Disk) (c d : Command) (before after : Outside) (r : Status) → c ≡ d

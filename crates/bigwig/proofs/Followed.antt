@@ -1,7 +1,7 @@
 -- Scripts that are followed: what comes of the code's visit.
 use Rattle.std.specs.Io.KnownBytes.{Appends}
 use Rattle.std.specs.List.{AllByRecursion}
-use Rattle.std.proofs.Common.{◌≡◌, ◌<◌, ℕ, false, List, Option, None, Some, IfSome, refl, sym, ap, ◌∙◌, subst, inl, inr, length, take, arith}
+use Rattle.std.proofs.Common.{◌≡◌, ℕ, false, List, Option, None, Some, IfSome, refl, sym, ap, ◌∙◌, subst, inl, inr, length, take, arith}
 use Rattle.std.proofs.lemmas.Bool.{cases_lt}
 use Rattle.bw_check.specs.Accepts.{Accepts}
 use Rattle.bw_format.specs.declared.format.Format.{Format}
@@ -26,20 +26,19 @@ use Rattle.bw_visit.specs.declared.visiting.VisitEnd.TheVariants as code
 use Rattle.bw_visit.proofs.Visited.{visits_are_taken}
 use Rattle.bw_world.specs.Stands.{StandsFor}
 use Rattle.bw_world.specs.Streams.Courses.{IsBroken, Between}
-use Rattle.bw_questions.specs.Asked.{Ruled, accepted_file, file}
+use Rattle.bw_questions.specs.Asked.{Ruled, file}
 use Rattle.bigwig.specs.Asked.{followed, visited}
 use Rattle.bw_questions.specs.Asked.Work.{visits}
 use Rattle.bw_questions.specs.Checks.{IsRuled}
 use Rattle.bigwig.specs.Outcomes.{Comes, Replies}
 use Rattle.bigwig.specs.Outcomes.Comes.{said, done, read_fault, no_memory}
 use Rattle.bw_command.specs.Codes.{status_for}
-use Rattle.bw_questions.specs.Questions.{Said, ◌>>=◌, IsStop, found, line}
+use Rattle.bw_questions.specs.Questions.{IsStop, found, line}
 use Rattle.bw_questions.specs.Reports.{IsReported, SaysLine}
 use Rattle.bigwig.specs.Scripts.{no_script_line, script, unknown_line}
 use Rattle.bigwig.specs.Visiting.{AreSpent, IsStatusOf, PrintsVisit, SaysUnknown, TellsEnd, script_of}
 use Rattle.bigwig.specs.Works.{Outside}
 use Rattle.bw_questions.specs.Reports.{Prints as PrintsText}
-use Rattle.bw_command.specs.declared.command.Judging.{Judging}
 use Rattle.bw_command.specs.declared.status.Refusal.TheVariants as refusals
 use Rattle.bw_command.specs.declared.status.Status.{Status}
 use Rattle.bw_command.specs.declared.status.Status.TheVariants as status
@@ -48,7 +47,6 @@ use Rattle.bw_questions.specs.declared.stop.Stop.TheVariants as stop
 use Rattle.bw_questions.proofs.Answering.{stops_first}
 use Rattle.bigwig.proofs.Endings.{comes_then, stopped_so}
 use Rattle.bw_questions.proofs.Files.{take_all, take_length}
-use Rattle.bigwig.proofs.Replies.{found_accepted}
 use Rattle.bw_questions.proofs.Stops.{text_stops}
 
 -- ---- the front of a script file tells what all of it is
@@ -122,21 +120,6 @@ pub file_stopped : (told : Option Disk) (service : Service) (formats : List Form
 file_stopped None service formats name s held now keys unread steps r i p = tt
 file_stopped (Some d) service formats name s held now keys unread steps r i p = λ ruled is o.
     stopped_so (visited d name ruled) s held now r (stops_first (file d name) (followed ruled) s i) p (record o { keys = keys; steps = steps }) unread
-
--- the service was found, and then visited by a script file that is asked for by the text of its name
-pub visit_found : (told later_told : Option Disk) (name : List ℕ) (judging : Judging) (form : Option (List ℕ)) (by text : List ℕ) (ruled : Ruled)
-    (held now : Option (List ℕ)) (keys later : Option Coming) (unread : Option (List ℕ)) (steps after : ℕ) (r : Status) → later_told ≡ told
-    → text ≡ by → IfSome told (λ d. (accepted_file d name judging form).gives ruled)
-    → IfSome later_told (λ d. (x : Ruled) → IsRuled ruled.service ruled.formats x → Replies (visited d text x) held now keys later unread steps after r)
-    → IfSome told (λ d. Replies (accepted_file d name judging form >>= visited d by) held now keys later unread steps after r)
-visit_found None later_told name judging form by text ruled held now keys later unread steps after r e t g h = tt
-visit_found (Some d) later_told name judging form by text ruled held now keys later unread steps after r e t g h =
-    let all = subst
-    (λ o. IfSome o (λ d. (x : Ruled) → IsRuled ruled.service ruled.formats x → Replies (visited d text x) held now keys later unread steps after r)) e h in
-    let is = found_accepted d name judging form ruled g in
-    λ o.
-    comes_then (accepted_file d name judging form) (visited d by) ruled _ _ r g
-    (subst (λ n. Replies (visited d n ruled) held now keys later unread steps after r) t (all ruled is) o)
 
 -- ---- the visit
 

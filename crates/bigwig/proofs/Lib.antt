@@ -19,6 +19,7 @@ pub mod Refusals
 pub mod Refused
 pub mod Replies
 pub mod Resumed
+pub mod Running
 pub mod Saving
 pub mod Sending
 pub mod SomeAnswer

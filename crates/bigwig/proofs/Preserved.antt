@@ -4,24 +4,20 @@ use Rattle.bw_format.specs.declared.format.Format.{Format}
 use Rattle.bw_lang.specs.declared.service.Service.{Service}
 use Rattle.bw_out.specs.Told.{Disk}
 use Rattle.bw_world.specs.Seen.{Seen}
-use Rattle.bw_questions.specs.Asked.{Ruled, Task, accepted_file}
-use Rattle.bigwig.specs.Asked.{beside}
+use Rattle.bw_questions.specs.Asked.{Ruled, Task}
 use Rattle.bw_questions.specs.Asked.Task.{to_save}
 use Rattle.bw_questions.specs.Behind.{content_of}
 use Rattle.bw_questions.specs.Checks.{IsRuled}
-use Rattle.bw_questions.specs.Questions.{◌>>=◌}
 use Rattle.bw_questions.specs.Reports.{IsReported}
 use Rattle.bw_command.specs.declared.status.Status.{Status}
 use Rattle.bw_questions.specs.declared.stop.Stop.{Stop}
-use Rattle.bw_command.specs.declared.command.Judging.{Judging}
 use Rattle.bigwig.specs.Finding.{IsFoundIn, IsRefusedBy, recalled_of}
 use Rattle.bigwig.specs.Freezing.{IsFrozen}
 use Rattle.bigwig.specs.Keeping.{Holds, IsKept}
 use Rattle.bigwig.specs.Keeping.IsKept.{preserved}
-use Rattle.bigwig.specs.Outcomes.{Comes}
 use Rattle.bigwig.specs.Works.{Outside}
 use Rattle.bigwig.specs.declared.bringing.Found.{Found}
-use Rattle.bigwig.proofs.Beside.{keep_comes, stopped_kept}
+use Rattle.bigwig.proofs.Beside.{stopped_kept}
 
 -- the program stopped at the journal
 pub save_stopped : (told : Option Disk) (service : Service) (formats : List Format) (name text given : List ℕ) (o : Outside)
@@ -49,21 +45,11 @@ world_saved (Some disk) service formats name text given other o unread printed s
     (subst (λ (y : List ℕ). Holds ruled y (content_of (disk name)) (recalled_of found) f.0) t f.1) (same ∙ sym is.0) f.2
     (subst (λ (y : List ℕ). IsFrozen y seen o.printed printed s) v frozen) refl (inl refl)
 
--- the service was found, and then what its journal brings about was saved
-to_be_saved : (told : Option Disk) (service : Service) (formats : List Format) (name text : List ℕ) (before after : Outside) (s : Status)
+-- the same of a task that is to save it
+pub to_be_saved : (told : Option Disk) (service : Service) (formats : List Format) (name text : List ℕ) (before after : Outside) (s : Status)
     → IfSome told (λ d. (ruled : Ruled) → IsRuled service formats ruled → IsKept ruled text (content_of (d name)) to_save before after s)
     → IfSome told (λ d. (ruled : Ruled) (x : Task) → IsRuled service formats ruled → x ≡ to_save
     → IsKept ruled text (content_of (d name)) x before after s)
 to_be_saved None service formats name text before after s h = tt
 to_be_saved (Some d) service formats name text before after s h = λ ruled x is same.
     subst (λ (t : Task). IsKept ruled text (content_of (d name)) t before after s) (sym same) (h ruled is)
-
-pub preserve_comes : (told later : Option Disk) (name : List ℕ) (judging : Judging) (form : Option (List ℕ)) (journal other text : List ℕ) (ruled : Ruled)
-    (before after : Outside) (u : Option (List ℕ)) (s : Status) → later ≡ told → other ≡ journal → IfSome told (λ d. d name ≡ Some text)
-    → IfSome told (λ d. (accepted_file d name judging form).gives ruled)
-    → IfSome later (λ d. (by : Ruled) → IsRuled ruled.service ruled.formats by
-    → IsKept by text (content_of (d other)) to_save (record before { unread = u }) after s)
-    → IfSome told (λ d. Comes (accepted_file d name judging form >>= beside d name journal to_save) before after s)
-preserve_comes told later name judging form journal other text ruled before after u s e n there g h =
-    keep_comes told later name judging form journal other text to_save (λ x. x ≡ to_save) ruled before after u s refl e n there g
-    (to_be_saved later ruled.service ruled.formats other text (record before { unread = u }) after s h)

@@ -17,7 +17,7 @@ use Rattle.bw_out.specs.Told.{Coming, Disk, Finds}
 use Rattle.bw_out.specs.Writes.{AppendsPart}
 use Rattle.bw_world.specs.Seen.{Seen}
 use Rattle.bw_world.specs.Stands.{StandsFor}
-use Rattle.bw_questions.specs.Asked.{Ruled, Work, accepted_file, accepted, file}
+use Rattle.bw_questions.specs.Asked.{Ruled, Work, accepted_file, file}
 use Rattle.bigwig.specs.Asked.{replayed, at_port}
 use Rattle.bw_questions.specs.Asked.Work.{replays, serves}
 use Rattle.bw_questions.specs.Checks.{IsRuled}
@@ -29,7 +29,7 @@ use Rattle.bw_world.specs.Streams.Courses.{Between, begins}
 use Rattle.bigwig.specs.Works.{Outside, outside, IsReplayed, IsStreamed, ServesLinks, serving_line, status_of}
 use Rattle.bigwig.specs.Outcomes.Comes.{done, read_fault, no_memory}
 use Rattle.bigwig.specs.Works.IsServing.{no_port, no_line, links_served}
-use Rattle.bw_questions.specs.Questions.{Said, Question, ◌>>=◌, IsStop, found, line}
+use Rattle.bw_questions.specs.Questions.{Said, Question, IsStop, found, line}
 use Rattle.bw_questions.specs.Reports.{IsReported, SaysLine}
 use Rattle.bw_command.specs.declared.command.Judging.{Judging}
 use Rattle.bw_command.specs.declared.status.Refusal.{Refusal}
@@ -39,7 +39,7 @@ use Rattle.bw_command.specs.declared.status.Status.TheVariants as status
 use Rattle.bw_questions.specs.declared.stop.Stop.{Stop}
 use Rattle.bw_questions.specs.declared.stop.Stop.TheVariants as stop
 use Rattle.bw_questions.proofs.Answering.{stops_first}
-use Rattle.bigwig.proofs.Endings.{comes_then, stopped_so}
+use Rattle.bigwig.proofs.Endings.{stopped_so}
 use Rattle.bigwig.proofs.Links.{given_so}
 use Rattle.bigwig.proofs.Reaching.{course_is_fit}
 
@@ -147,24 +147,6 @@ requests_replied left (Some d) name next file formats most old new unread end r 
       refl,
     )
 
--- the service was found, and then its requests were answered, whose file is asked for by the text of its name
-pub replies_found : (told later_told : Option Disk) (name : List ℕ) (judging : Judging) (form : Option (List ℕ)) (requests asked text : List ℕ)
-    (q : Disk → List ℕ → List ℕ → Ruled → Question Work) (ruled : Ruled) (held now : Option (List ℕ)) (keys later : Option Coming)
-    (unread : Option (List ℕ)) (steps after : ℕ) (r : Status) → later_told ≡ told
-    → asked ≡ requests → IfSome told (λ d. (accepted_file d name judging form).gives ruled) → IfSome told (λ d. d name ≡ Some text)
-    → IfSome later_told (λ d. (x : Ruled) (service : List ℕ) → IsRuled ruled.service ruled.formats x → d service ≡ Some text
-    → Replies (q d service asked x) held now keys later unread steps after r)
-    → IfSome told (λ d. Replies (accepted_file d name judging form >>= q d name requests) held now keys later unread steps after r)
-replies_found None later_told name judging form requests asked text q ruled held now keys later unread steps after r e t g there h = tt
-replies_found (Some d) later_told name judging form requests asked text q ruled held now keys later unread steps after r e t g there h =
-    let all = subst
-    (λ o. IfSome o (λ d. (x : Ruled) (service : List ℕ) → IsRuled ruled.service ruled.formats x → d service ≡ Some text
-    → Replies (q d service asked x) held now keys later unread steps after r)) e h in
-    let is = found_accepted d name judging form ruled g in
-    λ o.
-    comes_then (accepted_file d name judging form) (q d name requests) ruled _ _ r g
-    (subst (λ n. Replies (q d name n ruled) held now keys later unread steps after r) t (all ruled name is there) o)
-
 -- ---- links
 
 pub outside_same : (p : Option (List ℕ)) (k : Option Coming) (a : Option (List ℕ)) (c d : Option (List (List ℕ))) (r t : Option (List Returned))
@@ -204,17 +186,3 @@ serving_comes ruled seen formats port most o after asked coming returned s e f i
     let x = from keys k links (e ∙ l) given (f ∙ g) in
     (x.0, x.1, x.2, given_so ruled _ links given x.0 x.1 x.2 unprinted after x.3 refl refl refl refl, x.4, x.5) in
     done (serves ruled world port most) refl (links_served ends (subst (λ x. Asks o.asked x port) (sym same) asks) line all, still)
-
--- the service was found, and then its port was served
-pub port_comes : (told later : Option Disk) (name : List ℕ) (judging : Judging) (form : Option (List ℕ)) (text : List ℕ)
-    (q : Disk → List ℕ → Ruled → Question Work) (ruled : Ruled) (before after : Outside) (s : Status) → later ≡ told
-    → IfSome told (λ d. (accepted_file d name judging form).gives ruled) → IfSome told (λ d. d name ≡ Some text)
-    → IfSome later (λ d. (x : Ruled) (service : List ℕ) (u v : Option (List ℕ)) → IsRuled ruled.service ruled.formats x → d service ≡ Some text
-    → Comes (q d service x) (record before { unread = u }) (record after { unread = v }) s)
-    → IfSome told (λ d. Comes (accepted_file d name judging form >>= q d name) before after s)
-port_comes None later name judging form text q ruled before after s e g there h = tt
-port_comes (Some d) later name judging form text q ruled before after s e g there h =
-    let all = subst (λ o. IfSome o (λ d. (x : Ruled) (service : List ℕ) (u v : Option (List ℕ)) → IsRuled ruled.service ruled.formats x → d service ≡ Some text
-    → Comes (q d service x) (record before { unread = u }) (record after { unread = v }) s)) e h in
-    comes_then (accepted_file d name judging form) (q d name) ruled before after s g
-    (all ruled name before.unread after.unread (found_accepted d name judging form ruled g) there)

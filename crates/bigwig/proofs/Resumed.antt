@@ -1,8 +1,7 @@
 -- Requests that are answered beside a journal.
-use Rattle.std.proofs.Common.{◌≡◌, ◌∙◌, ℕ, List, [], ◌++◌, Option, None, Some, IfSome, refl, sym, subst}
-use Rattle.bw_check.specs.Accepts.{Accepts}
+use Rattle.std.proofs.Common.{◌≡◌, ℕ, List, [], ◌++◌, Option, None, Some, IfSome, refl, sym, subst}
 use Rattle.bw_format.specs.declared.format.Format.{Format}
-use Rattle.bw_keeping.specs.Streamed.{HasStreamed, Streams, sight}
+use Rattle.bw_keeping.specs.Streamed.{Streams, sight}
 use Rattle.bw_keeping.specs.declared.ended.StreamEnded.{StreamEnded}
 use Rattle.bw_keeping.proofs.StreamsWithin.{streams_keep_within}
 use Rattle.bw_lang.specs.declared.service.Service.{Service}
@@ -13,31 +12,27 @@ use Rattle.bw_world.specs.Seen.{Seen}
 use Rattle.bw_world.specs.Stands.{StandsFor}
 use Rattle.bw_world.specs.Streams.Answers.{IsAt, between}
 use Rattle.bw_world.specs.Streams.Good.{RepliesAreGood}
-use Rattle.bw_questions.specs.Asked.{Ruled, Task, Work, accepted_file, file}
+use Rattle.bw_questions.specs.Asked.{Ruled, Task, file}
 use Rattle.bigwig.specs.Asked.{beside, resumed}
 use Rattle.bw_questions.specs.Asked.Task.{to_answer}
-use Rattle.bw_questions.specs.Asked.Work.{prints, replays, serves, keeps, freezes, visits}
+use Rattle.bw_questions.specs.Asked.Work.{keeps}
 use Rattle.bw_questions.specs.Behind.{content_of}
 use Rattle.bw_questions.specs.Checks.{IsRuled}
 use Rattle.bigwig.specs.Fits.{IsFitWorld}
 use Rattle.bigwig.specs.Keeping.{AnswersEndWith, AnswersKept, IsKept, Resumes}
 use Rattle.bw_questions.specs.Lines.{no_file_line}
-use Rattle.bigwig.specs.Outcomes.{Comes, IsDone}
-use Rattle.bigwig.specs.Outcomes.Comes.{said, done, read_fault, no_memory}
-use Rattle.bw_questions.specs.Questions.{Question, ◌>>=◌}
+use Rattle.bigwig.specs.Outcomes.{Comes}
+use Rattle.bigwig.specs.Outcomes.Comes.{done}
 use Rattle.bw_questions.specs.Reports.{IsReported, SaysLine}
 use Rattle.bw_world.specs.Streams.Courses.{Between, begins}
-use Rattle.bigwig.specs.Works.{IsServing, Outside}
-use Rattle.bigwig.specs.Works.IsServing.{no_port, no_line, links_served}
-use Rattle.bw_command.specs.declared.command.Judging.{Judging}
+use Rattle.bigwig.specs.Works.{Outside}
 use Rattle.bw_command.specs.declared.status.Refusal.TheVariants as refusals
 use Rattle.bw_command.specs.declared.status.Status.{Status}
-use Rattle.bw_command.specs.declared.status.Status.TheVariants as status
 use Rattle.bw_questions.specs.declared.stop.Stop.{Stop}
 use Rattle.bigwig.proofs.Beside.{of_reading}
 use Rattle.bw_questions.proofs.Answering.{stops_first}
-use Rattle.bigwig.proofs.Endings.{comes_then, stopped_so}
-use Rattle.bigwig.proofs.Replies.{absent_stop, found_accepted}
+use Rattle.bigwig.proofs.Endings.{stopped_so}
+use Rattle.bigwig.proofs.Replies.{absent_stop}
 
 -- ---- the stream
 
@@ -81,41 +76,6 @@ stream_resumed ruled m seen later formats stream held taken most sum next o afte
 
 -- ---- the work
 
-serving_reading : (ruled : Ruled) (from : World) (port most : ℕ) (before after : Outside) (u : Option (List ℕ)) (s : Status)
-    → IsServing ruled from port most (record before { unread = u }) after s → IsServing ruled from port most before after s
-serving_reading ruled from port most before after u s (no_port e m k) = no_port e m k
-serving_reading ruled from port most before after u s (no_line e a p k) = no_line e a p k
-serving_reading ruled from port most before after u s (links_served e a p l) = links_served e a p l
-
-work_reading : (work : Work) (before after : Outside) (u : Option (List ℕ)) (s : Status) → IsDone work (record before { unread = u }) after s
-    → IsDone work before after s
-work_reading (prints text) before after u s d = record { prints = d.prints; kept = d.kept }
-work_reading (replays ruled from stream most) before after u s d =
-    (record { end = d.0.end; status_is = d.0.status_is; streamed = d.0.streamed; kept = d.0.kept }, d.1)
-work_reading (serves ruled from port most) before after u s d = (serving_reading ruled from port most before after u s d.0, d.1)
-work_reading (keeps ruled text content task) before after u s d = of_reading ruled text content task before after u before.steps s d
-work_reading (freezes ruled from text stream most) before after u s d = (
-  record {
-    seen = d.0.seen;
-    service = d.0.service;
-    end = d.0.end;
-    freezes = d.0.freezes;
-    streamed = d.0.streamed;
-    kept = d.0.kept;
-  },
-  d.1,
-)
-work_reading (visits ruled script) before after u s d =
-    (record { end = d.0.end; status_is = d.0.status_is; visited = d.0.visited; kept = d.0.kept }, d.1)
-
--- what is left of a file that was read before is of no account
-comes_reading : (question : Question Work) (before after : Outside) (u : Option (List ℕ)) (s : Status)
-    → Comes question (record before { unread = u }) after s → Comes question before after s
-comes_reading question before after u s (said what p i) = said what p (record { prints = i.prints; kept = i.kept })
-comes_reading question before after u s (done work p d) = done work p (work_reading work before after u s d)
-comes_reading question before after u s (read_fault e k) = read_fault e k
-comes_reading question before after u s (no_memory e k) = no_memory e k
-
 -- there is no file of requests
 pub file_absent : {File : Type 0} (left : File → Option (List ℕ)) (told : Option Disk) (from journal text named : List ℕ) (next : Option File)
     (why : Stop) (service : Service) (formats : List Format) (most : ℕ) (o : Outside) (printed unread : Option (List ℕ)) (s : Status) → next ≡ None
@@ -148,18 +108,3 @@ file_resumed left (Some d) later from journal other text named next found servic
     (all ruled (to_answer has.0 most) r (is has.0 has.2)) in
     done (keeps ruled text (content_of (d journal)) (to_answer has.0 most)) (has.0, subst (λ k. d k ≡ Some has.0) n has.1, (text, there, refl))
     (of_reading ruled text (content_of (d journal)) (to_answer has.0 most) before after u before.steps s kept)
-
--- the service was found, and then its requests were answered beside the journal
-pub resume_comes : (told later : Option Disk) (name : List ℕ) (judging : Judging) (form : Option (List ℕ)) (from journal text : List ℕ) (most : ℕ)
-    (ruled : Ruled) (before after : Outside) (u : Option (List ℕ)) (s : Status) → later ≡ told → IfSome told (λ d. d name ≡ Some text)
-    → IfSome told (λ d. (accepted_file d name judging form).gives ruled)
-    → IfSome later (λ d. (by : Ruled) (named : List ℕ) → IsRuled ruled.service ruled.formats by → d named ≡ Some text
-    → Comes (resumed d named from journal most by) (record before { unread = u }) after s)
-    → IfSome told (λ d. Comes (accepted_file d name judging form >>= resumed d name from journal most) before after s)
-resume_comes None later name judging form from journal text most ruled before after u s e there g h = tt
-resume_comes (Some d) later name judging form from journal text most ruled before after u s e there g h =
-    let all = subst (λ o. IfSome o (λ d. (by : Ruled) (named : List ℕ) → IsRuled ruled.service ruled.formats by → d named ≡ Some text
-    → Comes (resumed d named from journal most by) (record before { unread = u }) after s)) e h in
-    comes_then (accepted_file d name judging form) (resumed d name from journal most) ruled before after s g
-    (comes_reading (resumed d name from journal most ruled) before after u s
-    (all ruled name (found_accepted d name judging form ruled g) there))

@@ -1,5 +1,5 @@
 -- The questions of each command, in their order. A later command, option or file is one line more.
-use Rattle.std.specs.Prelude.{ℕ, List, Option, None, Some}
+use Rattle.std.specs.Prelude.{◌≡◌, ⊤, ℕ, List, Option, None, Some}
 use Rattle.bw_lang.specs.declared.service.Service.{Service}
 use Rattle.bw_model.specs.Sessions.{World, empty}
 use Rattle.bw_out.specs.Told.{Disk}
@@ -8,8 +8,9 @@ use Rattle.bigwig.specs.Loading.{loads}
 use Rattle.bw_questions.specs.Questions.{Question, ◌>>=◌, found, line}
 use Rattle.bigwig.specs.Scripts.{script}
 use Rattle.bw_command.specs.declared.command.Command.{Command}
+use Rattle.bw_command.specs.declared.command.Judging.{Judging}
 use Rattle.bw_command.specs.declared.command.Command.TheVariants.{Check, Replay, Resume, Serve, Keep, Valid, Make, Light, Freeze, Preserve, Visit}
-use Rattle.bw_questions.specs.Asked.{command, file, Ruled, accepted_file, Task, Work, made_work, ruled, lights, check_work, valid_work}
+use Rattle.bw_questions.specs.Asked.{command, file, Ruled, accepted, accepted_file, Task, Work, made_work, ruled, lights, check_work, valid_work}
 use Rattle.bw_questions.specs.Asked.Task.{to_serve, to_answer, to_save}
 use Rattle.bw_questions.specs.Asked.Work.{replays, serves, keeps, freezes, visits}
 
@@ -83,3 +84,46 @@ work disk (Visit service by judging form) = accepted_file disk service judging f
 -- all that the program finds out from its words and its files
 abbrev pub asked : List (List ℕ) → Disk → Question Work
 asked words disk = command words >>= work disk
+
+-- ---- commands that run a service
+
+-- the command runs a service without a journal
+abbrev pub RunsAlone : Command → Type 0
+RunsAlone (Replay service requests judging form load most) = ⊤
+RunsAlone (Serve service judging form load port most) = ⊤
+RunsAlone (Freeze service requests judging form load most) = ⊤
+RunsAlone (Visit service by judging form) = ⊤
+RunsAlone _ = ⊥
+
+-- the command runs a service beside a journal
+abbrev pub RunsBeside : Command → Type 0
+RunsBeside (Resume service from judging form journal most) = ⊤
+RunsBeside (Keep service judging form journal rotate port most) = ⊤
+RunsBeside (Preserve service judging form journal) = ⊤
+RunsBeside _ = ⊥
+
+-- the command runs the service of a file of this name, which is judged so, and whose fields have the formats of this file
+abbrev pub Names : Command → List ℕ → Judging → Option (List ℕ) → Type 0
+Names (Replay service requests judging form load most) s j f = (s ≡ service) × (j ≡ judging) × (f ≡ form)
+Names (Resume service from judging form journal most) s j f = (s ≡ service) × (j ≡ judging) × (f ≡ form)
+Names (Serve service judging form load port most) s j f = (s ≡ service) × (j ≡ judging) × (f ≡ form)
+Names (Keep service judging form journal rotate port most) s j f = (s ≡ service) × (j ≡ judging) × (f ≡ form)
+Names (Freeze service requests judging form load most) s j f = (s ≡ service) × (j ≡ judging) × (f ≡ form)
+Names (Preserve service judging form journal) s j f = (s ≡ service) × (j ≡ judging) × (f ≡ form)
+Names (Visit service by judging form) s j f = (s ≡ service) × (j ≡ judging) × (f ≡ form)
+Names _ s j f = ⊥
+
+-- what a command asks of a service that is accepted, whose file has this name: no more, where it runs none
+abbrev pub of_service : Disk → List ℕ → Command → Ruled → Question Work
+of_service disk name (Replay service requests judging form load most) = replayed_from disk name load requests most
+of_service disk name (Resume service from judging form journal most) = resumed disk name from journal most
+of_service disk name (Serve service judging form load port most) = served_from disk name load port most
+of_service disk name (Keep service judging form journal rotate port most) = beside disk name journal (to_serve port most rotate)
+of_service disk name (Freeze service requests judging form load most) = frozen_from disk name load requests most
+of_service disk name (Preserve service judging form journal) = beside disk name journal to_save
+of_service disk name (Visit service by judging form) = visited disk by
+of_service disk name _ = accepted
+
+-- the check of the service, and then that
+abbrev pub check_then : Disk → List ℕ → Judging → Option (List ℕ) → Command → Question Work
+check_then disk name judging form c = accepted_file disk name judging form >>= of_service disk name c

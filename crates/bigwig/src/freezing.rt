@@ -4,68 +4,30 @@ ghost use Rattle.bw_save.specs.Frozen.{loaded_of};
 ghost use Rattle.bw_lang.specs.declared.limits.TheConstants.{MAX_FILE_BYTES};
 ghost use Rattle.bw_out.specs.Causes.{Shows};
 ghost use Rattle.bw_questions.specs.Asked.{Ruled};
-ghost use Rattle.bigwig.specs.Asked.{work, frozen, frozen_from};
+ghost use Rattle.bigwig.specs.Asked.{frozen, frozen_from};
 ghost use Rattle.bw_questions.specs.Checks.{IsRuled};
 ghost use Rattle.bigwig.specs.Fits.{IsFitStart};
-ghost use Rattle.bw_command.specs.Commands.{AreWorkers};
 ghost use Rattle.bigwig.specs.Freezing.{FreezesAt, IsFrozen};
 ghost use Rattle.bigwig.specs.Lent.{AreSame, HasCauses, faults_of};
 ghost use Rattle.bigwig.specs.Outcomes.{Replies};
-ghost use Rattle.bw_command.specs.declared.command.Command.TheVariants as commands;
 
 use crate::lent::Lent;
 use crate::replaying::answer_source;
 use crate::saved_lines::save_line;
 use crate::server::Server;
 use crate::thawing::begin_server;
-use bw_command::Named;
 use bw_lang::Text;
-use bw_out::{Door, Failed, Files, Keys, NullSink, Pulse, Sink, Steps};
-use bw_questions::{Kept, Refusal, Status, Tools, load_kept, no_file, print_text, refused, report};
+use bw_out::{Door, Failed, Files, Keys, NullSink, Sink, Steps};
+use bw_questions::{Kept, Refusal, Status, no_file, print_text, refused, report};
 use bw_save::{FreezeFault, freeze};
 use bw_stable::Journals;
 use bw_world::{StreamEnd, World};
 use std::alloc::Global;
 use std::sync::ledger::Ledger;
-use std::thread::Threads;
 
-/// `freeze`: answers the requests of a file by the service of another, from the saved sessions on that are named, if they
-/// are, and saves what then waits.
-pub fn freeze_command<
-    R: Threads + Sync,
-    F: Files,
-    J: Journals,
-    D: Door,
-    K: Keys,
-    W: Sink,
-    P: Pulse,
-    L: Ledger,
->(
-    tools: &Tools<R, P>,
-    named: Named<'_, '_, '_>,
-    load: &Option<Text>,
-    requests: &Text,
-    most: u32,
-    lent: &mut Lent<F, J, D, K, W, Steps<L>>,
-) -> Status
-    requires { AreWorkers named.judging.now.workers }
-    ensures comes { IfSome (F.told lent.old.files.now) (λ disk.
-        Replies (work disk (commands.Freeze named.entry.service.now requests.now named.entry.judging.now named.entry.formats.now load.now most))
-        (W.held lent.old.out.now) (W.held lent.new.out.now) (K.coming lent.old.keys.now) (K.coming lent.new.keys.now) (F.unread lent.new.files.now)
-        lent.old.steps.now lent.new.steps.now result) }
-    ensures not_usage { result ≢ Status.Usage }
-    ensures causes { HasCauses result (faults_of F.Files J.Journals D.Door W.Channel lent.old) (faults_of F.Files J.Journals D.Door W.Channel lent.new) }
-    ensures others { (lent.new.door.now ≡ lent.old.door.now) × (lent.new.journals.now ≡ lent.old.journals.now) }
-    ensures same { AreSame lent.old lent.new }
-{
-    match load_kept(tools, lent.files, named) {
-        Ok(kept) => freeze_service(tools.alloc, kept, load, requests.as_str(), most, lent),
-        Err(stop) => report(lent.out, stop),
-    }
-}
-
-/// The same of a service that is accepted. The saved sessions are looked for before the requests.
-fn freeze_service<F: Files, J: Journals, D: Door, K: Keys, W: Sink, L: Ledger>(
+/// `freeze`: answers the requests of a file by a service that is accepted, from the saved sessions on that are named, if they are,
+/// and saves what then waits. The saved sessions are looked for before the requests.
+pub fn freeze_service<F: Files, J: Journals, D: Door, K: Keys, W: Sink, L: Ledger>(
     alloc: Global,
     kept: Kept,
     load: &Option<Text>,

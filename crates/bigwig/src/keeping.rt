@@ -3,15 +3,11 @@ ghost use Rattle.std.specs.Prelude.{◌≡◌, ◌≢◌, ◌≤◌, ℕ, List, 
 ghost use Rattle.bw_lang.specs.declared.limits.TheConstants.{MAX_FILE_BYTES};
 ghost use Rattle.bw_out.specs.Causes.{Shows};
 ghost use Rattle.bw_questions.specs.Asked.{Ruled, Task as Task_};
-ghost use Rattle.bigwig.specs.Asked.{work};
 ghost use Rattle.bw_questions.specs.Behind.{content_of};
 ghost use Rattle.bw_questions.specs.Checks.{IsRuled};
-ghost use Rattle.bw_command.specs.Commands.{AreWorkers};
 ghost use Rattle.bigwig.specs.Finding.{IsFoundIn, IsFresh, IsRead, IsTask, rotate_in};
 ghost use Rattle.bigwig.specs.Keeping.{IsKept};
 ghost use Rattle.bigwig.specs.Lent.{AreSame, HasCauses, ShowsJournal, faults_of, seen_of};
-ghost use Rattle.bigwig.specs.Outcomes.{Comes};
-ghost use Rattle.bw_command.specs.declared.command.Command.TheVariants as commands;
 
 use crate::beginning::{serve_beside, tell_fault};
 use crate::bringing::{Brought, bring_back};
@@ -19,14 +15,12 @@ use crate::lent::Lent;
 use crate::readying::{Opening, Ready, ready_for};
 use crate::resuming::resume_beside;
 use crate::server::Server;
-use bw_command::Named;
-use bw_lang::{Memory, Text};
-use bw_out::{Failed, Files, Keys, Pulse, Sink, Steps};
-use bw_questions::{Kept, Status, Tools, load_kept, report};
+use bw_lang::Memory;
+use bw_out::{Failed, Files, Keys, Sink, Steps};
+use bw_questions::{Kept, Status, report};
 use bw_stable::{Journal, Journals, WideDoor};
 use std::alloc::Global;
 use std::sync::ledger::Ledger;
-use std::thread::Threads;
 
 /// Where links are served, and how many.
 #[derive(Clone, Copy)]
@@ -54,45 +48,8 @@ pub enum Task<S> {
     Stream(Stream<S>),
 }
 
-/// `serve` beside a journal: the world that it brings about is brought back, and then the links of a port are served. What
-/// changes that world is kept before it is answered.
-pub fn keep_command<
-    R: Threads + Sync,
-    F: Files,
-    J: Journals,
-    D: WideDoor,
-    K: Keys,
-    W: Sink,
-    P: Pulse,
-    L: Ledger,
->(
-    tools: &Tools<R, P>,
-    named: Named<'_, '_, '_>,
-    journal: &Text,
-    place: Place,
-    lent: &mut Lent<F, J, D, K, W, Steps<L>>,
-) -> Status
-    requires { AreWorkers named.judging.now.workers }
-    ensures comes { IfSome (F.told lent.old.files.now) (λ disk. Comes (work disk (commands.Keep named.entry.service.now named.entry.judging.now
-        named.entry.formats.now journal.now place.rotate place.port place.most))
-        (seen_of F.Files J.Journals D.Door K.Keys W.Channel lent.old) (seen_of F.Files J.Journals D.Door K.Keys W.Channel lent.new) result) }
-    ensures not_usage { result ≢ Status.Usage }
-    ensures causes { HasCauses result (faults_of F.Files J.Journals D.Door W.Channel lent.old) (faults_of F.Files J.Journals D.Door W.Channel lent.new) }
-    ensures same { AreSame lent.old lent.new }
-{
-    match load_kept(tools, lent.files, named) {
-        Ok(kept) => keep_service(
-            tools.alloc,
-            kept,
-            journal.as_str(),
-            Task::Links(place),
-            lent,
-        ),
-        Err(stop) => report(lent.out, stop),
-    }
-}
-
-/// Does a task over a service that is accepted, beside a journal. It is opened, and closed again.
+/// `serve` and `replay` beside a journal, of a service that is accepted: the world that the journal brings about is brought back, and
+/// then the task is done. What changes that world is kept before it is answered. The journal is opened, and closed again.
 pub fn keep_service<F: Files, J: Journals, D: WideDoor, K: Keys, W: Sink, L: Ledger>(
     alloc: Global,
     kept: Kept,

@@ -5,64 +5,27 @@ ghost use Rattle.bw_save.specs.Frozen.{loaded_of};
 ghost use Rattle.bw_world.specs.Streams.Answers as answers;
 ghost use Rattle.bw_world.specs.Streams.Good.{RepliesAreGood};
 ghost use Rattle.bw_questions.specs.Asked.{Ruled};
-ghost use Rattle.bigwig.specs.Asked.{work, replayed, replayed_from};
+ghost use Rattle.bigwig.specs.Asked.{replayed, replayed_from};
 ghost use Rattle.bw_questions.specs.Checks.{IsRuled};
 ghost use Rattle.bigwig.specs.Fits.{IsFitStart};
-ghost use Rattle.bw_command.specs.Commands.{AreWorkers};
 ghost use Rattle.bigwig.specs.Lent.{AreSame, HasCauses, faults_of};
 ghost use Rattle.bigwig.specs.Works as works;
 ghost use Rattle.bigwig.specs.Outcomes.{Replies};
-ghost use Rattle.bw_command.specs.declared.command.Command.TheVariants as commands;
 
 use crate::lent::Lent;
 use crate::server::Server;
 use crate::thawing::begin_server;
-use bw_command::Named;
 use bw_lang::Text;
-use bw_out::{Door, Failed, Files, Keys, Pair, Pulse, Sink, Source, Steps};
-use bw_questions::{Kept, Status, Tools, load_kept, no_file, report};
+use bw_out::{Door, Failed, Files, Keys, Pair, Sink, Source, Steps};
+use bw_questions::{Kept, Status, no_file, report};
 use bw_stable::Journals;
 use bw_world::{StreamEnd, answer};
 use std::alloc::Global;
 use std::sync::ledger::Ledger;
-use std::thread::Threads;
 
-/// `replay`: answers the requests of a file by the service of another, from the saved sessions on that are named, if they are.
-pub fn replay_command<
-    R: Threads + Sync,
-    F: Files,
-    J: Journals,
-    D: Door,
-    K: Keys,
-    W: Sink,
-    P: Pulse,
-    L: Ledger,
->(
-    tools: &Tools<R, P>,
-    named: Named<'_, '_, '_>,
-    load: &Option<Text>,
-    requests: &Text,
-    most: u32,
-    lent: &mut Lent<F, J, D, K, W, Steps<L>>,
-) -> Status
-    requires { AreWorkers named.judging.now.workers }
-    ensures comes { IfSome (F.told lent.old.files.now) (λ disk.
-        Replies (work disk (commands.Replay named.entry.service.now requests.now named.entry.judging.now named.entry.formats.now load.now most))
-        (W.held lent.old.out.now) (W.held lent.new.out.now) (K.coming lent.old.keys.now) (K.coming lent.new.keys.now) (F.unread lent.new.files.now)
-        lent.old.steps.now lent.new.steps.now result) }
-    ensures not_usage { result ≢ Status.Usage }
-    ensures causes { HasCauses result (faults_of F.Files J.Journals D.Door W.Channel lent.old) (faults_of F.Files J.Journals D.Door W.Channel lent.new) }
-    ensures others { (lent.new.door.now ≡ lent.old.door.now) × (lent.new.journals.now ≡ lent.old.journals.now) }
-    ensures same { AreSame lent.old lent.new }
-{
-    match load_kept(tools, lent.files, named) {
-        Ok(kept) => replay_file(tools.alloc, kept, load, requests.as_str(), most, lent),
-        Err(stop) => report(lent.out, stop),
-    }
-}
-
-/// The same of a service that is accepted. The saved sessions are looked for before the requests.
-fn replay_file<F: Files, J: Journals, D: Door, K: Keys, W: Sink, L: Ledger>(
+/// `replay`: answers the requests of a file by a service that is accepted, from the saved sessions on that are named, if they are.
+/// These are looked for before the requests.
+pub fn replay_service<F: Files, J: Journals, D: Door, K: Keys, W: Sink, L: Ledger>(
     alloc: Global,
     kept: Kept,
     load: &Option<Text>,

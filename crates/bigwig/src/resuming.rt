@@ -9,30 +9,26 @@ ghost use Rattle.bw_out.specs.Causes.{Shows};
 ghost use Rattle.bw_world.specs.Streams.Answers.{between};
 ghost use Rattle.bw_world.specs.Streams.Good.{RepliesAreGood};
 ghost use Rattle.bw_questions.specs.Asked.{Ruled};
-ghost use Rattle.bigwig.specs.Asked.{resumed as asks, work};
+ghost use Rattle.bigwig.specs.Asked.{resumed as asks};
 ghost use Rattle.bw_questions.specs.Asked.Task.{to_answer};
 ghost use Rattle.bw_questions.specs.Checks.{IsRuled};
-ghost use Rattle.bw_command.specs.Commands.{AreWorkers};
 ghost use Rattle.bigwig.specs.Finding.{IsRead};
 ghost use Rattle.bigwig.specs.Keeping.{AnswersEndWith, IsKept};
 ghost use Rattle.bigwig.specs.Lent.{AreSame, HasCauses, ShowsJournal, faults_of, seen_of};
 ghost use Rattle.bigwig.specs.Outcomes.{Comes};
-ghost use Rattle.bw_command.specs.declared.command.Command.TheVariants as commands;
 
 use crate::beginning::{begin, tell_fault};
 use crate::keeping::{Stream, Task, close_stream, keep_service};
 use crate::lent::Lent;
 use crate::readying::Opening;
 use crate::server::Server;
-use bw_command::Named;
 use bw_keeping::{Handler, StreamEnded, StreamRoom, answer_kept};
 use bw_lang::Text;
-use bw_out::{Failed, Files, Keys, Pair, Pulse, Sink, Source, Steps};
-use bw_questions::{Kept, Status, Tools, load_kept, no_file, report};
+use bw_out::{Failed, Files, Keys, Pair, Sink, Source, Steps};
+use bw_questions::{Kept, Status, no_file, report};
 use bw_stable::{Journal, Journals, WideDoor};
 use std::alloc::Global;
 use std::sync::ledger::Ledger;
-use std::thread::Threads;
 
 /// What is answered beside a journal: how many requests at most, and by which names the file and the journal are found.
 #[derive(Clone, Copy)]
@@ -45,39 +41,9 @@ pub struct Resumed<'r, 'j> {
     pub most: u32,
 }
 
-/// `replay` beside a journal: the world that it brings about is brought back, and then the requests of a file are answered. What
-/// changes that world is kept before it is answered.
-pub fn resume_command<
-    R: Threads + Sync,
-    F: Files,
-    J: Journals,
-    D: WideDoor,
-    K: Keys,
-    W: Sink,
-    P: Pulse,
-    L: Ledger,
->(
-    tools: &Tools<R, P>,
-    named: Named<'_, '_, '_>,
-    resumed: Resumed<'_, '_>,
-    lent: &mut Lent<F, J, D, K, W, Steps<L>>,
-) -> Status
-    requires { AreWorkers named.judging.now.workers }
-    ensures comes { IfSome (F.told lent.old.files.now) (λ disk. Comes (work disk (commands.Resume named.entry.service.now resumed.entry.requests.now
-        named.entry.judging.now named.entry.formats.now resumed.entry.journal.now resumed.entry.most))
-        (seen_of F.Files J.Journals D.Door K.Keys W.Channel lent.old) (seen_of F.Files J.Journals D.Door K.Keys W.Channel lent.new) result) }
-    ensures not_usage { result ≢ Status.Usage }
-    ensures causes { HasCauses result (faults_of F.Files J.Journals D.Door W.Channel lent.old) (faults_of F.Files J.Journals D.Door W.Channel lent.new) }
-    ensures same { AreSame lent.old lent.new }
-{
-    match load_kept(tools, lent.files, named) {
-        Ok(kept) => resume_service(tools.alloc, kept, resumed, lent),
-        Err(stop) => report(lent.out, stop),
-    }
-}
-
-/// The same of a service that is accepted. The file of requests is looked for before the journal.
-fn resume_service<F: Files, J: Journals, D: WideDoor, K: Keys, W: Sink, L: Ledger>(
+/// `replay` beside a journal, of a service that is accepted: the world that the journal brings about is brought back, and then the
+/// requests of a file are answered. The file is looked for before the journal.
+pub fn resume_service<F: Files, J: Journals, D: WideDoor, K: Keys, W: Sink, L: Ledger>(
     alloc: Global,
     kept: Kept,
     resumed: Resumed<'_, '_>,

@@ -1,68 +1,33 @@
 //! Links that are served, one after another, over one world.
-ghost use Rattle.std.specs.Prelude.{◌≡◌, ◌≢◌, ◌⊎◌, ℕ, List, [], Option, None, Some, IfSome};
+ghost use Rattle.std.specs.Prelude.{◌≡◌, ◌≢◌, ◌⊎◌, ℕ, List, Option, None, Some, IfSome};
 ghost use Rattle.bw_save.specs.Frozen.{loaded_of};
 ghost use Rattle.bw_model.specs.Sessions as model;
 ghost use Rattle.bw_out.specs.Causes.{HasCause, Shows};
 ghost use Rattle.bw_out.specs.Writes.{Writes};
 ghost use Rattle.bw_world.specs.Stands.{StandsFor};
 ghost use Rattle.bw_questions.specs.Asked.{Ruled};
-ghost use Rattle.bigwig.specs.Asked.{at_port, served_from, work};
+ghost use Rattle.bigwig.specs.Asked.{at_port, served_from};
 ghost use Rattle.bw_questions.specs.Checks.{IsRuled};
 ghost use Rattle.bigwig.specs.Fits.{IsFitStart, IsFitWorld};
-ghost use Rattle.bw_command.specs.Commands.{AreWorkers};
 ghost use Rattle.bigwig.specs.Lent.{AreSame, HasCauses, faults_of, seen_of};
 ghost use Rattle.bigwig.specs.Outcomes.{Comes};
 ghost use Rattle.bigwig.specs.Works.{ServesLinks, outside, serving_line};
-ghost use Rattle.bw_command.specs.declared.command.Command.TheVariants as commands;
 
 use crate::lent::Lent;
 use crate::server::Server;
 use crate::thawing::begin_server;
-use bw_command::Named;
 use bw_lang::Text;
-use bw_out::{Door, Failed, Files, Keys, Pulse, Sink, Steps, WriteFault, write_parts};
-use bw_questions::{Kept, Status, Tools, load_kept, report};
+use bw_out::{Door, Failed, Files, Keys, Sink, Steps, WriteFault, write_parts};
+use bw_questions::{Kept, Status, report};
 use bw_stable::Journals;
 use bw_world::answer;
 use itoa::Buffer;
 use std::alloc::Global;
 use std::sync::ledger::Ledger;
-use std::thread::Threads;
 
-/// `serve`: serves the links of a port, from the saved sessions on that are named, if they are.
-pub fn serve_command<
-    R: Threads + Sync,
-    F: Files,
-    J: Journals,
-    D: Door,
-    K: Keys,
-    W: Sink,
-    P: Pulse,
-    L: Ledger,
->(
-    tools: &Tools<R, P>,
-    named: Named<'_, '_, '_>,
-    load: &Option<Text>,
-    port: u16,
-    most: u32,
-    lent: &mut Lent<F, J, D, K, W, Steps<L>>,
-) -> Status
-    requires { AreWorkers named.judging.now.workers }
-    ensures comes { IfSome (F.told lent.old.files.now) (λ disk.
-        Comes (work disk (commands.Serve named.entry.service.now named.entry.judging.now named.entry.formats.now load.now port most))
-        (seen_of F.Files J.Journals D.Door K.Keys W.Channel lent.old) (seen_of F.Files J.Journals D.Door K.Keys W.Channel lent.new) result) }
-    ensures not_usage { result ≢ Status.Usage }
-    ensures causes { HasCauses result (faults_of F.Files J.Journals D.Door W.Channel lent.old) (faults_of F.Files J.Journals D.Door W.Channel lent.new) }
-    ensures same { AreSame lent.old lent.new }
-{
-    match load_kept(tools, lent.files, named) {
-        Ok(kept) => serve_service(tools.alloc, kept, load, port, most, lent),
-        Err(stop) => report(lent.out, stop),
-    }
-}
-
-/// The same of a service that is accepted. The saved sessions are looked for before the port.
-fn serve_service<F: Files, J: Journals, D: Door, K: Keys, W: Sink, L: Ledger>(
+/// `serve`: serves the links of a port by a service that is accepted, from the saved sessions on that are named, if they are. These
+/// are looked for before the port.
+pub fn serve_service<F: Files, J: Journals, D: Door, K: Keys, W: Sink, L: Ledger>(
     alloc: Global,
     kept: Kept,
     load: &Option<Text>,

@@ -9,78 +9,40 @@ ghost use Rattle.bw_world.specs.Stands.{StandsFor};
 ghost use Rattle.bw_http.specs.Paths.{IsForm};
 ghost use Rattle.bw_http.specs.declared.request.Path.TheVariants.{Start};
 ghost use Rattle.bw_questions.specs.Asked.{Ruled};
-ghost use Rattle.bigwig.specs.Asked.{followed, visited, work};
+ghost use Rattle.bigwig.specs.Asked.{followed, visited};
 ghost use Rattle.bw_questions.specs.Asked.Work.{visits};
 ghost use Rattle.bw_questions.specs.Checks.{IsRuled};
-ghost use Rattle.bw_command.specs.Commands.{AreWorkers};
 ghost use Rattle.bigwig.specs.Lent.{AreSame, HasCauses, faults_of};
 ghost use Rattle.bigwig.specs.Outcomes.{Replies};
 ghost use Rattle.bw_questions.specs.Questions.{found};
 ghost use Rattle.bw_questions.specs.Reports.{SaysLine};
 ghost use Rattle.bigwig.specs.Scripts as scripts;
 ghost use Rattle.bigwig.specs.Visiting.{TellsEnd, script_of};
-ghost use Rattle.bw_command.specs.declared.command.Command.TheVariants as commands;
 ghost use Rattle.bw_command.specs.declared.status.Refusal.TheVariants as refusals;
 
 use crate::lent::Lent;
 use crate::server::Server;
-use bw_command::Named;
 use bw_lang::{Memory, Text};
-use bw_out::{Door, Files, Keys, Pulse, Sink, Steps};
-use bw_questions::{
-    Refusal, Served, Status, Stop, Tools, fetch_bytes, load_checked, push_shown, refused, report,
-};
+use bw_out::{Door, Files, Keys, Sink, Steps};
+use bw_questions::{Kept, Refusal, Served, Status, Stop, fetch_bytes, push_shown, refused, report};
 use bw_stable::Journals;
 use bw_visit::limits::MAX_SCRIPT_BYTES;
 use bw_visit::{Host, Script, VisitEnd, read_script, visit};
 use std::alloc::Global;
 use std::sync::ledger::Ledger;
-use std::thread::Threads;
 
 /// One byte more than a script may have.
 const SCRIPT_FRONT: usize = MAX_SCRIPT_BYTES + 1;
 
-/// `visit`: checks the service of a file, and visits it by the script of another, which is read behind the check.
-pub fn visit_command<
-    R: Threads + Sync,
-    F: Files,
-    J: Journals,
-    D: Door,
-    K: Keys,
-    W: Sink,
-    P: Pulse,
-    L: Ledger,
->(
-    tools: &Tools<R, P>,
-    named: Named<'_, '_, '_>,
-    script: &Text,
-    lent: &mut Lent<F, J, D, K, W, Steps<L>>,
-) -> Status
-    requires { AreWorkers named.judging.now.workers }
-    ensures comes { IfSome (F.told lent.old.files.now) (λ disk.
-        Replies (work disk (commands.Visit named.entry.service.now script.now named.entry.judging.now named.entry.formats.now))
-        (W.held lent.old.out.now) (W.held lent.new.out.now) (K.coming lent.old.keys.now) (K.coming lent.new.keys.now) (F.unread lent.new.files.now)
-        lent.old.steps.now lent.new.steps.now result) }
-    ensures not_usage { result ≢ Status.Usage }
-    ensures causes { HasCauses result (faults_of F.Files J.Journals D.Door W.Channel lent.old) (faults_of F.Files J.Journals D.Door W.Channel lent.new) }
-    ensures others { (lent.new.door.now ≡ lent.old.door.now) × (lent.new.journals.now ≡ lent.old.journals.now) }
-    ensures same { AreSame lent.old lent.new }
-{
-    match load_checked(tools, lent.files, named) {
-        Ok(served) => visit_file(tools.alloc, served, script.as_str(), lent),
-        Err(stop) => report(lent.out, stop),
-    }
-}
-
-/// Visits the service by the script of a file, which is closed again: of its first 1,048,577 bytes, which tell what all of them
-/// are.
-fn visit_file<F: Files, J: Journals, D: Door, K: Keys, W: Sink, L: Ledger>(
+/// `visit`: visits a service that is accepted by the script of a file, which is closed again: of its first 1,048,577 bytes, which
+/// tell what all of them are.
+pub fn visit_service<F: Files, J: Journals, D: Door, K: Keys, W: Sink, L: Ledger>(
     alloc: Global,
-    served: Served,
+    kept: Kept,
     name: &str,
     lent: &mut Lent<F, J, D, K, W, Steps<L>>,
 ) -> Status
-    ensures comes { IfSome (F.told lent.old.files.now) (λ disk. (ruled : Ruled) → IsRuled served.checked.typed.service served.formats ruled →
+    ensures comes { IfSome (F.told lent.old.files.now) (λ disk. (ruled : Ruled) → IsRuled kept.served.checked.typed.service kept.served.formats ruled →
         Replies (visited disk name.now ruled)
         (W.held lent.old.out.now) (W.held lent.new.out.now) (K.coming lent.old.keys.now) (K.coming lent.new.keys.now) (F.unread lent.new.files.now)
         lent.old.steps.now lent.new.steps.now result) }
@@ -89,6 +51,8 @@ fn visit_file<F: Files, J: Journals, D: Door, K: Keys, W: Sink, L: Ledger>(
     ensures others { (lent.new.door.now ≡ lent.old.door.now) × (lent.new.journals.now ≡ lent.old.journals.now) }
     ensures same { AreSame lent.old lent.new }
 {
+    let Kept { served, text } = kept;
+    drop(text);
     match fetch_bytes(alloc, lent.files, name, SCRIPT_FRONT) {
         Ok(bytes) => {
             let status = visit_by(alloc, served, &bytes, lent.keys, lent.out, lent.steps);

@@ -215,28 +215,3 @@ IsInRange (Light formats texts) = ⊤
 IsInRange (Freeze service requests judging formats load most) = AreWorkers judging.workers
 IsInRange (Preserve service judging formats journal) = AreWorkers judging.workers
 IsInRange (Visit service script judging formats) = AreWorkers judging.workers
-
--- ---- groups
-
--- the command is `replay`, beside a journal or not
-abbrev pub AsksToReplay : Command → Type 0
-AsksToReplay (Replay service requests judging formats load most) = ⊤
-AsksToReplay (Resume service requests judging formats journal most) = ⊤
-AsksToReplay _ = ⊥
-
--- the command is `freeze`, of requests or of a journal
-abbrev pub AsksToFreeze : Command → Type 0
-AsksToFreeze (Freeze service requests judging formats load most) = ⊤
-AsksToFreeze (Preserve service judging formats journal) = ⊤
-AsksToFreeze _ = ⊥
-
--- the command is `visit`
-abbrev pub AsksToVisit : Command → Type 0
-AsksToVisit (Visit service script judging formats) = ⊤
-AsksToVisit _ = ⊥
-
--- the command is `serve`, beside a journal or not
-abbrev pub AsksToServe : Command → Type 0
-AsksToServe (Serve service judging formats load port most) = ⊤
-AsksToServe (Keep service judging formats journal rotate port most) = ⊤
-AsksToServe _ = ⊥

@@ -1,5 +1,5 @@
 -- What the lines of a schema declare, and what they use: marks that say of which rule, of what and by which name.
-use Rattle.std.specs.Prelude.{ℕ, suc, Bool, ◌&&◌, ◌==◌, if◌then◌else◌, List, [], ◌∷◌, ◌++◌, map, codes, Option, Some, None}
+use Rattle.std.specs.Prelude.{◌≡◌, ℕ, suc, Bool, ◌&&◌, ◌==◌, if◌then◌else◌, List, [], ◌∷◌, ◌++◌, map, codes, Option, Some, None}
 use Rattle.std.specs.List.{list_any}
 use denote.Enum.Bare.{sameb}
 use Rattle.bw_lang.specs.Table.Names.{same}
@@ -26,6 +26,10 @@ same_kind = sameb the_type
 
 abbrev pub same_mark : Mark → Mark → Bool
 same_mark a b = a.rule == b.rule && (same_kind a.kind b.kind && same a.name b.name)
+
+-- the same marks stand in both lists, in whatever order
+abbrev pub AreSame : List Mark → List Mark → Type 0
+AreSame these those = (m : Mark) → list_any (same_mark m) these ≡ list_any (same_mark m) those
 
 -- the number of the rule that a line belongs to, behind lines of rule n
 abbrev pub rule_at : ℕ → Line → ℕ

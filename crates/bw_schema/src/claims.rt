@@ -113,7 +113,7 @@ fn once(alloc: Global, marks: &[Mark]) -> Result<MarkSet, SchemaFault>
         if set.has(mark) {
             return Err(SchemaFault::Repeated(Name::of(alloc, mark.name.as_str())?));
         }
-        set.add(mark)?;
+        set.add(alloc, mark)?;
     }
     Ok(set)
 }

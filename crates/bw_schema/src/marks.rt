@@ -5,8 +5,8 @@ ghost use Rattle.bw_schema.specs.MarkView.{mark_of};
 ghost use Rattle.bw_schema.specs.Marks as spec;
 
 use bw_lang::{Memory, Words};
-use indexmap::IndexSet;
 use std::alloc::Global;
+use std::collections::HashSet;
 use std::marker::Model;
 
 /// What a name is declared or used as.
@@ -112,9 +112,9 @@ impl Marks {
     }
 }
 
-/// Marks, each of them once, found in a time that doesn't grow with their number.
+/// Marks, each of them once, found in a time that doesn't grow with their number. Contracts see a list of them, in whatever order.
 pub struct MarkSet {
-    marks: IndexSet<Mark>,
+    marks: HashSet<Mark>,
 }
 
 impl Drop for MarkSet {
@@ -139,7 +139,7 @@ impl MarkSet {
         ensures { result ≡ [] }
     {
         MarkSet {
-            marks: IndexSet::new(alloc),
+            marks: HashSet::new(alloc),
         }
     }
 
@@ -150,12 +150,11 @@ impl MarkSet {
         self.marks.contains(mark)
     }
 
-    /// One mark more, behind the others.
-    pub fn add(&mut self, mark: &Mark) -> Result<(), Memory>
+    /// One mark more.
+    pub fn add(&mut self, alloc: Global, mark: &Mark) -> Result<(), Memory>
         requires { list_any (spec.same_mark (mark_of mark.now)) self.old ≡ false }
-        ensures { OnOk result (self.new ≡ self.old ++ mark_of mark.now ∷ []) }
+        ensures { OnOk result (spec.AreSame self.new (mark_of mark.now ∷ self.old)) }
     {
-        let alloc = *self.marks.allocator();
         self.marks
             .insert(Mark::of(alloc, mark.rule, mark.kind, mark.name.as_str())?)?;
         Ok(())

@@ -2,7 +2,7 @@
 -- It only follows the steps of the code: nothing is promised by it.
 use Rattle.std.specs.Prelude.{◌≡◌, ℕ, List, [], map, Option, Some, None}
 use Rattle.bw_schema.specs.MarkView.{mark_of}
-use Rattle.bw_schema.specs.Marks.{Mark, first_repeated, repeated, unknown}
+use Rattle.bw_schema.specs.Marks.{AreSame, Mark, first_repeated, repeated, unknown}
 use Rattle.bw_schema.specs.declared.fault.SchemaFault.{SchemaFault}
 use Rattle.bw_schema.specs.declared.fault.SchemaFault.TheVariants as fault
 use Rattle.bw_schema.specs.declared.lines.Line.{Line}
@@ -11,9 +11,9 @@ use Rattle.bw_schema.specs.declared.marks.Mark.{Mark as Held}
 abbrev pub marks_of : List Held → List Mark
 marks_of marks = map mark_of marks
 
--- none stands twice, and the set has them in their order
+-- none stands twice, and the set has them
 abbrev pub IsOnce : List Held → List Mark → Type 0
-IsOnce marks set = (first_repeated [] (marks_of marks) ≡ None) × (set ≡ marks_of marks)
+IsOnce marks set = (first_repeated [] (marks_of marks) ≡ None) × AreSame set (marks_of marks)
 
 -- the fault names what there is, or it is want of memory
 abbrev pub SaysRepeated : Option (List ℕ) → SchemaFault → Type 0

@@ -2,7 +2,7 @@ use Rattle.bw_save.specs.Frozen.{loaded_of}
 use Rattle.bigwig.specs.Asked.{replayed}
 use Rattle.bigwig.proofs.Begun.{any_name, replies_begun, replies_stopped}
 use Rattle.bigwig.proofs.Causes.{reported_causes}
-use Rattle.bigwig.proofs.replaying.replay_file.Goals as goal
+use Rattle.bigwig.proofs.replaying.replay_service.Goals as goal
 
 pub returns-in-Ok-clause-comes : goal.returns-in-Ok-clause-comes
 returns-in-Ok-clause-comes g c =
